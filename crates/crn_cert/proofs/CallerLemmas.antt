@@ -50,3 +50,5 @@ pub use Rattle.crn_cert.proofs.AllLaws.{same_question}
 pub use Rattle.crn_cert.proofs.NoSignals.{none_at_all}
 -- Nodes in preorder are those of one tree.
 pub use Rattle.crn_cert.proofs.Preorders.{same_tree}
+-- A verdict says the same without the spares of its lists.
+pub use Rattle.crn_cert.proofs.Tight.{labels_tight, count_tight, exits_tight, rank_tight, deficiencies_tight, vector_tight, open_tight, yes_tight, no_tight, tight_twice, all_tight_then, is_true_tight, true_tight}

@@ -15,6 +15,7 @@ mod TreesRight
 mod SignalRight
 mod Ranked
 mod RankLaws
+mod Tight
 mod AllLaws
 mod Networks
 mod Examples

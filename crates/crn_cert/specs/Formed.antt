@@ -17,6 +17,7 @@ use Rattle.crn_cert.specs.declared.answer.Proof.TheVariants.{Nothing, Forest, St
 use Rattle.crn_cert.specs.declared.answer.Answer.{Answer}
 use Rattle.crn_cert.specs.declared.answer.RankProof.{RankProof}
 use Rattle.crn_cert.specs.Questions.{Earlier, Question, Q1, Q2, Q3, Q4, Q5, Q6, Q7, Q8, Q9, Q10, Q11, Q12, Q13, Q14, Q15, number, rests_on, on, terminal_of, IsYes}
+use Rattle.crn_cert.specs.Verdicts.{tight}
 use Rattle.crn_cert.specs.Ranges.{IsFrom, IsNarrow, AreFrom, AreFree, AreFreeRows, AreBits}
 use Rattle.crn_cert.specs.Says.{IsTurn, IsShelf}
 use Rattle.crn_cert.specs.Trees.{Plan, IsFormedTree}
@@ -411,9 +412,10 @@ IsFormedOf net earlier q verdict proof = HeadMayBe net earlier q verdict
 abbrev pub IsFormed : Net → Earlier → Question → Answer → Type 0
 IsFormed net earlier q answer = IsFormedOf net earlier q answer.verdict answer.proof
 
--- the answers to these questions have forms that the questions admit, each after the ones before
+-- the answers to these questions have forms that the questions admit, each after the verdicts
+-- before, whose lists count without their spares
 abbrev pub AreFormed : Net → Earlier → List Question → List Answer → Type 0
 AreFormed net earlier [] [] = Unit {0}
 AreFormed net earlier (q ∷ qs) (answer ∷ answers) = IsFormed net earlier q answer
-    × AreFormed net (earlier ++ (q, answer.verdict) ∷ []) qs answers
+    × AreFormed net (earlier ++ (q, tight answer.verdict) ∷ []) qs answers
 AreFormed net earlier qs answers = ⊥

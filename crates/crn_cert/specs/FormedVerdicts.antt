@@ -9,6 +9,7 @@ use Rattle.crn_vec.specs.Network.{Net}
 use Rattle.crn_cert.specs.declared.answer.Verdict.{Verdict}
 use Rattle.crn_cert.specs.declared.answer.Verdict.TheVariants.{Classes, Strong, Rank, YesVec, YesSignal, NoVec, NoCycle, NoPair, Plane}
 use Rattle.crn_cert.specs.Questions.{Earlier, Question, Q1, Q2, Q3, Q4, Q5, Q6, Q7, Q8, Q9, Q10, Q11, Q12, Q13, Q14, Q15}
+use Rattle.crn_cert.specs.Verdicts.{tight}
 use Rattle.crn_cert.specs.declared.answer.Proof.{Proof}
 use Rattle.crn_cert.specs.Ranges.{AreFrom, AreFree}
 use Rattle.crn_cert.specs.Formed.{species, complexes, reactions, HeadMayBe, IsFormedOf, IsWalkList, AreSignalRows}
@@ -88,11 +89,12 @@ abbrev pub IsFormedVerdict : Net → Earlier → Question → Verdict → Type 0
 IsFormedVerdict net earlier q verdict = HeadMayBe net earlier q verdict
     × ListsMayBe net earlier q verdict
 
--- the verdicts on these questions have forms that the questions admit, each after the ones before
+-- the verdicts on these questions have forms that the questions admit, each after the ones before,
+-- whose lists count without their spares
 abbrev pub AreFormedVerdicts : Net → Earlier → List Question → List Verdict → Type 0
 AreFormedVerdicts net earlier [] [] = Unit {0}
 AreFormedVerdicts net earlier (q ∷ qs) (v ∷ vs) = IsFormedVerdict net earlier q v
-    × AreFormedVerdicts net (earlier ++ (q, v) ∷ []) qs vs
+    × AreFormedVerdicts net (earlier ++ (q, tight v) ∷ []) qs vs
 AreFormedVerdicts net earlier qs vs = ⊥
 
 -- the verdict of a formed answer is formed

@@ -6,6 +6,7 @@ pub mod Nodes
 pub mod TreeSizes
 pub mod TreeLaw
 pub mod Questions
+pub mod Verdicts
 pub mod Built
 pub mod Says
 pub mod Tests

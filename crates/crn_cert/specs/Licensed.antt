@@ -23,6 +23,7 @@ use Rattle.crn_cert.specs.declared.answer.Gap.TheVariants.{Wide, Budget, Rests}
 use Rattle.crn_cert.specs.declared.answer.Verdict.{Verdict}
 use Rattle.crn_cert.specs.declared.answer.Verdict.TheVariants.{Unknown}
 use Rattle.crn_cert.specs.Questions.{Earlier, Question, Q5, Q6, Q7, Q8, Q10, Q11, Q12, Q13, Q14, Q15, rests_on, on, rank_of, vector_given, IsOpen, IsYes}
+use Rattle.crn_cert.specs.Verdicts.{tight}
 use Rattle.crn_cert.specs.Says.{IsTrueOf}
 use Rattle.crn_cert.specs.Formed.{IsWideGap, MayRestOn}
 
@@ -121,9 +122,10 @@ abbrev pub IsTrueOrLicensed : Net → ℕ → Earlier → Question → Verdict �
 IsTrueOrLicensed net budget earlier q (Unknown gap) = IsLicensed net budget earlier q gap
 IsTrueOrLicensed net budget earlier q verdict = IsTrueOf net q verdict
 
--- all verdicts on these questions are true, or open and licensed
+-- all verdicts on these questions are true, or open and licensed, each after the ones before, whose
+-- lists count without their spares
 abbrev pub AllTrueOrLicensed : Net → ℕ → Earlier → List Question → List Verdict → Type 0
 AllTrueOrLicensed net budget earlier [] [] = Unit {0}
 AllTrueOrLicensed net budget earlier (q ∷ qs) (v ∷ vs) = IsTrueOrLicensed net budget earlier q v
-    × AllTrueOrLicensed net budget (earlier ++ (q, v) ∷ []) qs vs
+    × AllTrueOrLicensed net budget (earlier ++ (q, tight v) ∷ []) qs vs
 AllTrueOrLicensed net budget earlier qs vs = ⊥

@@ -24,6 +24,7 @@ use Rattle.crn_cert.specs.declared.answer.Proof.TheVariants.{Forest, Strong as S
 use Rattle.crn_cert.specs.declared.answer.Answer.{Answer}
 use Rattle.crn_cert.specs.declared.answer.RankProof.{RankProof}
 use Rattle.crn_cert.specs.Questions.{Earlier, Question, Q1, Q2, Q3, Q4, Q5, Q6, Q7, Q8, Q9, Q10, Q11, Q12, Q13, Q14, Q15, on, vector_given, labels_of, count_of, exits_of, rank_of, deficiencies_of, IsOpen, IsYes, IsNo}
+use Rattle.crn_cert.specs.Verdicts.{tight}
 use Rattle.crn_cert.specs.Says.{by_turn, IsReactionNumber, HasNoReverse, RuleOutDependence, RuleOutConservation}
 use Rattle.crn_cert.specs.Tests.{Test, test, AllHold}
 use Rattle.crn_cert.specs.ClassTests.{AreNumbered, AreEven, AreLinkTrees, AreFromTrees, AreToTrees, DoLevelsFall, AreAllExits, zeros_in, of_class, AreReverses, AreSideMarks, IsWayRound}
@@ -453,9 +454,10 @@ tests_of net earlier q answer = head_tests net earlier q answer.verdict
 abbrev pub IsValid : Net → Earlier → Question → Answer → Type 0
 IsValid net earlier q answer = AllHold (tests_of net earlier q answer)
 
--- the answers to these questions are valid, each after the ones before
+-- the answers to these questions are valid, each after the verdicts before, whose lists count
+-- without their spares
 abbrev pub AreValid : Net → Earlier → List Question → List Answer → Type 0
 AreValid net earlier [] [] = Unit {0}
 AreValid net earlier (q ∷ qs) (answer ∷ answers) = IsValid net earlier q answer
-    × AreValid net (earlier ++ (q, answer.verdict) ∷ []) qs answers
+    × AreValid net (earlier ++ (q, tight answer.verdict) ∷ []) qs answers
 AreValid net earlier qs answers = ⊥

@@ -1,8 +1,4 @@
 -- What other crates may cite of this crate's proofs.
--- The form and the tests of an answer without the spares of lists.
-pub use Rattle.crn_check.proofs.Spares.{head_tests_tight, row_tests_tight, formed_tight, checks_see_no_spares}
--- A verdict is true or open if and only if it is so without its spares.
-pub use Rattle.crn_check.proofs.Spares.{true_tight, true_untight}
 -- Facts on the built questions before one hold what its checks look at, and no verdict on a later one.
 pub use Rattle.crn_check.proofs.Asked.{built_at, needs_held, none_from}
 -- Formed answers whose verdict is not the one that trees show hold no tree.

@@ -1,5 +1,5 @@
 -- What the form of an answer gives for the tests of its question, and for what is kept of it.
-use Rattle.std.proofs.Common.{◌≡◌, ◌≤◌, ◌⊎◌, inl, inr, ◌==◌, true, false, ℕ, List, [], ◌∷◌, ◌++◌, length, map, refl, sym, subst, arith}
+use Rattle.std.proofs.Common.{◌≡◌, ◌≤◌, ◌⊎◌, inl, inr, ◌==◌, true, false, ℕ, List, [], ◌∷◌, ◌++◌, length, map, refl, sym, ap, ap₂, subst, ◌∙◌, arith}
 use Rattle.std.specs.List.{AllByRecursion}
 use Rattle.std.proofs.lemmas.Bool.{cases_eq, eq-eqb, ne_eqb}
 use Rattle.std.proofs.lemmas.List.{append-nil, append_assoc}
@@ -17,11 +17,10 @@ use Rattle.crn_cert.specs.Formed.{HeadMayBe, HeadReversible, HeadDeficiency, Row
 use Rattle.crn_cert.specs.FormedVerdicts.{IsFormedVerdict, AreFormedVerdicts}
 use Rattle.crn_cert.specs.Says.{IsTrueOf}
 use Rattle.crn_cert.specs.Law.{IsTrueOrOpen}
-use Rattle.crn_cert.proofs.CallerLemmas.{formed_answers_have_formed_verdicts, same_question}
-use Rattle.crn_check.specs.Verdicts.{tight}
+use Rattle.crn_cert.proofs.CallerLemmas.{formed_answers_have_formed_verdicts, same_question, all_tight_then, tight_twice, true_tight}
+use Rattle.crn_cert.specs.Verdicts.{tight, all_tight}
 use Rattle.crn_check.specs.Check.{AsksForTree, shown_by_tree}
 use Rattle.crn_check.specs.Facts.{KeptFacts, AreFactsOf, asked, HoldsOn}
-use Rattle.crn_check.proofs.Spares.{true_tight}
 
 -- ---- the lists of decided answers
 
@@ -139,9 +138,10 @@ asks es = map (λ (e : Question × Verdict). e.0) es
 abbrev says : Earlier → List Verdict
 says es = map (λ (e : Question × Verdict). e.1) es
 
-formed_push : (net : Net) (before es : Earlier) (q : Question) (v : Verdict) → AreFormedVerdicts net before (asks es) (says es) → IsFormedVerdict net (before ++ es) q v → AreFormedVerdicts net before (asks (es ++ (q, v) ∷ [])) (says (es ++ (q, v) ∷ []))
+formed_push : (net : Net) (before es : Earlier) (q : Question) (v : Verdict) → AreFormedVerdicts net before (asks es) (says es) → IsFormedVerdict net (before ++ all_tight es) q v → AreFormedVerdicts net before (asks (es ++ (q, v) ∷ [])) (says (es ++ (q, v) ∷ []))
 formed_push net before [] q v h f = (subst (λ (x : Earlier). IsFormedVerdict net x q v) (append-nil before) f, tt)
-formed_push net before (e ∷ es) q v h f = (h.0, formed_push net (before ++ e ∷ []) es q v h.1 (subst (λ (x : Earlier). IsFormedVerdict net x q v) (sym (append_assoc before (e ∷ []) es)) f))
+formed_push net before (e ∷ es) q v h f =
+    (h.0, formed_push net (before ++ (e.0, tight e.1) ∷ []) es q v h.1 (subst (λ (x : Earlier). IsFormedVerdict net x q v) (sym (append_assoc before ((e.0, tight e.1) ∷ []) (all_tight es))) f))
 
 -- verdicts that are true or open, and one more
 sound_push : (net : Net) (es : Earlier) (q : Question) (v : Verdict) → AllByRecursion (λ (e : Question × Verdict). IsTrueOrOpen net e.0 e.1) es → IsTrueOrOpen net q v → AllByRecursion (λ (e : Question × Verdict). IsTrueOrOpen net e.0 e.1) (es ++ (q, v) ∷ [])
@@ -152,9 +152,10 @@ sound_push net (e ∷ es) q v h t = (h.0, sound_push net es q v h.1 t)
 
 pub facts_add : (net : Net) (old new : KeptFacts) (n : ℕ) (v : Verdict) → AreFactsOf net old → IsFormedVerdict net old.earlier (asked n) v → new.earlier ≡ old.earlier ++ (asked n, tight v) ∷ [] → IsTrueOrOpen net (asked n) v → AreFactsOf net new
 facts_add net old new n v h f e t =
-    let formed = verdict_tight net old.earlier (asked n) v f in
+    let formed : IsFormedVerdict net (all_tight old.earlier) (asked n) (tight v) = subst (λ (es : Earlier). IsFormedVerdict net es (asked n) (tight v)) (sym h.spareless) (verdict_tight net old.earlier (asked n) v f) in
     record {
       formed = subst (λ (es : Earlier). AreFormedVerdicts net [] (asks es) (says es)) (sym e) (formed_push net [] old.earlier (asked n) (tight v) h.formed formed);
+      spareless = ap (λ (es : Earlier). all_tight es) e ∙ all_tight_then old.earlier (asked n) (tight v) ∙ ap₂ (λ (es : Earlier) (w : Verdict). es ++ (asked n, w) ∷ []) h.spareless (tight_twice v) ∙ sym e;
       sound = subst (AllByRecursion (λ (e : Question × Verdict). IsTrueOrOpen net e.0 e.1)) (sym e) (sound_push net old.earlier (asked n) (tight v) h.sound (true_tight net (asked n) v t));
     }
 
@@ -180,23 +181,6 @@ shown_true net n (inr (inr is)) h = subst (λ (m : ℕ). IsTrueOf net (asked m) 
 
 -- ---- the verdict that facts hold on a question
 
-question_of : (q : Question) → asked (number q) ≡ q
-question_of Q1 = refl
-question_of Q2 = refl
-question_of Q3 = refl
-question_of Q4 = refl
-question_of Q5 = refl
-question_of Q6 = refl
-question_of Q7 = refl
-question_of Q8 = refl
-question_of Q9 = refl
-question_of Q10 = refl
-question_of Q11 = refl
-question_of Q12 = refl
-question_of Q13 = refl
-question_of Q14 = refl
-question_of Q15 = refl
-
 -- a verdict that is held has a form that its question admits
 pub formed_on : (net : Net) (before es : Earlier) (q : Question) → AreFormedVerdicts net before (asks es) (says es) → HoldsOn es (number q) → (e : Earlier) × IsFormedVerdict net e q (on es q)
 formed_on net before [] q h held = absurd held
@@ -208,7 +192,7 @@ formed_on net before (e ∷ es) q h held = elim (cases_eq (number e.0) (number q
   | inr other ↦
       let differ : (number e.0 == number q) ≡ false = ne_eqb _ _ other in
       let rest : HoldsOn es (number q) = elim held [ inl is ↦ absurd (other (sym is)) | inr later ↦ later ] in
-      let f = formed_on net (before ++ e ∷ []) es q h.1 rest in
+      let f = formed_on net (before ++ (e.0, tight e.1) ∷ []) es q h.1 rest in
       (f.0, rw differ f.1)
 ]
 

@@ -1,8 +1,10 @@
 -- The verdicts that facts hold, by their questions.
 use Rattle.std.proofs.Common.{◌≡◌, ◌≢◌, inl, inr, ◌==◌, true, false, ℕ, zero, suc, ◌+◌, ◌-◌, ◌<◌, ◌≤◌, List, [], ◌∷◌, ◌++◌, length, map, get_or, drop, refl, sym, ap, subst, ◌∙◌, arith}
 use Rattle.std.proofs.lemmas.Bool.{eq-eqb, ne_eqb}
-use Rattle.std.proofs.lemmas.List.{drop_more}
-use Rattle.crn_cert.specs.Questions.{Earlier, Question, Q1, Q2, Q3, Q4, Q5, Q6, Q7, Q8, Q9, Q10, Q11, Q12, Q13, Q14, Q15, questions, number, on}
+use Rattle.std.proofs.lemmas.List.{append-nil, drop_more, length-map}
+use Rattle.crn_cert.specs.declared.answer.Verdict.{Verdict}
+use Rattle.crn_cert.specs.Questions.{Earlier, Question, Q15, questions, number, on}
+use Rattle.crn_cert.proofs.CallerLemmas.{some_number, few_numbers}
 use Rattle.crn_check.specs.declared.facts.Fact.{Fact}
 use Rattle.crn_check.specs.Facts.{asked, HoldsOn, HoldsNoneFrom}
 use Rattle.crn_check.specs.Facts.{AreInOrder}
@@ -40,6 +42,22 @@ pub order_few : (k : ℕ) (ns : List ℕ) → AreInOrder k ns → k + length ns 
 order_few k [] h = omega (arith, h)
 order_few k (n ∷ ns) h = let few = order_few n ns h.1 in omega (arith, h.0, few)
 
+-- the verdicts of facts are those of their questions
+verdicts_in_order : (facts : List Fact) → map (λ (f : Fact). f.verdict) facts ≡ map (λ (e : Question × Verdict). e.1) (earlier_of facts)
+verdicts_in_order [] = refl
+verdicts_in_order (f ∷ fs) = ap (λ (vs : List Verdict). f.verdict ∷ vs) (verdicts_in_order fs)
+
+-- they are given one after another, none at the beginning
+pub none_given : (given : List Verdict) (items rest : List Fact) (earlier : Earlier) → given ≡ [] → rest ≡ items → earlier_of items ≡ earlier → AreInOrder 0 (numbers_of items)
+    → (given ≡ []) × (earlier_of rest ≡ earlier) × (length rest ≤ 15)
+none_given given items rest earlier none same all order =
+    (none, ap (λ (fs : List Fact). earlier_of fs) same ∙ all, omega (arith, ap (λ (fs : List Fact). length fs) same, length-map items (λ (f : Fact). f.question), order_few 0 (numbers_of items) order))
+
+-- and all at the end
+pub all_given : (given : List Verdict) (items rest : List Fact) (earlier : Earlier) → given ≡ map (λ (f : Fact). f.verdict) items → earlier_of (items ++ rest) ≡ earlier → rest ≡ [] → given ≡ map (λ (e : Question × Verdict). e.1) earlier
+all_given given items rest earlier is all none =
+    is ∙ verdicts_in_order items ∙ ap (λ (es : Earlier). map (λ (e : Question × Verdict). e.1) es) (sym (ap (λ (fs : List Fact). earlier_of (items ++ fs)) none ∙ ap (λ (fs : List Fact). earlier_of fs) (append-nil items)) ∙ all)
+
 -- facts from a place on hold the verdict on a question, and it is that of all facts
 pub record IsAhead (facts : List Fact) (earlier : Earlier) (n : ℕ) : Type 0 where
   pub last : ℕ
@@ -50,27 +68,10 @@ pub record IsAhead (facts : List Fact) (earlier : Earlier) (n : ℕ) : Type 0 wh
 pub all_ahead : (facts : List Fact) (n : ℕ) → AreInOrder 0 (numbers_of facts) → HoldsOn (earlier_of facts) n → IsAhead facts (earlier_of facts) n
 all_ahead facts n order holds = record { last = 0; order = order; holds = holds; same = refl }
 
-number_few : (q : Question) → (1 ≤ number q) × (number q ≤ 15)
-number_few Q1 = (omega arith, omega arith)
-number_few Q2 = (omega arith, omega arith)
-number_few Q3 = (omega arith, omega arith)
-number_few Q4 = (omega arith, omega arith)
-number_few Q5 = (omega arith, omega arith)
-number_few Q6 = (omega arith, omega arith)
-number_few Q7 = (omega arith, omega arith)
-number_few Q8 = (omega arith, omega arith)
-number_few Q9 = (omega arith, omega arith)
-number_few Q10 = (omega arith, omega arith)
-number_few Q11 = (omega arith, omega arith)
-number_few Q12 = (omega arith, omega arith)
-number_few Q13 = (omega arith, omega arith)
-number_few Q14 = (omega arith, omega arith)
-number_few Q15 = (omega arith, omega arith)
-
 -- a question with a verdict has a number from 1 to 15
 pub held_few : (earlier : Earlier) (n : ℕ) → HoldsOn earlier n → (1 ≤ n) × (n ≤ 15)
 held_few [] n h = absurd h
-held_few (e ∷ es) n (inl is) = let few = number_few e.0 in (omega (arith, few.0, is), omega (arith, few.1, is))
+held_few (e ∷ es) n (inl is) = (omega (arith, some_number e.0, is), omega (arith, few_numbers e.0, is))
 held_few (e ∷ es) n (inr later) = held_few es n later
 
 here : (f : Fact) (fs : List Fact) (earlier : Earlier) (n : ℕ) → IsAhead (f ∷ fs) earlier n → f.question ≡ n → f.verdict ≡ on earlier (asked n)

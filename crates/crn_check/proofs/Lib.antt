@@ -5,7 +5,6 @@ mod Numbering
 mod Counted
 mod Leaving
 mod Kept
-mod Spares
 mod Forms
 mod Truths
 mod Asked

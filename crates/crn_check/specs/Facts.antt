@@ -6,6 +6,7 @@ use Rattle.std.specs.List.{AllByRecursion}
 use Rattle.crn_vec.specs.Lists.{IsIn}
 use Rattle.crn_vec.specs.Network.{Net}
 use Rattle.crn_cert.specs.Questions.{Earlier, Question, Q15, questions, number}
+use Rattle.crn_cert.specs.Verdicts.{all_tight}
 use Rattle.crn_cert.specs.FormedVerdicts.{AreFormedVerdicts}
 use Rattle.crn_cert.specs.Law.{IsTrueOrOpen}
 use Rattle.crn_vec.specs.declared.limits.TheConstants.{MAX_REACTIONS}
@@ -27,10 +28,12 @@ HoldsOn earlier n = IsIn n (map (λ e. number e.0) earlier)
 abbrev pub HoldsNoneFrom : ℕ → Earlier → Type 0
 HoldsNoneFrom n earlier = AllByRecursion (λ e. number e.0 < n) earlier
 
--- each verdict that is held has a form that the network admits, and is true of the network or open
+-- each verdict that is held has a form that the network admits, lists with no spare, and is true of
+-- the network or open
 pub record AreFactsOf (net : Net) (facts : KeptFacts) : Type 0 where
   pub formed : AreFormedVerdicts net [] (map (λ e. e.0) facts.earlier)
       (map (λ e. e.1) facts.earlier)
+  pub spareless : all_tight facts.earlier ≡ facts.earlier
   pub sound : AllByRecursion (λ e. IsTrueOrOpen net e.0 e.1) facts.earlier
 
 -- numbers of questions above k, each less than the next

@@ -5,7 +5,7 @@ ghost use Rattle.crn_cert.specs.Law.{IsTrueOrOpen};
 ghost use Rattle.crn_cert.specs.Questions.{Q13};
 ghost use Rattle.crn_cert.specs.Says.{IsTrueOf};
 ghost use Rattle.crn_cert.specs.Valid.{head_tests, row_tests, tests_of};
-ghost use Rattle.crn_check.specs.Verdicts.{tight};
+ghost use Rattle.crn_cert.specs.Verdicts.{tight};
 ghost use Rattle.crn_check.specs.Facts.{asked, HoldsNoneFrom, AreFactsOf};
 ghost use Rattle.crn_check.specs.Check.{AsksForTree, IsBuilt, HoldsNeeds, HoldsNoSignal, HoldsNoTree, IsShapeFor, Judges, shown_by_tree};
 

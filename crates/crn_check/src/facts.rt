@@ -1,12 +1,12 @@
-ghost use Rattle.std.specs.Prelude.{◌≡◌, ◌≤◌, ◌<◌, ◌+◌, [], ◌∷◌, ◌++◌, length, IfOk, vec_len, vec_capacity};
+ghost use Rattle.std.specs.Prelude.{◌≡◌, ◌≤◌, ◌<◌, ◌+◌, [], ◌∷◌, ◌++◌, length, map, IfOk, vec_len, vec_capacity};
 ghost use Rattle.std.specs.List.{AllByRecursion};
 ghost use Rattle.crn_cert.specs.Questions.{on};
 ghost use Rattle.crn_cert.specs.Ranges.{IsFrom};
-ghost use Rattle.crn_check.specs.Verdicts.{tight, tight_gap};
+ghost use Rattle.crn_cert.specs.Verdicts.{tight, tight_gap};
 ghost use Rattle.crn_check.specs.Facts.{asked, HoldsOn, HoldsNoneFrom, AreFactsOf, IsRoom};
 ghost use Rattle.crn_check.specs.Inner.Facts.{DoesFit, DoesGapFit, DoesLargeFit, HoldsNoList};
 
-use crn_cert::{Gap, Verdict};
+use crn_cert::{Gap, Verdict, Verdicts};
 use crn_net::Network;
 use crn_vec::{Ints, MAX_REACTIONS, NoMemory, Nums};
 use std::alloc::Global;
@@ -234,10 +234,12 @@ fn add(items: &mut Vec<Fact>, fact: Fact)
 pub struct Facts {
     items: Vec<Fact>,
     rooms: Vec<Room>,
+    // The list in which the verdicts are given at the end. It is empty until then.
+    given: Verdicts,
 }
 
 impl Model for Facts {
-    ghost use Rattle.std.specs.Prelude.{◌≡◌, ◌≤◌, ◌+◌, map, length, vec_capacity};
+    ghost use Rattle.std.specs.Prelude.{◌≡◌, ◌≤◌, ◌+◌, [], map, length, vec_capacity};
     ghost use Rattle.std.specs.List.{AllByRecursion};
     ghost use Rattle.crn_check.specs.Facts.{KeptFacts, asked, AreInOrder, IsRoom};
     ghost use Rattle.crn_check.specs.declared.facts.TheConstants.{QUESTIONS};
@@ -250,7 +252,8 @@ impl Model for Facts {
     ghost invariant = { λ s. (QUESTIONS ≤ vec_capacity s.items)
         × AreInOrder 0 (map (λ f. f.question) s.items.items)
         × AllByRecursion IsRoom s.rooms.items
-        × (QUESTIONS ≤ length s.items.items + length s.rooms.items) };
+        × (QUESTIONS ≤ length s.items.items + length s.rooms.items)
+        × (s.given ≡ []) };
 }
 
 impl Facts {
@@ -263,6 +266,7 @@ impl Facts {
         Ok(Facts {
             items: Vec::with_capacity(alloc, QUESTIONS)?,
             rooms: new_rooms(alloc)?,
+            given: Verdicts::new(alloc)?,
         })
     }
 
@@ -290,5 +294,16 @@ impl Facts {
             let verdict = keep(room, verdict);
             add(&mut self.items, Fact { question, verdict });
         }
+    }
+
+    /// The accepted verdicts in the order of their questions. It takes no memory.
+    pub fn into_verdicts(self) -> Verdicts
+        ensures { result ≡ map (λ e. e.1) self.earlier }
+    {
+        let mut verdicts = self.given;
+        for fact in self.items {
+            verdicts.push(fact.verdict);
+        }
+        verdicts
     }
 }

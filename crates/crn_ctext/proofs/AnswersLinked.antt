@@ -1,15 +1,13 @@
 -- The records of formed answers to the built questions are formed, and their tests are those of the answers.
 use Rattle.std.proofs.Common.{◌≡◌, ◌≤◌, ◌<◌, ◌+◌, ◌-◌, ◌++◌, ◌∙◌, ℕ, zero, suc, Bool, true, false, List, [], ◌∷◌, length, map, refl, sym, ap, ap₂, subst, inl, inr, arith}
-use Rattle.std.specs.Prelude.{◌≢◌, ℤ, Option, pos, nat_abs, min, sum, codes, slice_index}
+use Rattle.std.specs.Prelude.{ℤ, Option, pos, nat_abs, min, codes, slice_index}
 use Rattle.std.specs.Option.{IsSome, IsSomeAnd}
 use Rattle.std.specs.List.{AllZip, flat_map, range_with_len}
 use Rattle.std.proofs.lemmas.Int.{ints}
 use Rattle.std.proofs.lemmas.List.{append-nil, append_cancel_left, length-map}
 use Rattle.crn_vec.specs.Network.{Net}
-use Rattle.crn_vec.specs.Deficiency.{AreAtMostOne}
 use Rattle.crn_vec.specs.Kept.{KeptNums}
 use Rattle.crn_vec.proofs.CallerLemmas.{abs_back}
-use Rattle.crn_cert.proofs.CallerLemmas.{numbers_alike}
 use Rattle.crn_cert.specs.Trees.{Plan}
 use Rattle.crn_cert.specs.declared.answer.Gap.TheVariants.{Wide, Budget, Rests}
 use Rattle.crn_cert.specs.declared.answer.Verdict.{Verdict}
@@ -18,14 +16,13 @@ use Rattle.crn_cert.specs.declared.answer.RankProof.{RankProof}
 use Rattle.crn_cert.specs.declared.answer.Proof.{Proof}
 use Rattle.crn_cert.specs.declared.answer.Proof.TheVariants.{Nothing, Forest, Strong as StrongTrees, Back, Rank as RankRows, Ranks}
 use Rattle.crn_cert.specs.declared.answer.Answer.{Answer}
-use Rattle.crn_cert.specs.Questions.{Earlier, Question, Q1, Q2, Q3, Q4, Q5, Q6, Q7, Q8, Q9, Q10, Q11, on, rank_of}
+use Rattle.crn_cert.specs.Questions.{Earlier, Question, Q1, Q2, Q3, Q4, Q5, Q6, Q7, Q8, Q9, Q10, on, rank_of}
 use Rattle.crn_cert.specs.Tests.{Test, test}
 use Rattle.crn_cert.specs.ClassTests.{AreNumbered, AreEven, AreLinkTrees, AreFromTrees, AreToTrees, DoLevelsFall, AreAllExits, zeros_in, AreReverses}
 use Rattle.crn_cert.specs.RankTests.{rank_tests}
 use Rattle.crn_cert.specs.Formed.{IsRankProof, AreClassProofs, IsBasisOf, IsFormedOf, AreFormed}
 use Rattle.crn_cert.specs.Ranges.{AreFrom}
-use Rattle.crn_cert.specs.Says.{IsReactionNumber}
-use Rattle.crn_cert.specs.Valid.{linkage, linkage_count, strong, class_places, class_rank_tests, AreClassNumbers, IsFirstLarge, AreValid}
+use Rattle.crn_cert.specs.Valid.{linkage_count, class_places, class_rank_tests, AreClassNumbers, AreValid}
 use Rattle.crn_ctext.specs.Records.{Record, ClassWide, Takes, AreNarrow, AreOf, AreRising, Fits}
 use Rattle.crn_ctext.specs.Kinds.{small}
 use Rattle.crn_ctext.specs.Questions.{rank_forms, class_forms, classes as classes_of}
@@ -37,26 +34,26 @@ use Rattle.crn_cert.specs.Built.{built}
 use Rattle.crn_ctext.specs.Judged.{AreFormedOf}
 use Rattle.crn_ctext.specs.Linked.{records_of}
 use Rattle.crn_ctext.proofs.AnswersApart.{block_apart, first_same}
-use Rattle.crn_ctext.specs.Same.{said, said_rank, shown, AreSame}
-use Rattle.crn_ctext.proofs.Joined.{parts, IsLinked, answer, open_as, tied, IsJoinedFor, LinkFor, joined, same_valid}
-use Rattle.crn_ctext.proofs.KnownBefore.{AreKnown, IsStrongTrue, after, formed_right, said_right, known_then, valid_is_true, true_moves, true_then}
+use Rattle.crn_cert.specs.Verdicts.{tight, tight_proof, tight_rank}
+use Rattle.crn_ctext.specs.Same.{AreSame}
+use Rattle.crn_ctext.proofs.Shown.{shown, shown_tight}
+use Rattle.crn_ctext.proofs.Joined.{parts, IsLinked, answer, open_as, IsJoinedFor, LinkFor, joined, same_valid}
+use Rattle.crn_ctext.proofs.KnownBefore.{AreKnown, IsRight, IsStrongTrue, IsTrueIfStrong, after, formed_right, right_tight, known_then, valid_is_true, true_if_strong_tight, true_then}
 use Rattle.crn_ctext.proofs.Linking.{several_fit, small_fits, number_fits, class_fits, without_proof}
 use Rattle.crn_ctext.proofs.TablesLinked.{plain_joined, strong_joined}
 use Rattle.crn_ctext.proofs.SignalLinked.{signal_joined}
-use Rattle.crn_ctext.proofs.ConfluenceLinked.{regular_linked, confluence_tied}
-use Rattle.crn_ctext.proofs.Alike.{IsAlike, alike_then, labels_alike, counts_alike, ranks_alike}
-use Rattle.crn_ctext.proofs.TestsAlike.{zero_alike, number_alike, one_alike, split_alike}
+use Rattle.crn_ctext.proofs.ConfluenceLinked.{regular_linked, confluence_linked}
 use Rattle.crn_ctext.proofs.MeaningShort.{lists_counted}
-use Rattle.crn_ctext.proofs.RanksLinked.{between, free_fits, rank_fits, rank_said, places_from, sizes_from, classes_fit, classes_said, said_again, proofs_alike, tests_alike, basis_alike, places_at, number_then, wide_fits}
+use Rattle.crn_ctext.proofs.RanksLinked.{between, free_fits, rank_fits, rank_said, places_from, sizes_from, classes_fit, classes_said, said_again, tests_said, places_at, number_then, wide_fits}
 
 -- ---- linkage classes
 
 linkage_tests : Net → ℕ → (label up depth : List ℕ) → List Test
 linkage_tests net count label up depth = test 1 31 (AreNumbered label count × AreEven net label) ∷ test 3 31 (AreLinkTrees net label up depth) ∷ []
 
-linkage_linked : (known : Known) (earlier : Earlier) (v : Verdict) (p : Proof) → IsFormedOf known.net earlier Q1 v p → IsLinked known earlier Q1 (answer v p)
+linkage_linked : (known : Known) (v : Verdict) (p : Proof) → IsFormedOf known.net known.earlier Q1 v p → IsLinked known Q1 (answer v p)
 unfolding linkage_tests
-linkage_linked known earlier (Classes count label) (Forest up depth) f =
+linkage_linked known (Classes count label) (Forest up depth) f =
     let c = length known.net.complexes in
     let r = length known.net.reactions in
     let forest = f.1.1 in
@@ -71,11 +68,11 @@ linkage_linked known earlier (Classes count label) (Forest up depth) f =
       says = ap (λ (x : List ℕ). Classes count (record { list = x; spare = 0 })) (abs_back label.list);
       shows = ap₂ (λ (x y : List ℕ). (Forest (record { list = x; spare = 0 }) (record { list = y; spare = 0 }), [])) (abs_back up.list) (abs_back depth.list);
     }
-linkage_linked known earlier (Unknown (Wide system class index basis)) p f = absurd f.0
-linkage_linked known earlier (Unknown (Budget nodes)) p f = absurd f.0
-linkage_linked known earlier (Unknown (Rests question)) p f = absurd f.0
-linkage_linked known earlier (Classes count label) p f = absurd f.1
-linkage_linked known earlier v p f = absurd f.0
+linkage_linked known (Unknown (Wide system class index basis)) p f = absurd f.0
+linkage_linked known (Unknown (Budget nodes)) p f = absurd f.0
+linkage_linked known (Unknown (Rests question)) p f = absurd f.0
+linkage_linked known (Classes count label) p f = absurd f.1
+linkage_linked known v p f = absurd f.0
 
 -- ---- strong classes
 
@@ -91,9 +88,9 @@ trees_shown from from_depth to to_depth level = (StrongTrees (kept from) (kept f
     kept : List ℕ → KeptNums
     kept xs = record { list = xs; spare = 0 }
 
-strong_linked : (known : Known) (earlier : Earlier) (v : Verdict) (p : Proof) → IsFormedOf known.net earlier Q2 v p → IsLinked known earlier Q2 (answer v p)
+strong_linked : (known : Known) (v : Verdict) (p : Proof) → IsFormedOf known.net known.earlier Q2 v p → IsLinked known Q2 (answer v p)
 unfolding strong_tests trees_shown
-strong_linked known earlier (Strong count terminal label exit) (StrongTrees from from_depth to to_depth level) f =
+strong_linked known (Strong count terminal label exit) (StrongTrees from from_depth to to_depth level) f =
     let net = known.net in
     let c = length net.complexes in
     let r = length net.reactions in
@@ -131,20 +128,20 @@ strong_linked known earlier (Strong count terminal label exit) (StrongTrees from
           ∙ ap₂ (λ (x y : List ℕ). trees_shown from.list from_depth.list x y (twice level.list)) (abs_back to.list) (abs_back to_depth.list)
           ∙ ap (λ (x : List ℕ). trees_shown from.list from_depth.list to.list to_depth.list x) (abs_back level.list);
     }
-strong_linked known earlier (Unknown (Wide system class index basis)) p f = absurd f.0
-strong_linked known earlier (Unknown (Budget nodes)) p f = absurd f.0
-strong_linked known earlier (Unknown (Rests question)) p f = absurd f.0
-strong_linked known earlier (Strong count terminal label exit) p f = absurd f.1
-strong_linked known earlier v p f = absurd f.0
+strong_linked known (Unknown (Wide system class index basis)) p f = absurd f.0
+strong_linked known (Unknown (Budget nodes)) p f = absurd f.0
+strong_linked known (Unknown (Rests question)) p f = absurd f.0
+strong_linked known (Strong count terminal label exit) p f = absurd f.1
+strong_linked known v p f = absurd f.0
 
 -- ---- reversible
 
 reverse_tests : Net → List ℕ → List Test
 reverse_tests net back = test 1 32 (AreReverses net back) ∷ []
 
-reversible_linked : (known : Known) (earlier : Earlier) (v : Verdict) (p : Proof) → IsFormedOf known.net earlier Q3 v p → IsLinked known earlier Q3 (answer v p)
+reversible_linked : (known : Known) (v : Verdict) (p : Proof) → IsFormedOf known.net known.earlier Q3 v p → IsLinked known Q3 (answer v p)
 unfolding reverse_tests
-reversible_linked known earlier Yes (Back back) f =
+reversible_linked known Yes (Back back) f =
     let r = length known.net.reactions in
     record {
       formed = record { head = (_, inl refl, (refl, refl)); rows = (small_fits (codes "back") r 1 r back.list f.1, tt); trees = refl };
@@ -153,7 +150,7 @@ reversible_linked known earlier Yes (Back back) f =
       says = refl;
       shows = ap (λ (x : List ℕ). (Back (record { list = x; spare = 0 }), [])) (abs_back back.list);
     }
-reversible_linked known earlier (NoReaction n) Nothing f =
+reversible_linked known (NoReaction n) Nothing f =
     record {
       formed = record { head = (_, inr (inl refl), (refl, number_fits (length known.net.reactions) n f.0.0 f.0.1)); rows = tt; trees = refl };
       heads = refl;
@@ -161,50 +158,43 @@ reversible_linked known earlier (NoReaction n) Nothing f =
       says = refl;
       shows = refl;
     }
-reversible_linked known earlier (Unknown (Wide system class index basis)) p f = absurd f.0
-reversible_linked known earlier (Unknown (Budget nodes)) p f = absurd f.0
-reversible_linked known earlier (Unknown (Rests question)) p f = absurd f.0
-reversible_linked known earlier Yes p f = absurd f.1
-reversible_linked known earlier (NoReaction n) p f = absurd f.1
-reversible_linked known earlier v p f = absurd f.0
+reversible_linked known (Unknown (Wide system class index basis)) p f = absurd f.0
+reversible_linked known (Unknown (Budget nodes)) p f = absurd f.0
+reversible_linked known (Unknown (Rests question)) p f = absurd f.0
+reversible_linked known Yes p f = absurd f.1
+reversible_linked known (NoReaction n) p f = absurd f.1
+reversible_linked known v p f = absurd f.0
 
 -- ---- weakly reversible
 
-weak_tests : Net → List ℕ → List Test
-weak_tests net labels = test 0 37 (AreEven net labels) ∷ []
-
-leave_tests : Net → ℕ → List ℕ → List Test
-leave_tests net r labels = test 0 37 ((y : ℕ) × (z : ℕ) × IsReactionNumber net r y z × (slice_index labels y ≢ slice_index labels z)) ∷ []
-
-weak_linked : (known : Known) (earlier : Earlier) (v : Verdict) (p : Proof) → strong known.earlier ≡ strong earlier → IsFormedOf known.net earlier Q4 v p → IsLinked known earlier Q4 (answer v p)
-unfolding weak_tests leave_tests
-weak_linked known earlier Yes Nothing e f =
+weak_linked : (known : Known) (v : Verdict) (p : Proof) → IsFormedOf known.net known.earlier Q4 v p → IsLinked known Q4 (answer v p)
+weak_linked known Yes Nothing f =
     record {
       formed = record { head = (_, inl refl, (refl, refl)); rows = tt; trees = refl };
-      heads = ap (λ (x : List ℕ). weak_tests known.net x) e;
+      heads = refl;
       rows = refl;
       says = refl;
       shows = refl;
     }
-weak_linked known earlier (NoReaction n) Nothing e f =
+weak_linked known (NoReaction n) Nothing f =
     record {
       formed = record { head = (_, inr (inl refl), (refl, number_fits (length known.net.reactions) n f.0.0 f.0.1)); rows = tt; trees = refl };
-      heads = ap (λ (x : List ℕ). leave_tests known.net n x) e;
+      heads = refl;
       rows = refl;
       says = refl;
       shows = refl;
     }
-weak_linked known earlier (Unknown (Wide system class index basis)) p e f = absurd f.0
-weak_linked known earlier (Unknown (Budget nodes)) p e f = absurd f.0
-weak_linked known earlier (Unknown (Rests question)) p e f = absurd f.0
-weak_linked known earlier Yes p e f = absurd f.1
-weak_linked known earlier (NoReaction n) p e f = absurd f.1
-weak_linked known earlier v p e f = absurd f.0
+weak_linked known (Unknown (Wide system class index basis)) p f = absurd f.0
+weak_linked known (Unknown (Budget nodes)) p f = absurd f.0
+weak_linked known (Unknown (Rests question)) p f = absurd f.0
+weak_linked known Yes p f = absurd f.1
+weak_linked known (NoReaction n) p f = absurd f.1
+weak_linked known v p f = absurd f.0
 
 -- ---- rank
 
-rank_open : (known : Known) (earlier : Earlier) (index : ℕ) (basis : KeptNums) → IsBasisOf (length known.net.names) (length known.net.reactions) index basis.list → IsLinked known earlier Q5 (answer (Unknown (Wide 1 0 index basis)) Nothing)
-rank_open known earlier index basis b =
+rank_open : (known : Known) (index : ℕ) (basis : KeptNums) → IsBasisOf (length known.net.names) (length known.net.reactions) index basis.list → IsLinked known Q5 (answer (Unknown (Wide 1 0 index basis)) Nothing)
+rank_open known index basis b =
     record {
       formed = record { head = (_, inr (inl refl), (refl, wide_fits 1 (length known.net.names) (length known.net.reactions) index basis.list b)); rows = tt; trees = refl };
       heads = refl;
@@ -213,15 +203,15 @@ rank_open known earlier index basis b =
       shows = refl;
     }
 
-rank_linked : (known : Known) (earlier : Earlier) (v : Verdict) (p : Proof) → IsFormedOf known.net earlier Q5 v p → IsLinked known earlier Q5 (answer v p)
-rank_linked known earlier (Rank rank base) (RankRows p) f =
+rank_linked : (known : Known) (v : Verdict) (p : Proof) → IsFormedOf known.net known.earlier Q5 v p → IsLinked known Q5 (answer v p)
+rank_linked known (Rank rank base) (RankRows p) f =
     let net = known.net in
     let members = range_with_len 1 (length net.reactions) in
     let proved : IsRankProof net members rank p = f.1.1 in
     let d = proved.duals in
     let duals = d.long in
     let bare : rank_records p ++ [] ≡ rank_records p = append-nil (rank_records p) in
-    let same : rank_proof rank (rank_records p ++ []) ≡ said_rank p = ap (λ (rs : List Record). rank_proof rank rs) bare ∙ rank_said rank p duals in
+    let same : rank_proof rank (rank_records p ++ []) ≡ tight_rank p = ap (λ (rs : List Record). rank_proof rank rs) bare ∙ rank_said rank p duals in
     record {
       formed = record {
         head = (_, inl refl, (refl, number_fits (min (length net.names) (length net.reactions)) rank f.0.0 f.0.1));
@@ -233,11 +223,11 @@ rank_linked known earlier (Rank rank base) (RankRows p) f =
       says = ap (λ (x : List ℕ). Rank rank (record { list = x; spare = 0 })) (abs_back p.base.list ∙ sym f.1.0);
       shows = ap (λ (r : RankProof). shown (RankRows r)) same;
     }
-rank_linked known earlier (Unknown (Wide system class index basis)) p f = open_as known earlier Q5 system class index basis p 1 0 f.0.0 f.0.1 f.1 (rank_open known earlier index basis f.0.2)
-rank_linked known earlier (Unknown (Budget nodes)) p f = absurd f.0
-rank_linked known earlier (Unknown (Rests question)) p f = absurd f.0
-rank_linked known earlier (Rank rank base) p f = absurd f.1
-rank_linked known earlier v p f = absurd f.0
+rank_linked known (Unknown (Wide system class index basis)) p f = open_as known Q5 system class index basis p 1 0 f.0.0 f.0.1 f.1 (rank_open known index basis f.0.2)
+rank_linked known (Unknown (Budget nodes)) p f = absurd f.0
+rank_linked known (Unknown (Rests question)) p f = absurd f.0
+rank_linked known (Rank rank base) p f = absurd f.1
+rank_linked known v p f = absurd f.0
 
 -- ---- deficiency
 
@@ -245,13 +235,10 @@ rank_linked known earlier v p f = absurd f.0
 abbrev deficiency_tests : Net → ℕ → ℕ → Option ℕ → Type 0 → List {1} Test
 deficiency_tests net total count rank Numbers = test 0 37 (IsSome rank) ∷ test 0 36 (IsSomeAnd rank (λ s. total + count + s ≡ length net.complexes) × Numbers) ∷ []
 
-deficiency_heads : (known : Known) (earlier : Earlier) (total : ℕ) (ds : List ℕ) → IsAlike known earlier → deficiency_tests known.net total (linkage_count known.earlier) (rank_of (on known.earlier Q5)) (AreClassNumbers known.net known.earlier 1 (map nat_abs (map pos ds)))
-    ≡ deficiency_tests known.net total (linkage_count earlier) (rank_of (on earlier Q5)) (AreClassNumbers known.net earlier 1 ds)
-deficiency_heads known earlier total ds e =
-    let net = known.net in
-    let numbers : AreClassNumbers net known.earlier 1 (map nat_abs (map pos ds)) ≡ AreClassNumbers net earlier 1 ds = ap (λ (xs : List ℕ). AreClassNumbers net known.earlier 1 xs) (abs_back ds) ∙ numbers_alike net known.earlier earlier (labels_alike known.earlier earlier Q1 e) 1 ds in
-    ap₂ (λ (count : ℕ) (rank : Option ℕ). deficiency_tests net total count rank (AreClassNumbers net known.earlier 1 (map nat_abs (map pos ds)))) (counts_alike known.earlier earlier Q1 e) (ranks_alike known.earlier earlier Q5 e)
-    ∙ ap (λ (A : Type 0). deficiency_tests net total (linkage_count earlier) (rank_of (on earlier Q5)) A) numbers
+deficiency_heads : (known : Known) (total : ℕ) (ds : List ℕ) → deficiency_tests known.net total (linkage_count known.earlier) (rank_of (on known.earlier Q5)) (AreClassNumbers known.net known.earlier 1 (map nat_abs (map pos ds)))
+    ≡ deficiency_tests known.net total (linkage_count known.earlier) (rank_of (on known.earlier Q5)) (AreClassNumbers known.net known.earlier 1 ds)
+deficiency_heads known total ds =
+    ap (λ (xs : List ℕ). deficiency_tests known.net total (linkage_count known.earlier) (rank_of (on known.earlier Q5)) (AreClassNumbers known.net known.earlier 1 xs)) (abs_back ds)
 
 -- one number for the network and one for each class
 deficiency_fits : (count greatest total : ℕ) (ds : List ℕ) → total ≤ greatest → AreFrom count 0 greatest ds → AreFrom (1 + count) 0 greatest (total ∷ ds)
@@ -263,21 +250,19 @@ deficiency_fits count greatest total ds most p =
 abbrev SmallNumbers : ℕ → ℕ → ℕ → List ℤ → Type 0
 SmallNumbers count least greatest zs = AreOf (λ field zs. Takes field zs × AreNarrow field zs) (small count least greatest ∷ []) zs
 
-deficiencies_linked : (known : Known) (earlier : Earlier) (total : ℕ) (classes : KeptNums) (ps : List RankProof) → IsAlike known earlier → total ≤ length known.net.complexes → AreFrom (linkage_count earlier) 0 (length known.net.complexes) classes.list
-    → AreClassProofs known.net earlier 1 classes.list ps → IsLinked known earlier Q6 (answer (Deficiency total classes) (Ranks ps))
-deficiencies_linked known earlier total classes ps e most each proofs =
+deficiencies_linked : (known : Known) (total : ℕ) (classes : KeptNums) (ps : List RankProof) → total ≤ length known.net.complexes → AreFrom (linkage_count known.earlier) 0 (length known.net.complexes) classes.list
+    → AreClassProofs known.net known.earlier 1 classes.list ps → IsLinked known Q6 (answer (Deficiency total classes) (Ranks ps))
+deficiencies_linked known total classes ps most each proofs =
     let net = known.net in
     let ds = classes.list in
-    let labels : linkage known.earlier ≡ linkage earlier = labels_alike known.earlier earlier Q1 e in
-    let here : AreClassProofs net known.earlier 1 ds ps = proofs_alike net earlier known.earlier (sym labels) 1 ds ps proofs in
     let long = each.long in
-    let count : length ds ≡ linkage_count known.earlier = long ∙ sym (counts_alike known.earlier earlier Q1 e) in
+    let count : length ds ≡ linkage_count known.earlier = long in
     let bare : flat_map rank_records ps ++ [] ≡ flat_map rank_records ps = append-nil (flat_map rank_records ps) in
-    let fits : AllZip Fits (below Q6 (shapes_of known) (head_of Q6 (Deficiency total classes))) (flat_map rank_records ps) = subst (λ (n : ℕ). AllZip Fits (class_forms (sizes_of known) (sizes_from known.earlier 1 n) (places_from net known.earlier 1 n) (map pos ds)) (flat_map rank_records ps)) count (classes_fit known 1 ds ps here) in
-    let said : class_proofs (sizes_from known.earlier 1 (linkage_count known.earlier)) (places_from net known.earlier 1 (linkage_count known.earlier)) (map pos ds) (flat_map rank_records ps ++ []) ≡ map said_rank ps
+    let fits : AllZip Fits (below Q6 (shapes_of known) (head_of Q6 (Deficiency total classes))) (flat_map rank_records ps) = subst (λ (n : ℕ). AllZip Fits (class_forms (sizes_of known) (sizes_from known.earlier 1 n) (places_from net known.earlier 1 n) (map pos ds)) (flat_map rank_records ps)) count (classes_fit known 1 ds ps proofs) in
+    let said : class_proofs (sizes_from known.earlier 1 (linkage_count known.earlier)) (places_from net known.earlier 1 (linkage_count known.earlier)) (map pos ds) (flat_map rank_records ps ++ []) ≡ map tight_rank ps
     = ap (λ (rs : List Record). class_proofs (sizes_from known.earlier 1 (linkage_count known.earlier)) (places_from net known.earlier 1 (linkage_count known.earlier)) (map pos ds) rs) bare
-    ∙ subst (λ (n : ℕ). class_proofs (sizes_from known.earlier 1 n) (places_from net known.earlier 1 n) (map pos ds) (flat_map rank_records ps) ≡ map said_rank ps) count (classes_said net known.earlier 1 ds ps here) in
-    let numbers : AreFrom (1 + linkage_count known.earlier) 0 (length net.complexes) (total ∷ ds) = subst (λ (n : ℕ). AreFrom (1 + n) 0 (length net.complexes) (total ∷ ds)) (counts_alike earlier known.earlier Q1 (sym e)) (deficiency_fits (linkage_count earlier) (length net.complexes) total ds most each) in
+    ∙ subst (λ (n : ℕ). class_proofs (sizes_from known.earlier 1 n) (places_from net known.earlier 1 n) (map pos ds) (flat_map rank_records ps) ≡ map tight_rank ps) count (classes_said net known.earlier 1 ds ps proofs) in
+    let numbers : AreFrom (1 + linkage_count known.earlier) 0 (length net.complexes) (total ∷ ds) = deficiency_fits (linkage_count known.earlier) (length net.complexes) total ds most each in
     let head : SmallNumbers (1 + classes_of (sizes_of known)) 0 (length net.complexes) (map pos (total ∷ ds)) = subst (λ (n : ℕ). SmallNumbers (1 + n) 0 (length net.complexes) (map pos (total ∷ ds))) (sym (lists_counted known)) (several_fit (1 + linkage_count known.earlier) 0 (length net.complexes) (total ∷ ds) numbers) in
     record {
       formed = record {
@@ -285,24 +270,22 @@ deficiencies_linked known earlier total classes ps e most each proofs =
         rows = subst (λ (rs : List Record). AllZip Fits (below Q6 (shapes_of known) (head_of Q6 (Deficiency total classes))) rs) (sym bare) fits;
         trees = refl;
       };
-      heads = deficiency_heads known earlier total ds e;
-      rows = ap (λ (rs : List RankProof). class_rank_tests net known.earlier 1 1 rs) said ∙ tests_alike net known.earlier earlier labels 1 1 ps;
+      heads = deficiency_heads known total ds;
+      rows = ap (λ (rs : List RankProof). class_rank_tests net known.earlier 1 1 rs) said ∙ tests_said net known.earlier 1 1 ps;
       says = ap (λ (x : List ℕ). Deficiency total (record { list = x; spare = 0 })) (abs_back ds);
       shows = ap (λ (rs : List RankProof). shown (Ranks rs)) said ∙ ap (λ (rs : List RankProof). (Ranks rs, [])) (said_again ps);
     }
 
 -- open by a class's system
-deficiency_wide : (known : Known) (earlier : Earlier) (k index : ℕ) (basis : KeptNums) → IsAlike known earlier → suc k ≤ linkage_count earlier → IsBasisOf (length known.net.names) (length (class_places known.net earlier (suc k))) index basis.list
-    → IsLinked known earlier Q6 (answer (Unknown (Wide 3 (suc k) index basis)) Nothing)
-deficiency_wide known earlier k index basis e few b =
+deficiency_wide : (known : Known) (k index : ℕ) (basis : KeptNums) → suc k ≤ linkage_count known.earlier → IsBasisOf (length known.net.names) (length (class_places known.net known.earlier (suc k))) index basis.list
+    → IsLinked known Q6 (answer (Unknown (Wide 3 (suc k) index basis)) Nothing)
+deficiency_wide known k index basis few b =
     let net = known.net in
     let m = length net.names in
     let sizes = lengths (reactions_by_class known) in
-    let here : IsBasisOf m (length (class_places net known.earlier (suc k))) index basis.list = basis_alike net earlier known.earlier (sym (labels_alike known.earlier earlier Q1 e)) (suc k) index basis.list b in
-    let count : linkage_count known.earlier ≡ linkage_count earlier = counts_alike known.earlier earlier Q1 e in
-    let lt : k < linkage_count known.earlier = omega (arith, few, count) in
+    let lt : k < linkage_count known.earlier = omega (arith, few) in
     let size : slice_index sizes k ≡ length (class_places net known.earlier (suc k)) = places_at net known.earlier 1 (linkage_count known.earlier) k lt ∙ ap (λ (j : ℕ). length (class_places net known.earlier j)) (omega arith) in
-    let that : IsBasisOf m (slice_index sizes k) index basis.list = subst (λ (n : ℕ). IsBasisOf m n index basis.list) (sym size) here in
+    let that : IsBasisOf m (slice_index sizes k) index basis.list = subst (λ (n : ℕ). IsBasisOf m n index basis.list) (sym size) b in
     let at = that.coordinate in
     let members = that.members in
     let up = that.ascending in
@@ -329,13 +312,13 @@ deficiency_wide known earlier k index basis e few b =
       shows = refl;
     }
 
-deficiency_open : (known : Known) (earlier : Earlier) (class index : ℕ) (basis : KeptNums) → IsAlike known earlier → (1 ≤ class) × (class ≤ linkage_count earlier) → IsBasisOf (length known.net.names) (length (class_places known.net earlier class)) index basis.list
-    → IsLinked known earlier Q6 (answer (Unknown (Wide 3 class index basis)) Nothing)
-deficiency_open known earlier zero index basis e range b = absurd (omega (arith, range.0))
-deficiency_open known earlier (suc k) index basis e range b = deficiency_wide known earlier k index basis e range.1 b
+deficiency_open : (known : Known) (class index : ℕ) (basis : KeptNums) → (1 ≤ class) × (class ≤ linkage_count known.earlier) → IsBasisOf (length known.net.names) (length (class_places known.net known.earlier class)) index basis.list
+    → IsLinked known Q6 (answer (Unknown (Wide 3 class index basis)) Nothing)
+deficiency_open known zero index basis range b = absurd (omega (arith, range.0))
+deficiency_open known (suc k) index basis range b = deficiency_wide known k index basis range.1 b
 
-deficiency_rests : (known : Known) (earlier : Earlier) → IsLinked known earlier Q6 (answer (Unknown (Rests 5)) Nothing)
-deficiency_rests known earlier =
+deficiency_rests : (known : Known) → IsLinked known Q6 (answer (Unknown (Rests 5)) Nothing)
+deficiency_rests known =
     record {
       formed = record { head = (_, inr (inr (inl refl)), (refl, number_then 5 5 5 [] [] (omega arith) (omega arith) refl)); rows = tt; trees = refl };
       heads = refl;
@@ -344,19 +327,19 @@ deficiency_rests known earlier =
       shows = refl;
     }
 
-deficiency_linked : (known : Known) (earlier : Earlier) (v : Verdict) (p : Proof) → IsAlike known earlier → IsFormedOf known.net earlier Q6 v p → IsLinked known earlier Q6 (answer v p)
-deficiency_linked known earlier (Deficiency total classes) (Ranks ps) e f = deficiencies_linked known earlier total classes ps e f.0.0.1 f.0.1 f.1
-deficiency_linked known earlier (Unknown (Wide system class index basis)) p e f = open_as known earlier Q6 system class index basis p 3 class f.0.0 refl f.1 (deficiency_open known earlier class index basis e f.0.1 f.0.2)
-deficiency_linked known earlier (Unknown (Budget nodes)) p e f = absurd f.0
-deficiency_linked known earlier (Unknown (Rests question)) p e f =
-    subst (λ (x : ℕ). IsLinked known earlier Q6 (answer (Unknown (Rests x)) p)) f.0 (subst (λ (x : Proof). IsLinked known earlier Q6 (answer (Unknown (Rests 5)) x)) (sym f.1) (deficiency_rests known earlier))
-deficiency_linked known earlier (Deficiency total classes) p e f = absurd f.1
-deficiency_linked known earlier v p e f = absurd f.0
+deficiency_linked : (known : Known) (v : Verdict) (p : Proof) → IsFormedOf known.net known.earlier Q6 v p → IsLinked known Q6 (answer v p)
+deficiency_linked known (Deficiency total classes) (Ranks ps) f = deficiencies_linked known total classes ps f.0.0.1 f.0.1 f.1
+deficiency_linked known (Unknown (Wide system class index basis)) p f = open_as known Q6 system class index basis p 3 class f.0.0 refl f.1 (deficiency_open known class index basis f.0.1 f.0.2)
+deficiency_linked known (Unknown (Budget nodes)) p f = absurd f.0
+deficiency_linked known (Unknown (Rests question)) p f =
+    subst (λ (x : ℕ). IsLinked known Q6 (answer (Unknown (Rests x)) p)) f.0 (subst (λ (x : Proof). IsLinked known Q6 (answer (Unknown (Rests 5)) x)) (sym f.1) (deficiency_rests known))
+deficiency_linked known (Deficiency total classes) p f = absurd f.1
+deficiency_linked known v p f = absurd f.0
 
 -- ---- positive vectors
 
-dependence_open : (known : Known) (earlier : Earlier) (index : ℕ) (basis : KeptNums) → IsBasisOf (length known.net.reactions) (length known.net.names) index basis.list → IsLinked known earlier Q7 (answer (Unknown (Wide 2 0 index basis)) Nothing)
-dependence_open known earlier index basis b =
+dependence_open : (known : Known) (index : ℕ) (basis : KeptNums) → IsBasisOf (length known.net.reactions) (length known.net.names) index basis.list → IsLinked known Q7 (answer (Unknown (Wide 2 0 index basis)) Nothing)
+dependence_open known index basis b =
     record {
       formed = record { head = (_, inr (inr (inl refl)), (refl, wide_fits 2 (length known.net.reactions) (length known.net.names) index basis.list b)); rows = tt; trees = refl };
       heads = refl;
@@ -365,20 +348,20 @@ dependence_open known earlier index basis b =
       shows = refl;
     }
 
-dependence_linked : (known : Known) (earlier : Earlier) (v : Verdict) (p : Proof) → IsFormedOf known.net earlier Q7 v p → IsLinked known earlier Q7 (answer v p)
-dependence_linked known earlier (YesVec vector) Nothing f =
+dependence_linked : (known : Known) (v : Verdict) (p : Proof) → IsFormedOf known.net known.earlier Q7 v p → IsLinked known Q7 (answer v p)
+dependence_linked known (YesVec vector) Nothing f =
     record { formed = record { head = (_, inl refl, (refl, refl)); rows = (free_fits (codes "vec") (length known.net.reactions) vector.list f.1, tt); trees = refl }; heads = refl; rows = refl; says = refl; shows = refl }
-dependence_linked known earlier (NoVec multipliers) Nothing f =
+dependence_linked known (NoVec multipliers) Nothing f =
     record { formed = record { head = (_, inr (inl refl), (refl, refl)); rows = (free_fits (codes "cut") (length known.net.names) multipliers.list f.1, tt); trees = refl }; heads = refl; rows = refl; says = refl; shows = refl }
-dependence_linked known earlier (Unknown (Wide system class index basis)) p f = open_as known earlier Q7 system class index basis p 2 0 f.0.0 f.0.1 f.1 (dependence_open known earlier index basis f.0.2)
-dependence_linked known earlier (Unknown (Budget nodes)) p f = absurd f.0
-dependence_linked known earlier (Unknown (Rests question)) p f = absurd f.0
-dependence_linked known earlier (YesVec vector) p f = absurd f.1
-dependence_linked known earlier (NoVec multipliers) p f = absurd f.1
-dependence_linked known earlier v p f = absurd f.0
+dependence_linked known (Unknown (Wide system class index basis)) p f = open_as known Q7 system class index basis p 2 0 f.0.0 f.0.1 f.1 (dependence_open known index basis f.0.2)
+dependence_linked known (Unknown (Budget nodes)) p f = absurd f.0
+dependence_linked known (Unknown (Rests question)) p f = absurd f.0
+dependence_linked known (YesVec vector) p f = absurd f.1
+dependence_linked known (NoVec multipliers) p f = absurd f.1
+dependence_linked known v p f = absurd f.0
 
-conservation_open : (known : Known) (earlier : Earlier) (index : ℕ) (basis : KeptNums) → IsBasisOf (length known.net.names) (length known.net.reactions) index basis.list → IsLinked known earlier Q8 (answer (Unknown (Wide 1 0 index basis)) Nothing)
-conservation_open known earlier index basis b =
+conservation_open : (known : Known) (index : ℕ) (basis : KeptNums) → IsBasisOf (length known.net.names) (length known.net.reactions) index basis.list → IsLinked known Q8 (answer (Unknown (Wide 1 0 index basis)) Nothing)
+conservation_open known index basis b =
     record {
       formed = record { head = (_, inr (inr (inl refl)), (refl, wide_fits 1 (length known.net.names) (length known.net.reactions) index basis.list b)); rows = tt; trees = refl };
       heads = refl;
@@ -387,22 +370,22 @@ conservation_open known earlier index basis b =
       shows = refl;
     }
 
-conservation_linked : (known : Known) (earlier : Earlier) (v : Verdict) (p : Proof) → IsFormedOf known.net earlier Q8 v p → IsLinked known earlier Q8 (answer v p)
-conservation_linked known earlier (YesVec vector) Nothing f =
+conservation_linked : (known : Known) (v : Verdict) (p : Proof) → IsFormedOf known.net known.earlier Q8 v p → IsLinked known Q8 (answer v p)
+conservation_linked known (YesVec vector) Nothing f =
     record { formed = record { head = (_, inl refl, (refl, refl)); rows = (free_fits (codes "vec") (length known.net.names) vector.list f.1, tt); trees = refl }; heads = refl; rows = refl; says = refl; shows = refl }
-conservation_linked known earlier (NoVec multipliers) Nothing f =
+conservation_linked known (NoVec multipliers) Nothing f =
     record { formed = record { head = (_, inr (inl refl), (refl, refl)); rows = (free_fits (codes "cut") (length known.net.reactions) multipliers.list f.1, tt); trees = refl }; heads = refl; rows = refl; says = refl; shows = refl }
-conservation_linked known earlier (Unknown (Wide system class index basis)) p f = open_as known earlier Q8 system class index basis p 1 0 f.0.0 f.0.1 f.1 (conservation_open known earlier index basis f.0.2)
-conservation_linked known earlier (Unknown (Budget nodes)) p f = absurd f.0
-conservation_linked known earlier (Unknown (Rests question)) p f = absurd f.0
-conservation_linked known earlier (YesVec vector) p f = absurd f.1
-conservation_linked known earlier (NoVec multipliers) p f = absurd f.1
-conservation_linked known earlier v p f = absurd f.0
+conservation_linked known (Unknown (Wide system class index basis)) p f = open_as known Q8 system class index basis p 1 0 f.0.0 f.0.1 f.1 (conservation_open known index basis f.0.2)
+conservation_linked known (Unknown (Budget nodes)) p f = absurd f.0
+conservation_linked known (Unknown (Rests question)) p f = absurd f.0
+conservation_linked known (YesVec vector) p f = absurd f.1
+conservation_linked known (NoVec multipliers) p f = absurd f.1
+conservation_linked known v p f = absurd f.0
 
 -- ---- the two deficiency theorems
 
-zero_rests : (known : Known) (earlier : Earlier) → IsLinked known earlier Q9 (answer (Unknown (Rests 5)) Nothing)
-zero_rests known earlier =
+zero_rests : (known : Known) → IsLinked known Q9 (answer (Unknown (Rests 5)) Nothing)
+zero_rests known =
     record {
       formed = record { head = (_, inr (inr (inl refl)), (refl, number_then 5 5 5 [] [] (omega arith) (omega arith) refl)); rows = tt; trees = refl };
       heads = refl;
@@ -411,41 +394,41 @@ zero_rests known earlier =
       shows = refl;
     }
 
-zero_linked : (known : Known) (earlier : Earlier) (v : Verdict) (p : Proof) → IsAlike known earlier → IsFormedOf known.net earlier Q9 v p → IsLinked known earlier Q9 (answer v p)
-zero_linked known earlier (YesWeak true) Nothing e f =
+zero_linked : (known : Known) (v : Verdict) (p : Proof) → IsFormedOf known.net known.earlier Q9 v p → IsLinked known Q9 (answer v p)
+zero_linked known (YesWeak true) Nothing f =
     record {
       formed = record { head = (_, inl refl, (refl, number_then 0 1 1 [] [] (omega arith) (omega arith) refl)); rows = tt; trees = refl };
-      heads = zero_alike known.net known.earlier earlier e true;
+      heads = refl;
       rows = refl;
       says = refl;
       shows = refl;
     }
-zero_linked known earlier (YesWeak false) Nothing e f =
+zero_linked known (YesWeak false) Nothing f =
     record {
       formed = record { head = (_, inl refl, (refl, number_then 0 1 0 [] [] (omega arith) (omega arith) refl)); rows = tt; trees = refl };
-      heads = zero_alike known.net known.earlier earlier e false;
+      heads = refl;
       rows = refl;
       says = refl;
       shows = refl;
     }
-zero_linked known earlier (NoNumber d) Nothing e f =
+zero_linked known (NoNumber d) Nothing f =
     record {
       formed = record { head = (_, inr (inl refl), (refl, number_fits (length known.net.complexes) d f.0.0 f.0.1)); rows = tt; trees = refl };
-      heads = number_alike known.net known.earlier earlier e d;
+      heads = refl;
       rows = refl;
       says = refl;
       shows = refl;
     }
-zero_linked known earlier (Unknown (Wide system class index basis)) p e f = absurd f.0
-zero_linked known earlier (Unknown (Budget nodes)) p e f = absurd f.0
-zero_linked known earlier (Unknown (Rests question)) p e f =
-    subst (λ (x : ℕ). IsLinked known earlier Q9 (answer (Unknown (Rests x)) p)) f.0 (without_proof known earlier Q9 (Unknown (Rests 5)) p f.1 (zero_rests known earlier))
-zero_linked known earlier (YesWeak weak) p e f = absurd f.1
-zero_linked known earlier (NoNumber d) p e f = absurd f.1
-zero_linked known earlier v p e f = absurd f.0
+zero_linked known (Unknown (Wide system class index basis)) p f = absurd f.0
+zero_linked known (Unknown (Budget nodes)) p f = absurd f.0
+zero_linked known (Unknown (Rests question)) p f =
+    subst (λ (x : ℕ). IsLinked known Q9 (answer (Unknown (Rests x)) p)) f.0 (without_proof known Q9 (Unknown (Rests 5)) p f.1 (zero_rests known))
+zero_linked known (YesWeak weak) p f = absurd f.1
+zero_linked known (NoNumber d) p f = absurd f.1
+zero_linked known v p f = absurd f.0
 
-one_rests : (known : Known) (earlier : Earlier) → IsLinked known earlier Q10 (answer (Unknown (Rests 6)) Nothing)
-one_rests known earlier =
+one_rests : (known : Known) → IsLinked known Q10 (answer (Unknown (Rests 6)) Nothing)
+one_rests known =
     record {
       formed = record { head = (_, inr (inr (inr (inr (inl refl)))), (refl, number_then 6 6 6 [] [] (omega arith) (omega arith) refl)); rows = tt; trees = refl };
       heads = refl;
@@ -454,48 +437,48 @@ one_rests known earlier =
       shows = refl;
     }
 
-one_linked : (known : Known) (earlier : Earlier) (v : Verdict) (p : Proof) → IsAlike known earlier → IsFormedOf known.net earlier Q10 v p → IsLinked known earlier Q10 (answer v p)
-one_linked known earlier Yes Nothing e f =
+one_linked : (known : Known) (v : Verdict) (p : Proof) → IsFormedOf known.net known.earlier Q10 v p → IsLinked known Q10 (answer v p)
+one_linked known Yes Nothing f =
     record {
       formed = record { head = (_, inl refl, (refl, refl)); rows = tt; trees = refl };
-      heads = one_alike known.earlier earlier e (λ total classes. AreAtMostOne classes × (sum classes ≡ total));
+      heads = refl;
       rows = refl;
       says = refl;
       shows = refl;
     }
-one_linked known earlier (NoTerminal k count) Nothing e f =
+one_linked known (NoTerminal k count) Nothing f =
     record {
-      formed = record { head = (_, inr (inl refl), (refl, class_fits known earlier k count e f.0.0 f.0.1)); rows = tt; trees = refl };
-      heads = split_alike known.earlier earlier e k count;
+      formed = record { head = (_, inr (inl refl), (refl, class_fits known k count f.0.0 f.0.1)); rows = tt; trees = refl };
+      heads = refl;
       rows = refl;
       says = refl;
       shows = refl;
     }
-one_linked known earlier (NoClass k d) Nothing e f =
+one_linked known (NoClass k d) Nothing f =
     record {
-      formed = record { head = (_, inr (inr (inl refl)), (refl, class_fits known earlier k d e f.0.0 f.0.1)); rows = tt; trees = refl };
-      heads = one_alike known.earlier earlier e (λ total classes. IsFirstLarge k d classes);
+      formed = record { head = (_, inr (inr (inl refl)), (refl, class_fits known k d f.0.0 f.0.1)); rows = tt; trees = refl };
+      heads = refl;
       rows = refl;
       says = refl;
       shows = refl;
     }
-one_linked known earlier (NoSum x) Nothing e f =
+one_linked known (NoSum x) Nothing f =
     record {
       formed = record { head = (_, inr (inr (inr (inl refl))), (refl, number_then 0 (length known.net.complexes) x [] [] (omega arith) f.0.1 refl)); rows = tt; trees = refl };
-      heads = one_alike known.earlier earlier e (λ total classes. AreAtMostOne classes × (sum classes ≡ x) × (x ≢ total));
+      heads = refl;
       rows = refl;
       says = refl;
       shows = refl;
     }
-one_linked known earlier (Unknown (Wide system class index basis)) p e f = absurd f.0
-one_linked known earlier (Unknown (Budget nodes)) p e f = absurd f.0
-one_linked known earlier (Unknown (Rests question)) p e f =
-    subst (λ (x : ℕ). IsLinked known earlier Q10 (answer (Unknown (Rests x)) p)) f.0 (without_proof known earlier Q10 (Unknown (Rests 6)) p f.1 (one_rests known earlier))
-one_linked known earlier Yes p e f = absurd f.1
-one_linked known earlier (NoTerminal k count) p e f = absurd f.1
-one_linked known earlier (NoClass k d) p e f = absurd f.1
-one_linked known earlier (NoSum x) p e f = absurd f.1
-one_linked known earlier v p e f = absurd f.0
+one_linked known (Unknown (Wide system class index basis)) p f = absurd f.0
+one_linked known (Unknown (Budget nodes)) p f = absurd f.0
+one_linked known (Unknown (Rests question)) p f =
+    subst (λ (x : ℕ). IsLinked known Q10 (answer (Unknown (Rests x)) p)) f.0 (without_proof known Q10 (Unknown (Rests 6)) p f.1 (one_rests known))
+one_linked known Yes p f = absurd f.1
+one_linked known (NoTerminal k count) p f = absurd f.1
+one_linked known (NoClass k d) p f = absurd f.1
+one_linked known (NoSum x) p f = absurd f.1
+one_linked known v p f = absurd f.0
 
 -- ---- all answers
 
@@ -508,131 +491,120 @@ AreLinkedFor b [] = Unit {1}
 AreLinkedFor b (q ∷ qs) = LinkFor b q × AreLinkedFor (after b q) qs
 
 pub built_linked : AreLinkedFor false built
-built_linked = (
-  (λ known earlier v p e f. linkage_linked known earlier v p f),
-  (
-    (λ known earlier v p e f. strong_linked known earlier v p f),
-    (
-      (λ known earlier v p e f. reversible_linked known earlier v p f),
-      (
-        (λ known earlier v p e f. weak_linked known earlier v p (labels_alike known.earlier earlier Q2 e) f),
-        (
-          (λ known earlier v p e f. rank_linked known earlier v p f),
-          (deficiency_linked, ((λ known earlier v p e f. dependence_linked known earlier v p f), ((λ known earlier v p e f. conservation_linked known earlier v p f), (zero_linked, (one_linked, ((λ known earlier v p k e f. tied known earlier Q11 (answer v p) (regular_linked known earlier v p k e f)), ((λ known earlier v p k e f. confluence_tied known earlier v p e f), (signal_joined, (plain_joined true, (strong_joined true, tt)))))))))),
-        ),
-      ),
-    ),
-  ),
-)
+built_linked =
+    (linkage_linked, (strong_linked, (reversible_linked, (weak_linked, (rank_linked, (deficiency_linked, (dependence_linked, (conservation_linked, (zero_linked, (one_linked, (regular_linked, (confluence_linked, (signal_joined, (plain_joined true, (strong_joined true, tt)))))))))))))))
 
--- so they are after an answer
-pub alike_after : (b : Bool) (q : Question) (known : Known) (earlier : Earlier) (a : Answer) → AreKnown b known.earlier → IsAlike known earlier → IsJoinedFor b q → IsFormedOf known.net earlier q a.verdict a.proof → IsAlike (known_after q known a) (earlier ++ (q, a.verdict) ∷ [])
-alike_after b q known earlier a n e j f = let s = j.says in alike_then known.earlier earlier q (verdict_of q (sizes_of known) (head_of q a.verdict) (records_below (shapes_of known) a)) a.verdict e (s known earlier a.verdict a.proof n e f)
+-- then its verdict is known, without the spares of its lists
+pub earlier_next : (b : Bool) (q : Question) (known : Known) (a : Answer) → AreKnown b known.earlier → IsJoinedFor b q → IsFormedOf known.net known.earlier q a.verdict a.proof → (known_after q known a).earlier ≡ known.earlier ++ (q, tight a.verdict) ∷ []
+earlier_next b q known a n j f = let s = j.says in ap (λ (v : Verdict). known.earlier ++ (q, v) ∷ []) (s known a.verdict a.proof n f)
 
 -- and the strong classes are known after question 2
-pub known_next : (b : Bool) (q : Question) (known : Known) (earlier : Earlier) (a : Answer) → AreKnown b known.earlier → IsAlike known earlier → IsJoinedFor b q → IsFormedOf known.net earlier q a.verdict a.proof → AreKnown (after b q) (known_after q known a).earlier
-known_next b q known earlier a n e j f =
-    let s = j.says in
-    let v = verdict_of q (sizes_of known) (head_of q a.verdict) (records_below (shapes_of known) a) in
-    known_then b q known.earlier v n (said_right q v a.verdict (s known earlier a.verdict a.proof n e f) (formed_right known.net earlier q a.verdict a.proof f))
+pub known_next : (b : Bool) (q : Question) (known : Known) (a : Answer) → AreKnown b known.earlier → IsJoinedFor b q → IsFormedOf known.net known.earlier q a.verdict a.proof → AreKnown (after b q) (known_after q known a).earlier
+known_next b q known a n j f =
+    let right : IsRight q (tight a.verdict) = right_tight q a.verdict (formed_right known.net known.earlier q a.verdict a.proof f) in
+    subst (λ (es : Earlier). AreKnown (after b q) es) (sym (earlier_next b q known a n j f)) (known_then b q known.earlier (tight a.verdict) n right)
 
--- verdicts that say the same do so after an answer to question 1
-pub linkage_next : (known : Known) (earlier : Earlier) (a : Answer) → IsAlike known earlier → IsFormedOf known.net earlier Q1 a.verdict a.proof → IsAlike (known_after Q1 known a) (earlier ++ (Q1, a.verdict) ∷ [])
-linkage_next known earlier a e f =
-    let l = linkage_linked known earlier a.verdict a.proof f in
-    alike_then known.earlier earlier Q1 (verdict_of Q1 (sizes_of known) (head_of Q1 a.verdict) (records_below (shapes_of known) a)) a.verdict e l.says
+-- later answers are formed after what is known then
+pub formed_next : (b : Bool) (q : Question) (qs : List Question) (known : Known) (a : Answer) (answers : List Answer) → AreKnown b known.earlier → IsJoinedFor b q → IsFormedOf known.net known.earlier q a.verdict a.proof
+    → AreFormed known.net (known.earlier ++ (q, tight a.verdict) ∷ []) qs answers → AreFormed known.net (known_after q known a).earlier qs answers
+formed_next b q qs known a answers n j f more = subst (λ (es : Earlier). AreFormed known.net es qs answers) (sym (earlier_next b q known a n j f)) more
+
+-- after an answer to question 1
+pub linkage_next : (known : Known) (a : Answer) → IsFormedOf known.net known.earlier Q1 a.verdict a.proof → (known_after Q1 known a).earlier ≡ known.earlier ++ (Q1, tight a.verdict) ∷ []
+linkage_next known a f = let l = linkage_linked known a.verdict a.proof f in ap (λ (v : Verdict). known.earlier ++ (Q1, v) ∷ []) l.says
 
 -- and to question 2
-pub strong_next : (known : Known) (earlier : Earlier) (a : Answer) → IsAlike known earlier → IsFormedOf known.net earlier Q2 a.verdict a.proof → IsAlike (known_after Q2 known a) (earlier ++ (Q2, a.verdict) ∷ [])
-strong_next known earlier a e f =
-    let l = strong_linked known earlier a.verdict a.proof f in
-    alike_then known.earlier earlier Q2 (verdict_of Q2 (sizes_of known) (head_of Q2 a.verdict) (records_below (shapes_of known) a)) a.verdict e l.says
+pub strong_next : (known : Known) (a : Answer) → IsFormedOf known.net known.earlier Q2 a.verdict a.proof → (known_after Q2 known a).earlier ≡ known.earlier ++ (Q2, tight a.verdict) ∷ []
+strong_next known a f = let l = strong_linked known a.verdict a.proof f in ap (λ (v : Verdict). known.earlier ++ (Q2, v) ∷ []) l.says
 
-formed_by : (b : Bool) (qs : List Question) → AreLinkedFor b qs → (known : Known) (earlier : Earlier) (answers : List Answer) → AreKnown b known.earlier → IsAlike known earlier → AreFormed known.net earlier qs answers → documents.AreFormed meaning qs known (all_records meaning qs known answers)
+formed_by : (b : Bool) (qs : List Question) → AreLinkedFor b qs → (known : Known) (answers : List Answer) → AreKnown b known.earlier → AreFormed known.net known.earlier qs answers → documents.AreFormed meaning qs known (all_records meaning qs known answers)
 unfolding documents.AreFormed all_records
-formed_by b [] links known earlier [] n e f = refl
-formed_by b [] links known earlier (a ∷ answers) n e f = absurd f
-formed_by b (q ∷ qs) links known earlier [] n e f = absurd f
-formed_by b (q ∷ qs) links known earlier (a ∷ answers) n e f =
+formed_by b [] links known [] n f = refl
+formed_by b [] links known (a ∷ answers) n f = absurd f
+formed_by b (q ∷ qs) links known [] n f = absurd f
+formed_by b (q ∷ qs) links known (a ∷ answers) n f =
     let j = joined b q links.0 in
     let formed = j.formed in
-    (parts q known a, formed known earlier a.verdict a.proof n e f.0, formed_by (after b q) qs links.1 (known_after q known a) (earlier ++ (q, a.verdict) ∷ []) answers (known_next b q known earlier a n e j f.0) (alike_after b q known earlier a n e j f.0) f.1)
+    (parts q known a, formed known a.verdict a.proof n f.0, formed_by (after b q) qs links.1 (known_after q known a) answers (known_next b q known a n j f.0) (formed_next b q qs known a answers n j f.0 f.1))
 
 pub answers_formed : (net : Net) (answers : List Answer) → AreFormed net [] built answers → AreFormedOf net (records_of net answers)
-answers_formed net answers f = formed_by false built built_linked (meaning.start net) [] answers tt refl f
+answers_formed net answers f = formed_by false built built_linked (meaning.start net) answers tt f
 
 -- ---- valid answers
 
 abbrev Rest : List Question → Known → Known → List Answer → Type 0
 Rest qs known from answers = documents.AreValid meaning qs known (all_records meaning qs from answers)
 
-valid_by : (b : Bool) (qs : List Question) → AreLinkedFor b qs → (known : Known) (earlier : Earlier) (answers : List Answer) → AreKnown b known.earlier → IsAlike known earlier → AreFormed known.net earlier qs answers → AreValid known.net earlier qs answers → Rest qs known known answers
+valid_by : (b : Bool) (qs : List Question) → AreLinkedFor b qs → (known : Known) (answers : List Answer) → AreKnown b known.earlier → AreFormed known.net known.earlier qs answers → AreValid known.net known.earlier qs answers → Rest qs known known answers
 unfolding documents.AreValid all_records
-valid_by b [] links known earlier [] n e f v = refl
-valid_by b [] links known earlier (a ∷ answers) n e f v = absurd f
-valid_by b (q ∷ qs) links known earlier [] n e f v = absurd f
-valid_by b (q ∷ qs) links known earlier (a ∷ answers) n e f v =
+valid_by b [] links known [] n f v = refl
+valid_by b [] links known (a ∷ answers) n f v = absurd f
+valid_by b (q ∷ qs) links known [] n f v = absurd f
+valid_by b (q ∷ qs) links known (a ∷ answers) n f v =
     let j = joined b q links.0 in
     let formed = j.formed in
     let there = j.there in
-    (parts q known a, formed known earlier a.verdict a.proof n e f.0, there known earlier a.verdict a.proof n e f.0 v.0, valid_by (after b q) qs links.1 (known_after q known a) (earlier ++ (q, a.verdict) ∷ []) answers (known_next b q known earlier a n e j f.0) (alike_after b q known earlier a n e j f.0) f.1 v.1)
+    let valid : AreValid known.net (known_after q known a).earlier qs answers = subst (λ (es : Earlier). AreValid known.net es qs answers) (sym (earlier_next b q known a n j f.0)) v.1 in
+    (parts q known a, formed known a.verdict a.proof n f.0, there known a.verdict a.proof n f.0 v.0, valid_by (after b q) qs links.1 (known_after q known a) answers (known_next b q known a n j f.0) (formed_next b q qs known a answers n j f.0 f.1) valid)
 
 pub answers_valid : (net : Net) (answers : List Answer) → AreFormed net [] built answers → AreValid net [] built answers → documents.AreValid meaning built (meaning.start net) (records_of net answers)
-answers_valid net answers f v = valid_by false built built_linked (meaning.start net) [] answers tt refl f v
+answers_valid net answers f v = valid_by false built built_linked (meaning.start net) answers tt f v
 
-back_by : (b : Bool) (qs : List Question) → AreLinkedFor b qs → (known : Known) (earlier : Earlier) (answers : List Answer) → AreKnown b known.earlier → IsStrongTrue b known → IsAlike known earlier → AreFormed known.net earlier qs answers → Rest qs known known answers → AreValid known.net earlier qs answers
+back_by : (b : Bool) (qs : List Question) → AreLinkedFor b qs → (known : Known) (answers : List Answer) → AreKnown b known.earlier → IsStrongTrue b known → AreFormed known.net known.earlier qs answers → Rest qs known known answers → AreValid known.net known.earlier qs answers
 unfolding documents.AreValid all_records
-back_by b [] links known earlier [] n t e f v = tt
-back_by b [] links known earlier (a ∷ answers) n t e f v = absurd f
-back_by b (q ∷ qs) links known earlier [] n t e f v = absurd f
-back_by b (q ∷ qs) links known earlier (a ∷ answers) n t e f v =
+back_by b [] links known [] n t f v = tt
+back_by b [] links known (a ∷ answers) n t f v = absurd f
+back_by b (q ∷ qs) links known [] n t f v = absurd f
+back_by b (q ∷ qs) links known (a ∷ answers) n t f v =
     let j = joined b q links.0 in
     let formed = j.formed in
     let back = j.back in
-    let says = j.says in
     let next = known_after q known a in
-    let s = same_valid q known (records q (shapes_of known) a) v.0 (parts q known a) v.1 (formed known earlier a.verdict a.proof n e f.0) v.2 in
+    let s = same_valid q known (records q (shapes_of known) a) v.0 (parts q known a) v.1 (formed known a.verdict a.proof n f.0) v.2 in
     let later : Rest qs next next answers = subst (λ (k : Known). Rest qs k next answers) s.1 v.3 in
-    let valid = back known earlier a.verdict a.proof n t e f.0 s.0 in
-    let said_then = verdict_of q (sizes_of known) (head_of q a.verdict) (records_below (shapes_of known) a) in
-    let true_next : IsStrongTrue (after b q) next = true_then b q known said_then n t (true_moves q known.net said_then a.verdict (says known earlier a.verdict a.proof n e f.0) (valid_is_true known.net earlier q a.verdict a.proof f.0 valid)) in
-    (valid, back_by (after b q) qs links.1 next (earlier ++ (q, a.verdict) ∷ []) answers (known_next b q known earlier a n e j f.0) true_next (alike_after b q known earlier a n e j f.0) f.1 later)
+    let valid = back known a.verdict a.proof n t f.0 s.0 in
+    let e = earlier_next b q known a n j f.0 in
+    let right : IsTrueIfStrong q known.net (tight a.verdict) = true_if_strong_tight q known.net a.verdict (valid_is_true known.net known.earlier q a.verdict a.proof f.0 valid) in
+    let true_next : IsStrongTrue (after b q) next = subst (λ (es : Earlier). IsStrongTrue (after b q) (record { net = known.net; earlier = es })) (sym e) (true_then b q known (tight a.verdict) n t right) in
+    let rest = back_by (after b q) qs links.1 next answers (known_next b q known a n j f.0) true_next (formed_next b q qs known a answers n j f.0 f.1) later in
+    (valid, subst (λ (es : Earlier). AreValid known.net es qs answers) e rest)
 
 pub records_valid : (net : Net) (answers : List Answer) → AreFormed net [] built answers → documents.AreValid meaning built (meaning.start net) (records_of net answers) → AreValid net [] built answers
-records_valid net answers f v = back_by false built built_linked (meaning.start net) [] answers tt tt refl f v
+records_valid net answers f v = back_by false built built_linked (meaning.start net) answers tt tt f v
 
 -- ---- answers with the same records
 
 -- equal records are of answers that are the same
-same_by : (b : Bool) (qs : List Question) → AreLinkedFor b qs → (known : Known) (earlier later : Earlier) (answers others : List Answer) → AreKnown b known.earlier → IsAlike known earlier → IsAlike known later → AreFormed known.net earlier qs answers → AreFormed known.net later qs others
+same_by : (b : Bool) (qs : List Question) → AreLinkedFor b qs → (known : Known) (answers others : List Answer) → AreKnown b known.earlier → AreFormed known.net known.earlier qs answers → AreFormed known.net known.earlier qs others
     → all_records meaning qs known answers ≡ all_records meaning qs known others → AreSame answers others
 unfolding all_records
-same_by b [] links known earlier later [] [] n d e f g r = refl
-same_by b [] links known earlier later [] (c ∷ others) n d e f g r = absurd g
-same_by b [] links known earlier later (a ∷ answers) others n d e f g r = absurd f
-same_by b (q ∷ qs) links known earlier later [] others n d e f g r = absurd f
-same_by b (q ∷ qs) links known earlier later (a ∷ answers) [] n d e f g r = absurd g
-same_by b (q ∷ qs) links known earlier later (a ∷ answers) (c ∷ others) n d e f g r =
+same_by b [] links known [] [] n f g r = refl
+same_by b [] links known [] (c ∷ others) n f g r = absurd g
+same_by b [] links known (a ∷ answers) others n f g r = absurd f
+same_by b (q ∷ qs) links known [] others n f g r = absurd f
+same_by b (q ∷ qs) links known (a ∷ answers) [] n f g r = absurd g
+same_by b (q ∷ qs) links known (a ∷ answers) (c ∷ others) n f g r =
     let j = joined b q links.0 in
     let formed = j.formed in
     let says = j.says in
     let shows = j.shows in
-    let k = formed known earlier a.verdict a.proof n d f.0 in
-    let l = formed known later c.verdict c.proof n e g.0 in
+    let k = formed known a.verdict a.proof n f.0 in
+    let l = formed known c.verdict c.proof n g.0 in
     let h = first_same (records q (shapes_of known) a) (records q (shapes_of known) c) (all_records meaning qs (known_after q known a) answers) (all_records meaning qs (known_after q known c) others) r in
     let block : records q (shapes_of known) a ++ [] ≡ records q (shapes_of known) c ++ [] = ap (λ (t : List Record). t ++ []) h.0 in
     let same = (block_apart meaning q known (records q (shapes_of known) a) (records q (shapes_of known) c) [] [] (parts q known a) (parts q known c) k l block).1 in
     let nodes : proof_nodes a.proof ≡ proof_nodes c.proof = same_nodes (head_of q a.verdict) (head_of q c.verdict) (records_below (shapes_of known) a) (records_below (shapes_of known) c) (proof_nodes a.proof) (proof_nodes c.proof) same.1 h.0 in
-    let verdicts : said a.verdict ≡ said c.verdict = sym (says known earlier a.verdict a.proof n d f.0) ∙ ap₂ (λ (x : Record) (xs : List Record). said (verdict_of q (sizes_of known) x xs)) same.0 same.1 ∙ says known later c.verdict c.proof n e g.0 in
-    let proofs : shown a.proof ≡ shown c.proof = shows known earlier later a.verdict c.verdict a.proof c.proof n d e f.0 g.0 same.0 same.1 nodes in
+    let verdicts : tight a.verdict ≡ tight c.verdict = sym (says known a.verdict a.proof n f.0) ∙ ap₂ (λ (x : Record) (xs : List Record). verdict_of q (sizes_of known) x xs) same.0 same.1 ∙ says known c.verdict c.proof n g.0 in
+    let proofs : tight_proof a.proof ≡ tight_proof c.proof = shown_tight a.proof c.proof (shows known a.verdict c.verdict a.proof c.proof n f.0 g.0 same.0 same.1 nodes) in
     let next : known_after q known a ≡ known_after q known c = ap₂ (λ (x : Record) (xs : List Record). meaning.learn q known x xs) same.0 same.1 in
     let rest : all_records meaning qs (known_after q known a) answers ≡ all_records meaning qs (known_after q known a) others = h.1 ∙ ap (λ (x : Known). all_records meaning qs x others) (sym next) in
-    let alike : IsAlike (known_after q known a) (later ++ (q, c.verdict) ∷ []) = subst (λ (x : Known). IsAlike x (later ++ (q, c.verdict) ∷ [])) (sym next) (alike_after b q known later c n e j g.0) in
-    let more = same_by (after b q) qs links.1 (known_after q known a) (earlier ++ (q, a.verdict) ∷ []) (later ++ (q, c.verdict) ∷ []) answers others (known_next b q known earlier a n d j f.0) (alike_after b q known earlier a n d j f.0) alike f.1 g.1 rest in
-    ap₂ (λ (x : Verdict × (Proof × List Plan)) (xs : List (Verdict × (Proof × List Plan))). x ∷ xs) (ap₂ (λ (v : Verdict) (p : Proof × List Plan). (v, p)) verdicts proofs) more
+    let after_a = formed_next b q qs known a answers n j f.0 f.1 in
+    let after_c : AreFormed known.net (known_after q known a).earlier qs others = subst (λ (x : Known). AreFormed known.net x.earlier qs others) (sym next) (formed_next b q qs known c others n j g.0 g.1) in
+    let more = same_by (after b q) qs links.1 (known_after q known a) answers others (known_next b q known a n j f.0) after_a after_c rest in
+    ap₂ (λ (x : Answer) (xs : List Answer). x ∷ xs) (ap₂ (λ (v : Verdict) (p : Proof). record { verdict = v; proof = p }) verdicts proofs) more
   where
     same_nodes : (x y : Record) (rows others ns ms : List Record) → rows ≡ others → x ∷ (rows ++ ns) ≡ y ∷ (others ++ ms) → ns ≡ ms
     same_nodes x y rows others ns ms e all = let below : rows ++ ns ≡ others ++ ms = cc in append_cancel_left others ns ms (ap (λ (t : List Record). t ++ ns) (sym e) ∙ below)
 
 pub answers_same : (net : Net) (answers others : List Answer) → AreFormed net [] built answers → AreFormed net [] built others → records_of net answers ≡ records_of net others → AreSame answers others
-answers_same net answers others f g r = same_by false built built_linked (meaning.start net) [] [] answers others tt refl refl f g r
+answers_same net answers others f g r = same_by false built built_linked (meaning.start net) answers others tt f g r

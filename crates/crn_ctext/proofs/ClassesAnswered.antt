@@ -39,7 +39,7 @@ linkage_by known n rows nodes range z t =
     let b = linkage_back (length known.net.complexes) (length known.net.reactions) n rows z in (
       Classes n (kept b.0),
       Forest (kept b.1) (kept b.2),
-      (λ earlier e. (range, (b.4.0, record { names_are = b.4.1.0; depth_is = b.4.1.1 }))),
+      (range, (b.4.0, record { names_are = b.4.1.0; depth_is = b.4.1.1 })),
       refl,
       b.3,
       t,
@@ -115,7 +115,7 @@ strong_by known n part rows nodes range z t =
     = a.4 ∙ ap (λ (u : List Record). small_record (codes "label") a.0 ∷ small_record (codes "from") a.1 ∷ small_record (codes "fromdepth") a.2 ∷ u) b.4 in (
       Strong n part (kept a.0) (kept b.3),
       StrongTrees (kept a.1) (kept a.2) (kept b.0) (kept b.1) (kept b.2),
-      (λ earlier e. (((some, range.2), (range.0, range.1)), (a.5.0, b.5.1.1.1, record { names_are = a.5.1.0; depth_is = a.5.1.1 }, record { names_are = b.5.0; depth_is = b.5.1.0 }, b.5.1.1.0))),
+      (((some, range.2), (range.0, range.1)), (a.5.0, b.5.1.1.1, record { names_are = a.5.1.0; depth_is = a.5.1.1 }, record { names_are = b.5.0; depth_is = b.5.1.0 }, b.5.1.1.0)),
       refl,
       all,
       t,
@@ -137,19 +137,19 @@ reversible_answered known h rows nodes (form, inl e, fits) =
     let f : Fits (head (codes "q3") 1 yes []) h = subst (λ (f : Form). Fits f h) e fits in
     at_head known Q3 h (head_with Q3 yes []) rows nodes (record_is h (codes "q3" ∷ yes) [] f.0 f.1) (λ z t.
     let a = small_cons (codes "back") r 1 r [] rows z in
-    (Yes, Back (kept a.0), (λ earlier e. (tt, a.3)), refl, a.2 ∙ ap (λ (t : List Record). small_record (codes "back") a.0 ∷ t) (zip_none a.1 a.4), t, t, refl))
+    (Yes, Back (kept a.0), (tt, a.3), refl, a.2 ∙ ap (λ (t : List Record). small_record (codes "back") a.0 ∷ t) (zip_none a.1 a.4), t, t, refl))
 reversible_answered known h rows nodes (form, inr (inl e), fits) =
     let f : Fits (head (codes "q3") 2 no (small 1 1 (length known.net.reactions) ∷ [])) h = subst (λ (f : Form). Fits f h) e fits in
     let n = one_number 1 (length known.net.reactions) h.numbers f.1 in
-    at_head known Q3 h (head_with Q3 no (pos n.0 ∷ [])) rows nodes (record_is h (codes "q3" ∷ no) (pos n.0 ∷ []) f.0 n.1) (λ z t. (NoReaction n.0, Nothing, (λ earlier e. (n.2, tt)), refl, zip_none rows z, t, t, refl))
+    at_head known Q3 h (head_with Q3 no (pos n.0 ∷ [])) rows nodes (record_is h (codes "q3" ∷ no) (pos n.0 ∷ []) f.0 n.1) (λ z t. (NoReaction n.0, Nothing, (n.2, tt), refl, zip_none rows z, t, t, refl))
 reversible_answered known h rows nodes (form, inr (inr none), fits) = absurd none
 
 pub weak_answered : (known : Known) (h : Record) (rows nodes : List Record) → IsOneOf (heads Q4 (sizes_of known)) h → FromParts known Q4 h rows nodes
 weak_answered known h rows nodes (form, inl e, fits) =
     let f : Fits (head (codes "q4") 1 yes []) h = subst (λ (f : Form). Fits f h) e fits in
-    at_head known Q4 h (head_with Q4 yes []) rows nodes (record_is h (codes "q4" ∷ yes) [] f.0 f.1) (λ z t. (Yes, Nothing, (λ earlier e. (tt, tt)), refl, zip_none rows z, t, t, refl))
+    at_head known Q4 h (head_with Q4 yes []) rows nodes (record_is h (codes "q4" ∷ yes) [] f.0 f.1) (λ z t. (Yes, Nothing, (tt, tt), refl, zip_none rows z, t, t, refl))
 weak_answered known h rows nodes (form, inr (inl e), fits) =
     let f : Fits (head (codes "q4") 2 no (small 1 1 (length known.net.reactions) ∷ [])) h = subst (λ (f : Form). Fits f h) e fits in
     let n = one_number 1 (length known.net.reactions) h.numbers f.1 in
-    at_head known Q4 h (head_with Q4 no (pos n.0 ∷ [])) rows nodes (record_is h (codes "q4" ∷ no) (pos n.0 ∷ []) f.0 n.1) (λ z t. (NoReaction n.0, Nothing, (λ earlier e. (n.2, tt)), refl, zip_none rows z, t, t, refl))
+    at_head known Q4 h (head_with Q4 no (pos n.0 ∷ [])) rows nodes (record_is h (codes "q4" ∷ no) (pos n.0 ∷ []) f.0 n.1) (λ z t. (NoReaction n.0, Nothing, (n.2, tt), refl, zip_none rows z, t, t, refl))
 weak_answered known h rows nodes (form, inr (inr none), fits) = absurd none

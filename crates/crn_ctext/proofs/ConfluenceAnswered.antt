@@ -17,13 +17,12 @@ use Rattle.crn_ctext.specs.Questions.{Sizes, heads, head, yes, no_by, none_by, w
 use Rattle.crn_ctext.specs.Documents.{one_word, IsOneOf}
 use Rattle.crn_ctext.specs.Answers.{small_record, side_records, head_with, open_head}
 use Rattle.crn_ctext.specs.Meaning.{Known, pairs_of, sizes_of, verdict_of}
-use Rattle.crn_ctext.proofs.TestsAlike.{pairs_alike}
 use Rattle.crn_ctext.proofs.KnownBefore.{IsStrong, pairs_known}
 use Rattle.crn_ctext.proofs.ConfluenceLinked.{tie_width}
 use Rattle.crn_ctext.proofs.RanksLinked.{naturals_back, record_is, free_row, free_rows_back, FitFields, number_back, wide_back}
 use Rattle.crn_ctext.proofs.PartsAnswered.{one_number, zip_none, FromParts, kept, at_head}
 use Rattle.crn_ctext.proofs.RanksAnswered.{open_by_wide, kept_ints, free_alone}
-use Rattle.crn_ctext.proofs.TheoremsAnswered.{rests_back, class_numbers, same_class}
+use Rattle.crn_ctext.proofs.TheoremsAnswered.{rests_back, class_numbers}
 
 -- ---- regularity
 
@@ -72,7 +71,7 @@ regular_by known rows nodes k z t =
     let b = sides_back (sizes_of known) pairs rows z in (
       Yes,
       Sides b.0,
-      (λ earlier e. (tt, record { long = b.2 ∙ ap (λ (t : List ℕ). length t) (pairs_known known k ∙ pairs_alike known.net known.earlier earlier e); each = b.3 })),
+      (tt, record { long = b.2 ∙ ap (λ (t : List ℕ). length t) (pairs_known known k); each = b.3 }),
       refl,
       b.1 ∙ sym (append-nil (side_records pairs b.0)),
       t,
@@ -86,7 +85,7 @@ cycle_by known n rows nodes range z t =
     let b = walk_back (length known.net.complexes) rows z in (
       NoCycle n (kept b.0),
       Nothing,
-      (λ earlier e. (range, record { some = b.2.0; few = b.2.1; each = b.2.2 })),
+      (range, record { some = b.2.0; few = b.2.1; each = b.2.2 }),
       refl,
       b.1,
       t,
@@ -102,17 +101,17 @@ regular_answered known h rows nodes k (form, inr (inl e), fits) =
     let f : Fits (head (codes "q11") 2 (no_by (codes "terminal")) (small 1 1 (classes (sizes_of known)) ∷ small 1 2 (length known.net.complexes) ∷ [])) h = subst (λ (f : Form). Fits f h) e fits in
     let n = class_numbers known h.numbers f.1 in
     at_head known Q11 h (head_with Q11 (no_by (codes "terminal")) (pos n.0 ∷ pos n.1 ∷ [])) rows nodes (record_is h (codes "q11" ∷ no_by (codes "terminal")) (pos n.0 ∷ pos n.1 ∷ []) f.0 n.2)
-    (λ z t. (NoTerminal n.0 n.1, Nothing, (λ earlier e. ((same_class known earlier n.0 e n.3, n.4), tt)), refl, zip_none rows z, t, t, refl))
+    (λ z t. (NoTerminal n.0 n.1, Nothing, ((n.3, n.4), tt), refl, zip_none rows z, t, t, refl))
 regular_answered known h rows nodes k (form, inr (inr (inl e)), fits) =
     let f : Fits (head (codes "q11") 3 (no_by (codes "dependence")) []) h = subst (λ (f : Form). Fits f h) e fits in
-    at_head known Q11 h (head_with Q11 (no_by (codes "dependence")) []) rows nodes (record_is h (codes "q11" ∷ no_by (codes "dependence")) [] f.0 f.1) (λ z t. (NoDependence, Nothing, (λ earlier e. (tt, tt)), refl, zip_none rows z, t, t, refl))
+    at_head known Q11 h (head_with Q11 (no_by (codes "dependence")) []) rows nodes (record_is h (codes "q11" ∷ no_by (codes "dependence")) [] f.0 f.1) (λ z t. (NoDependence, Nothing, (tt, tt), refl, zip_none rows z, t, t, refl))
 regular_answered known h rows nodes k (form, inr (inr (inr (inl e))), fits) =
     let f : Fits (head (codes "q11") 4 (no_by (codes "cycle")) (small 1 1 (length known.net.reactions) ∷ [])) h = subst (λ (f : Form). Fits f h) e fits in
     let n = one_number 1 (length known.net.reactions) h.numbers f.1 in
     at_head known Q11 h (head_with Q11 (no_by (codes "cycle")) (pos n.0 ∷ [])) rows nodes (record_is h (codes "q11" ∷ no_by (codes "cycle")) (pos n.0 ∷ []) f.0 n.1) (cycle_by known n.0 rows nodes n.2)
 regular_answered known h rows nodes k (form, inr (inr (inr (inr (inl e)))), fits) =
     let f : Fits (rests (codes "q11") 7 7) h = subst (λ (f : Form). Fits f h) e fits in
-    at_head known Q11 h (open_head Q11 (Rests 7)) rows nodes (rests_back (codes "q11") 7 7 h f) (λ z t. (Unknown (Rests 7), Nothing, (λ earlier e. (refl, refl)), refl, zip_none rows z, t, t, refl))
+    at_head known Q11 h (open_head Q11 (Rests 7)) rows nodes (rests_back (codes "q11") 7 7 h f) (λ z t. (Unknown (Rests 7), Nothing, (refl, refl), refl, zip_none rows z, t, t, refl))
 regular_answered known h rows nodes k (form, inr (inr (inr (inr (inr none)))), fits) = absurd none
 
 -- ---- confluence vectors
@@ -142,7 +141,7 @@ vector_by known rows nodes z t =
     let b = vector_back c (c - 1) (length known.net.names + classes (sizes_of known)) rows z in (
       YesVec (kept_ints b.0),
       Ties b.1,
-      (λ earlier e. (tt, (b.3.0, subst (λ (w : ℕ). AreFreeRows (c - 1) w b.1) (sym (tie_width known earlier e)) b.3.1))),
+      (tt, (b.3.0, subst (λ (w : ℕ). AreFreeRows (c - 1) w b.1) (sym (tie_width known)) b.3.1)),
       refl,
       b.2 ∙ ap (λ (rs : List Record). one_word (codes "vec") b.0 ∷ rs) (sym (append-nil (map (one_word (codes "tie")) b.1))),
       t,
@@ -156,7 +155,7 @@ zeros_by known rows nodes z t =
     let b = free_rows_back (codes "tie") c (length known.net.names + classes (sizes_of known)) rows z in (
       OnlyZero,
       Ties b.0,
-      (λ earlier e. (tt, subst (λ (w : ℕ). AreFreeRows c w b.0) (sym (tie_width known earlier e)) b.2)),
+      (tt, subst (λ (w : ℕ). AreFreeRows c w b.0) (sym (tie_width known)) b.2),
       refl,
       b.1 ∙ sym (append-nil (map (one_word (codes "tie")) b.0)),
       t,
@@ -178,7 +177,7 @@ plane_by known a b rows nodes range z t =
     let v = free_pair (codes "vec") (codes "vec") (length known.net.complexes) rows z in (
       Plane a b (kept_ints v.0) (kept_ints v.1),
       Nothing,
-      (λ earlier e. (range, (v.3.0, v.3.1))),
+      (range, (v.3.0, v.3.1)),
       refl,
       v.2,
       t,
@@ -193,7 +192,7 @@ confluence_answered known h rows nodes (form, inl e, fits) =
     at_head known Q12 h (head_with Q12 yes []) rows nodes (record_is h (codes "q12" ∷ yes) [] f.0 f.1) (vector_by known rows nodes)
 confluence_answered known h rows nodes (form, inr (inl e), fits) =
     let f : Fits (head (codes "q12") 2 (none_by (codes "regular")) []) h = subst (λ (f : Form). Fits f h) e fits in
-    at_head known Q12 h (head_with Q12 (none_by (codes "regular")) []) rows nodes (record_is h (codes "q12" ∷ none_by (codes "regular")) [] f.0 f.1) (λ z t. (NotRegular, Nothing, (λ earlier e. (tt, tt)), refl, zip_none rows z, t, t, refl))
+    at_head known Q12 h (head_with Q12 (none_by (codes "regular")) []) rows nodes (record_is h (codes "q12" ∷ none_by (codes "regular")) [] f.0 f.1) (λ z t. (NotRegular, Nothing, (tt, tt), refl, zip_none rows z, t, t, refl))
 confluence_answered known h rows nodes (form, inr (inr (inl e)), fits) =
     let f : Fits (head (codes "q12") 3 (none_by (codes "zero")) []) h = subst (λ (f : Form). Fits f h) e fits in
     at_head known Q12 h (head_with Q12 (none_by (codes "zero")) []) rows nodes (record_is h (codes "q12" ∷ none_by (codes "zero")) [] f.0 f.1) (zeros_by known rows nodes)
@@ -207,8 +206,8 @@ confluence_answered known h rows nodes (form, inr (inr (inr (inr (inl e)))), fit
     let f : Fits (wide (codes "q12") 5 4 c width) h = subst (λ (f : Form). Fits f h) e fits in
     let b = wide_back 4 c width h.numbers f.1 in
     at_head known Q12 h (open_head Q12 (Wide 4 0 b.0 (kept b.1))) rows nodes (record_is h (codes "q12" ∷ open_by (codes "wide")) (map pos (4 ∷ 0 ∷ b.0 ∷ b.1)) f.0 b.2) (λ z t.
-    (Unknown (Wide 4 0 b.0 (kept b.1)), Nothing, (λ earlier e. ((refl, refl, subst (λ (w : ℕ). IsBasisOf c w b.0 b.1) (sym (tie_width known earlier e)) b.3), refl)), refl, zip_none rows z, t, t, open_by_wide known Q12 4 0 b.0 b.1 rows))
+    (Unknown (Wide 4 0 b.0 (kept b.1)), Nothing, ((refl, refl, subst (λ (w : ℕ). IsBasisOf c w b.0 b.1) (sym (tie_width known)) b.3), refl), refl, zip_none rows z, t, t, open_by_wide known Q12 4 0 b.0 b.1 rows))
 confluence_answered known h rows nodes (form, inr (inr (inr (inr (inr (inl e))))), fits) =
     let f : Fits (rests (codes "q12") 7 11) h = subst (λ (f : Form). Fits f h) e fits in
-    at_head known Q12 h (open_head Q12 (Rests 11)) rows nodes (rests_back (codes "q12") 7 11 h f) (λ z t. (Unknown (Rests 11), Nothing, (λ earlier e. (refl, refl)), refl, zip_none rows z, t, t, refl))
+    at_head known Q12 h (open_head Q12 (Rests 11)) rows nodes (rests_back (codes "q12") 7 11 h f) (λ z t. (Unknown (Rests 11), Nothing, (refl, refl), refl, zip_none rows z, t, t, refl))
 confluence_answered known h rows nodes (form, inr (inr (inr (inr (inr (inr none))))), fits) = absurd none

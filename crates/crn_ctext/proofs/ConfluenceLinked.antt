@@ -12,26 +12,24 @@ use Rattle.crn_cert.specs.declared.answer.Verdict.{Verdict}
 use Rattle.crn_cert.specs.declared.answer.Verdict.TheVariants.{Yes, YesVec, NoTerminal, NoDependence, NoCycle, NotRegular, OnlyZero, Plane, Unknown}
 use Rattle.crn_cert.specs.declared.answer.Proof.{Proof}
 use Rattle.crn_cert.specs.declared.answer.Proof.TheVariants.{Nothing, Sides, Ties}
-use Rattle.crn_cert.specs.Questions.{Earlier, Q1, Q2, Q11, Q12, on}
-use Rattle.crn_cert.specs.Tests.{Test, test, AllHold}
+use Rattle.crn_cert.specs.Questions.{Earlier, Q2, Q11, Q12, on}
+use Rattle.crn_cert.specs.Tests.{Test, test}
 use Rattle.crn_cert.specs.ClassTests.{IsWayRound}
 use Rattle.crn_cert.specs.ConfluenceTests.{least_from, others_than, tie_tests}
 use Rattle.crn_cert.specs.Ranges.{IsFrom, AreBits, AreFree, AreFreeRows}
 use Rattle.crn_cert.specs.Formed.{IsBasisOf, AreSides, IsWalkList, IsFormedOf}
-use Rattle.crn_cert.specs.Valid.{linkage, linkage_count, pair_places, side_tests}
+use Rattle.crn_cert.specs.Valid.{linkage, linkage_count, pair_places, side_tests, IsNormal}
 use Rattle.crn_ctext.specs.Records.{Record, AreBetween, Fits}
 use Rattle.crn_ctext.specs.Kinds.{small, free_form}
 use Rattle.crn_ctext.specs.Questions.{Sizes, side_form, classes as classes_of, later_numbers}
 use Rattle.crn_ctext.specs.Documents.{one_word}
 use Rattle.crn_ctext.specs.Answers.{side_records}
 use Rattle.crn_ctext.specs.Meaning.{Known, pairs_of, sizes_of, lists}
-use Rattle.crn_ctext.specs.Same.{shown}
-use Rattle.crn_ctext.proofs.Alike.{IsAlike, counts_alike}
-use Rattle.crn_ctext.proofs.TestsAlike.{split_alike, pairs_alike, regular_alike, independent_alike, cycle_alike, sides_alike, regular_yes_alike, regular_no_alike, normal_moves, ties_alike, apart_moves}
+use Rattle.crn_ctext.proofs.Shown.{shown}
 use Rattle.crn_ctext.proofs.KnownBefore.{IsStrong, pairs_known}
 use Rattle.crn_ctext.proofs.MeaningShort.{lists_counted}
 use Rattle.crn_ctext.proofs.RanksLinked.{between, free_fits, free_rows_fit, number_then, wide_fits}
-use Rattle.crn_ctext.proofs.Joined.{IsLinked, IsTied, both_hold, tied, answer, open_as}
+use Rattle.crn_ctext.proofs.Joined.{IsLinked, answer, open_as}
 use Rattle.crn_ctext.proofs.Linking.{number_fits, class_fits, without_proof}
 
 -- ---- sides
@@ -62,11 +60,11 @@ sides_said (r ∷ rs) (marks ∷ sides) e = ap (λ (t : List (List ℤ)). marks 
 
 -- ---- regularity
 
-regular_sides : (known : Known) (earlier : Earlier) (sides : List (List ℤ)) → IsStrong (on known.earlier Q2) → IsAlike known earlier → AreSides known.net (pair_places known.net earlier) sides → IsLinked known earlier Q11 (answer Yes (Sides sides))
-regular_sides known earlier sides k e f =
+regular_sides : (known : Known) (sides : List (List ℤ)) → IsStrong (on known.earlier Q2) → AreSides known.net (pair_places known.net known.earlier) sides → IsLinked known Q11 (answer Yes (Sides sides))
+regular_sides known sides k f =
     let net = known.net in
     let pairs = pairs_of known in
-    let same : pairs ≡ pair_places net earlier = pairs_known known k ∙ pairs_alike net known.earlier earlier e in
+    let same : pairs ≡ pair_places net known.earlier = pairs_known known k in
     let count = f.long in
     let each = f.each in
     let long : length sides ≡ length pairs = count ∙ ap (λ (t : List ℕ). length t) (sym same) in
@@ -78,8 +76,8 @@ regular_sides known earlier sides k e f =
         rows = subst (λ (rs : List Record). AllZip Fits (map (side_form (sizes_of known)) pairs) rs) (sym bare) (sides_fit (sizes_of known) pairs sides long each);
         trees = refl;
       };
-      heads = regular_alike known.earlier earlier e;
-      rows = ap (λ (t : List (List ℤ)). side_tests net known.earlier 1 (pair_places net known.earlier) t) said_sides ∙ sides_alike net known.earlier earlier e sides;
+      heads = refl;
+      rows = ap (λ (t : List (List ℤ)). side_tests net known.earlier 1 (pair_places net known.earlier) t) said_sides;
       says = refl;
       shows = ap (λ (t : List (List ℤ)). shown (Sides t)) said_sides;
     }
@@ -87,9 +85,9 @@ regular_sides known earlier sides k e f =
 walk_tests : Net → ℕ → List ℕ → List Test
 walk_tests net r walk = test 1 32 (IsWayRound net r walk) ∷ []
 
-regular_cycle : (known : Known) (earlier : Earlier) (r : ℕ) (walk : KeptNums) → IsAlike known earlier → IsFrom 1 (length known.net.reactions) r → IsWalkList known.net walk.list → IsLinked known earlier Q11 (answer (NoCycle r walk) Nothing)
+regular_cycle : (known : Known) (r : ℕ) (walk : KeptNums) → IsFrom 1 (length known.net.reactions) r → IsWalkList known.net walk.list → IsLinked known Q11 (answer (NoCycle r walk) Nothing)
 unfolding walk_tests
-regular_cycle known earlier r walk e range w =
+regular_cycle known r walk range w =
     let c = length known.net.complexes in
     let some = w.some in
     let few = w.few in
@@ -100,14 +98,14 @@ regular_cycle known earlier r walk e range w =
         rows = ((refl, (map pos walk.list, [], sym (append-nil (map pos walk.list)), ((omega (arith, some, length-map walk.list pos), omega (arith, few, length-map walk.list pos), between 1 c walk.list each), tt), refl)), tt);
         trees = refl;
       };
-      heads = cycle_alike known.net known.earlier earlier e r;
+      heads = refl;
       rows = ap (λ (x : List ℕ). walk_tests known.net r x) (abs_back walk.list);
       says = ap (λ (x : List ℕ). NoCycle r (record { list = x; spare = 0 })) (abs_back walk.list);
       shows = refl;
     }
 
-regular_rests : (known : Known) (earlier : Earlier) → IsLinked known earlier Q11 (answer (Unknown (Rests 7)) Nothing)
-regular_rests known earlier =
+regular_rests : (known : Known) → IsLinked known Q11 (answer (Unknown (Rests 7)) Nothing)
+regular_rests known =
     record {
       formed = record { head = (_, inr (inr (inr (inr (inl refl)))), (refl, number_then 7 7 7 [] [] (omega arith) (omega arith) refl)); rows = tt; trees = refl };
       heads = refl;
@@ -116,34 +114,34 @@ regular_rests known earlier =
       shows = refl;
     }
 
-pub regular_linked : (known : Known) (earlier : Earlier) (v : Verdict) (p : Proof) → IsStrong (on known.earlier Q2) → IsAlike known earlier → IsFormedOf known.net earlier Q11 v p → IsLinked known earlier Q11 (answer v p)
-regular_linked known earlier Yes (Sides sides) k e f = regular_sides known earlier sides k e f.1
-regular_linked known earlier (NoTerminal class count) Nothing k e f =
+pub regular_linked : (known : Known) (v : Verdict) (p : Proof) → IsStrong (on known.earlier Q2) → IsFormedOf known.net known.earlier Q11 v p → IsLinked known Q11 (answer v p)
+regular_linked known Yes (Sides sides) k f = regular_sides known sides k f.1
+regular_linked known (NoTerminal class count) Nothing k f =
     record {
-      formed = record { head = (_, inr (inl refl), (refl, class_fits known earlier class count e f.0.0 f.0.1)); rows = tt; trees = refl };
-      heads = split_alike known.earlier earlier e class count;
+      formed = record { head = (_, inr (inl refl), (refl, class_fits known class count f.0.0 f.0.1)); rows = tt; trees = refl };
+      heads = refl;
       rows = refl;
       says = refl;
       shows = refl;
     }
-regular_linked known earlier NoDependence Nothing k e f =
+regular_linked known NoDependence Nothing k f =
     record {
       formed = record { head = (_, inr (inr (inl refl)), (refl, refl)); rows = tt; trees = refl };
-      heads = independent_alike known.earlier earlier e;
+      heads = refl;
       rows = refl;
       says = refl;
       shows = refl;
     }
-regular_linked known earlier (NoCycle r walk) Nothing k e f = regular_cycle known earlier r walk e f.0 f.1
-regular_linked known earlier (Unknown (Wide system class index basis)) p k e f = absurd f.0
-regular_linked known earlier (Unknown (Budget nodes)) p k e f = absurd f.0
-regular_linked known earlier (Unknown (Rests question)) p k e f =
-    subst (λ (x : ℕ). IsLinked known earlier Q11 (answer (Unknown (Rests x)) p)) f.0 (without_proof known earlier Q11 (Unknown (Rests 7)) p f.1 (regular_rests known earlier))
-regular_linked known earlier Yes p k e f = absurd f.1
-regular_linked known earlier (NoTerminal class count) p k e f = absurd f.1
-regular_linked known earlier NoDependence p k e f = absurd f.1
-regular_linked known earlier (NoCycle r walk) p k e f = absurd f.1
-regular_linked known earlier v p k e f = absurd f.0
+regular_linked known (NoCycle r walk) Nothing k f = regular_cycle known r walk f.0 f.1
+regular_linked known (Unknown (Wide system class index basis)) p k f = absurd f.0
+regular_linked known (Unknown (Budget nodes)) p k f = absurd f.0
+regular_linked known (Unknown (Rests question)) p k f =
+    subst (λ (x : ℕ). IsLinked known Q11 (answer (Unknown (Rests x)) p)) f.0 (without_proof known Q11 (Unknown (Rests 7)) p f.1 (regular_rests known))
+regular_linked known Yes p k f = absurd f.1
+regular_linked known (NoTerminal class count) p k f = absurd f.1
+regular_linked known NoDependence p k f = absurd f.1
+regular_linked known (NoCycle r walk) p k f = absurd f.1
+regular_linked known v p k f = absurd f.0
 
 -- ---- ties
 
@@ -153,12 +151,12 @@ ties_said [] = refl
 ties_said (tie ∷ ties) = ap (λ (t : List (List ℤ)). tie ∷ t) (ties_said ties)
 
 -- as many numbers as species and classes
-pub tie_width : (known : Known) (earlier : Earlier) → IsAlike known earlier → length known.net.names + linkage_count earlier ≡ length known.net.names + classes_of (sizes_of known)
-tie_width known earlier e = ap (λ (n : ℕ). length known.net.names + n) (sym (lists_counted known ∙ counts_alike known.earlier earlier Q1 e))
+pub tie_width : (known : Known) → length known.net.names + linkage_count known.earlier ≡ length known.net.names + classes_of (sizes_of known)
+tie_width known = ap (λ (n : ℕ). length known.net.names + n) (sym (lists_counted known))
 
-ties_fit : (known : Known) (earlier : Earlier) (count : ℕ) (ties : List (List ℤ)) → IsAlike known earlier → AreFreeRows count (length known.net.names + linkage_count earlier) ties
+ties_fit : (known : Known) (count : ℕ) (ties : List (List ℤ)) → AreFreeRows count (length known.net.names + linkage_count known.earlier) ties
     → AreFreeRows count (length known.net.names + classes_of (sizes_of known)) ties
-ties_fit known earlier count ties e a = subst (λ (w : ℕ). AreFreeRows count w ties) (tie_width known earlier e) a
+ties_fit known count ties a = subst (λ (w : ℕ). AreFreeRows count w ties) (tie_width known) a
 
 -- ---- confluence vectors
 
@@ -170,9 +168,9 @@ ties_of net earlier spared part cs ties = tie_tests net (linkage earlier) (linka
 ties_alone : (ties : List (List ℤ)) → lists (map (one_word (codes "tie")) ties ++ []) ≡ ties
 ties_alone ties = ap (λ (rs : List Record). lists rs) (append-nil (map (one_word (codes "tie")) ties)) ∙ ties_said ties
 
-confluence_vector : (known : Known) (earlier : Earlier) (vector : KeptInts) (ties : List (List ℤ)) → IsAlike known earlier → AreFree (length known.net.complexes) vector.list
-    → AreFreeRows (length known.net.complexes - 1) (length known.net.names + linkage_count earlier) ties → IsTied known earlier Q12 (answer (YesVec vector) (Ties ties))
-confluence_vector known earlier vector ties e free rows =
+confluence_vector : (known : Known) (vector : KeptInts) (ties : List (List ℤ)) → AreFree (length known.net.complexes) vector.list
+    → AreFreeRows (length known.net.complexes - 1) (length known.net.names + linkage_count known.earlier) ties → IsLinked known Q12 (answer (YesVec vector) (Ties ties))
+confluence_vector known vector ties free rows =
     let net = known.net in
     let c = length net.complexes in
     let g = vector.list in
@@ -181,25 +179,20 @@ confluence_vector known earlier vector ties e free rows =
     let bare : records_are ++ [] ≡ records_are = append-nil records_are in
     let spared : ℕ → Type 0 = λ d. d ≡ least_from 0 g in
     let cs = others_than net (least_from 0 g) in
-    let alike : ties_of net known.earlier spared 2 cs (lists (records_are ++ [])) ≡ ties_of net earlier spared 2 cs ties
-    = ap (λ (t : List (List ℤ)). ties_of net known.earlier spared 2 cs t) (ties_alone ties) ∙ ties_alike net known.earlier earlier e spared 2 cs ties in
     record {
       formed = record {
         head = (_, inl refl, (refl, refl));
-        rows = (free_fits (codes "vec") c g free, subst (λ (rs : List Record). AllZip Fits (replicate (c - 1) (free_form (codes "tie") width)) rs) (sym bare) (free_rows_fit (codes "tie") (c - 1) width ties (ties_fit known earlier (c - 1) ties e rows)));
+        rows = (free_fits (codes "vec") c g free, subst (λ (rs : List Record). AllZip Fits (replicate (c - 1) (free_form (codes "tie") width)) rs) (sym bare) (free_rows_fit (codes "tie") (c - 1) width ties (ties_fit known (c - 1) ties rows)));
         trees = refl;
       };
-      heads = both_hold _ _ (regular_yes_alike known.earlier earlier e);
-      rows = (
-        (λ h. (normal_moves net known.earlier earlier e g h.0, subst AllHold alike h.1)),
-        (λ h. (normal_moves net earlier known.earlier (sym e) g h.0, subst AllHold (sym alike) h.1)),
-      );
+      heads = refl;
+      rows = ap (λ (t : List (List ℤ)). test 1 35 (IsNormal net known.earlier g) ∷ ties_of net known.earlier spared 2 cs t) (ties_alone ties);
       says = refl;
       shows = ap (λ (t : List (List ℤ)). shown (Ties t)) (ties_alone ties);
     }
 
-confluence_zero : (known : Known) (earlier : Earlier) (ties : List (List ℤ)) → IsAlike known earlier → AreFreeRows (length known.net.complexes) (length known.net.names + linkage_count earlier) ties → IsLinked known earlier Q12 (answer OnlyZero (Ties ties))
-confluence_zero known earlier ties e rows =
+confluence_zero : (known : Known) (ties : List (List ℤ)) → AreFreeRows (length known.net.complexes) (length known.net.names + linkage_count known.earlier) ties → IsLinked known Q12 (answer OnlyZero (Ties ties))
+confluence_zero known ties rows =
     let net = known.net in
     let c = length net.complexes in
     let width = length net.names + classes_of (sizes_of known) in
@@ -209,18 +202,18 @@ confluence_zero known earlier ties e rows =
     record {
       formed = record {
         head = (_, inr (inr (inl refl)), (refl, refl));
-        rows = subst (λ (rs : List Record). AllZip Fits (replicate c (free_form (codes "tie") width)) rs) (sym bare) (free_rows_fit (codes "tie") c width ties (ties_fit known earlier c ties e rows));
+        rows = subst (λ (rs : List Record). AllZip Fits (replicate c (free_form (codes "tie") width)) rs) (sym bare) (free_rows_fit (codes "tie") c width ties (ties_fit known c ties rows));
         trees = refl;
       };
-      heads = regular_yes_alike known.earlier earlier e;
-      rows = ap (λ (t : List (List ℤ)). ties_of net known.earlier (λ d. ⊥) 1 cs t) (ties_alone ties) ∙ ties_alike net known.earlier earlier e (λ d. ⊥) 1 cs ties;
+      heads = refl;
+      rows = ap (λ (t : List (List ℤ)). ties_of net known.earlier (λ d. ⊥) 1 cs t) (ties_alone ties);
       says = refl;
       shows = ap (λ (t : List (List ℤ)). shown (Ties t)) (ties_alone ties);
     }
 
-confluence_plane : (known : Known) (earlier : Earlier) (first second : ℕ) (one two : KeptInts) → IsAlike known earlier → IsFrom 1 (length known.net.complexes) first → IsFrom 1 (length known.net.complexes) second → first ≢ second
-    → AreFree (length known.net.complexes) one.list → AreFree (length known.net.complexes) two.list → IsTied known earlier Q12 (answer (Plane first second one two) Nothing)
-confluence_plane known earlier first second one two e a b other x y =
+confluence_plane : (known : Known) (first second : ℕ) (one two : KeptInts) → IsFrom 1 (length known.net.complexes) first → IsFrom 1 (length known.net.complexes) second → first ≢ second
+    → AreFree (length known.net.complexes) one.list → AreFree (length known.net.complexes) two.list → IsLinked known Q12 (answer (Plane first second one two) Nothing)
+confluence_plane known first second one two a b other x y =
     let net = known.net in
     let c = length net.complexes in
     record {
@@ -233,31 +226,28 @@ confluence_plane known earlier first second one two e a b other x y =
         rows = (free_fits (codes "vec") c one.list x, (free_fits (codes "vec") c two.list y, tt));
         trees = refl;
       };
-      heads = both_hold _ _ (regular_yes_alike known.earlier earlier e);
-      rows = (
-        (λ h. (apart_moves net known.earlier earlier e first second one.list h.0, (apart_moves net known.earlier earlier e second first two.list h.1.0, tt))),
-        (λ h. (apart_moves net earlier known.earlier (sym e) first second one.list h.0, (apart_moves net earlier known.earlier (sym e) second first two.list h.1.0, tt))),
-      );
-      says = refl;
-      shows = refl;
-    }
-
-confluence_none : (known : Known) (earlier : Earlier) → IsAlike known earlier → IsLinked known earlier Q12 (answer NotRegular Nothing)
-confluence_none known earlier e =
-    record {
-      formed = record { head = (_, inr (inl refl), (refl, refl)); rows = tt; trees = refl };
-      heads = regular_no_alike known.earlier earlier e;
+      heads = refl;
       rows = refl;
       says = refl;
       shows = refl;
     }
 
-confluence_open : (known : Known) (earlier : Earlier) (index : ℕ) (basis : KeptNums) → IsAlike known earlier → IsBasisOf (length known.net.complexes) (length known.net.names + linkage_count earlier) index basis.list
-    → IsLinked known earlier Q12 (answer (Unknown (Wide 4 0 index basis)) Nothing)
-confluence_open known earlier index basis e b =
+confluence_none : (known : Known) → IsLinked known Q12 (answer NotRegular Nothing)
+confluence_none known =
+    record {
+      formed = record { head = (_, inr (inl refl), (refl, refl)); rows = tt; trees = refl };
+      heads = refl;
+      rows = refl;
+      says = refl;
+      shows = refl;
+    }
+
+confluence_open : (known : Known) (index : ℕ) (basis : KeptNums) → IsBasisOf (length known.net.complexes) (length known.net.names + linkage_count known.earlier) index basis.list
+    → IsLinked known Q12 (answer (Unknown (Wide 4 0 index basis)) Nothing)
+confluence_open known index basis b =
     let c = length known.net.complexes in
     let width = length known.net.names + classes_of (sizes_of known) in
-    let here : IsBasisOf c width index basis.list = subst (λ (w : ℕ). IsBasisOf c w index basis.list) (tie_width known earlier e) b in
+    let here : IsBasisOf c width index basis.list = subst (λ (w : ℕ). IsBasisOf c w index basis.list) (tie_width known) b in
     record {
       formed = record { head = (_, inr (inr (inr (inr (inl refl)))), (refl, wide_fits 4 c width index basis.list here)); rows = tt; trees = refl };
       heads = refl;
@@ -266,8 +256,8 @@ confluence_open known earlier index basis e b =
       shows = refl;
     }
 
-confluence_rests : (known : Known) (earlier : Earlier) → IsLinked known earlier Q12 (answer (Unknown (Rests 11)) Nothing)
-confluence_rests known earlier =
+confluence_rests : (known : Known) → IsLinked known Q12 (answer (Unknown (Rests 11)) Nothing)
+confluence_rests known =
     record {
       formed = record { head = (_, inr (inr (inr (inr (inr (inl refl))))), (refl, number_then 11 11 11 [] [] (omega arith) (omega arith) refl)); rows = tt; trees = refl };
       heads = refl;
@@ -276,18 +266,18 @@ confluence_rests known earlier =
       shows = refl;
     }
 
-pub confluence_tied : (known : Known) (earlier : Earlier) (v : Verdict) (p : Proof) → IsAlike known earlier → IsFormedOf known.net earlier Q12 v p → IsTied known earlier Q12 (answer v p)
-confluence_tied known earlier (YesVec vector) (Ties ties) e f = confluence_vector known earlier vector ties e f.1.0 f.1.1
-confluence_tied known earlier NotRegular Nothing e f = tied known earlier Q12 (answer NotRegular Nothing) (confluence_none known earlier e)
-confluence_tied known earlier OnlyZero (Ties ties) e f = tied known earlier Q12 (answer OnlyZero (Ties ties)) (confluence_zero known earlier ties e f.1)
-confluence_tied known earlier (Plane first second one two) Nothing e f = confluence_plane known earlier first second one two e f.0.0 f.0.1 f.0.2 f.1.0 f.1.1
-confluence_tied known earlier (Unknown (Wide system class index basis)) p e f =
-    tied known earlier Q12 (answer (Unknown (Wide system class index basis)) p) (open_as known earlier Q12 system class index basis p 4 0 f.0.0 f.0.1 f.1 (confluence_open known earlier index basis e f.0.2))
-confluence_tied known earlier (Unknown (Budget nodes)) p e f = absurd f.0
-confluence_tied known earlier (Unknown (Rests question)) p e f =
-    tied known earlier Q12 (answer (Unknown (Rests question)) p) (subst (λ (x : ℕ). IsLinked known earlier Q12 (answer (Unknown (Rests x)) p)) f.0 (without_proof known earlier Q12 (Unknown (Rests 11)) p f.1 (confluence_rests known earlier)))
-confluence_tied known earlier (YesVec vector) p e f = absurd f.1
-confluence_tied known earlier NotRegular p e f = absurd f.1
-confluence_tied known earlier OnlyZero p e f = absurd f.1
-confluence_tied known earlier (Plane first second one two) p e f = absurd f.1
-confluence_tied known earlier v p e f = absurd f.0
+pub confluence_linked : (known : Known) (v : Verdict) (p : Proof) → IsFormedOf known.net known.earlier Q12 v p → IsLinked known Q12 (answer v p)
+confluence_linked known (YesVec vector) (Ties ties) f = confluence_vector known vector ties f.1.0 f.1.1
+confluence_linked known NotRegular Nothing f = confluence_none known
+confluence_linked known OnlyZero (Ties ties) f = confluence_zero known ties f.1
+confluence_linked known (Plane first second one two) Nothing f = confluence_plane known first second one two f.0.0 f.0.1 f.0.2 f.1.0 f.1.1
+confluence_linked known (Unknown (Wide system class index basis)) p f =
+    open_as known Q12 system class index basis p 4 0 f.0.0 f.0.1 f.1 (confluence_open known index basis f.0.2)
+confluence_linked known (Unknown (Budget nodes)) p f = absurd f.0
+confluence_linked known (Unknown (Rests question)) p f =
+    subst (λ (x : ℕ). IsLinked known Q12 (answer (Unknown (Rests x)) p)) f.0 (without_proof known Q12 (Unknown (Rests 11)) p f.1 (confluence_rests known))
+confluence_linked known (YesVec vector) p f = absurd f.1
+confluence_linked known NotRegular p f = absurd f.1
+confluence_linked known OnlyZero p f = absurd f.1
+confluence_linked known (Plane first second one two) p f = absurd f.1
+confluence_linked known v p f = absurd f.0

@@ -19,10 +19,9 @@ use Rattle.crn_ctext.specs.Answers.{nodes, proof_nodes, all_records}
 use Rattle.crn_ctext.specs.Documents.{Share, FitsShare, document, document2}
 use Rattle.crn_ctext.specs.Linked.{records_of}
 use Rattle.crn_ctext.specs.Meaning.{Known, meaning}
-use Rattle.crn_ctext.proofs.Alike.{IsAlike}
 use Rattle.crn_ctext.proofs.Joined.{parts, joined}
 use Rattle.crn_ctext.proofs.KnownBefore.{AreKnown, after}
-use Rattle.crn_ctext.proofs.AnswersLinked.{AreLinkedFor, known_after, built_linked, alike_after, known_next}
+use Rattle.crn_ctext.proofs.AnswersLinked.{AreLinkedFor, known_after, built_linked, known_next, formed_next}
 use Rattle.crn_ctext.proofs.TablesLinked.{IsTreeOrNone, tree_or_none}
 use Rattle.crn_ctext.proofs.SignalLinked.{HasSignalTrees, signal_trees}
 use Rattle.crn_ctext.proofs.WrittenAnswers.{IsShortQuestion, ShortFor, built_short, concordant_rows, strongly_rows}
@@ -102,26 +101,26 @@ few_for Q15 s = record {
 
 -- ---- all answers
 
-few_by : (b : Bool) (qs : List Question) → AreLinkedFor b qs → AllByRecursion ShortFor qs → (known : Known) (earlier : Earlier) (answers : List Answer) → AreKnown b known.earlier → IsAlike known earlier → AreFormed known.net earlier qs answers → HaveFewNodes MAX_BUDGET answers
+few_by : (b : Bool) (qs : List Question) → AreLinkedFor b qs → AllByRecursion ShortFor qs → (known : Known) (answers : List Answer) → AreKnown b known.earlier → AreFormed known.net known.earlier qs answers → HaveFewNodes MAX_BUDGET answers
     → AreFewNodes qs known (all_records meaning qs known answers)
 unfolding AreFewNodes all_records
-few_by b [] links shorts known earlier [] n e f few = refl
-few_by b [] links shorts known earlier (a ∷ answers) n e f few = absurd f
-few_by b (q ∷ qs) links shorts known earlier [] n e f few = absurd f
-few_by b (q ∷ qs) links shorts known earlier (a ∷ answers) n e f few =
+few_by b [] links shorts known [] n f few = refl
+few_by b [] links shorts known (a ∷ answers) n f few = absurd f
+few_by b (q ∷ qs) links shorts known [] n f few = absurd f
+few_by b (q ∷ qs) links shorts known (a ∷ answers) n f few =
     let j = joined b q links.0 in
     let formed = j.formed in
     let bound = few_for q shorts.0 in
     let nodes = bound.few in (
       parts q known a,
-      formed known earlier a.verdict a.proof n e f.0,
-      nodes known.net earlier a.verdict a.proof f.0.1 few.0,
-      few_by (after b q) qs links.1 shorts.1 (known_after q known a) (earlier ++ (q, a.verdict) ∷ []) answers (known_next b q known earlier a n e j f.0) (alike_after b q known earlier a n e j f.0) f.1 few.1,
+      formed known a.verdict a.proof n f.0,
+      nodes known.net known.earlier a.verdict a.proof f.0.1 few.0,
+      few_by (after b q) qs links.1 shorts.1 (known_after q known a) answers (known_next b q known a n j f.0) (formed_next b q qs known a answers n j f.0 f.1) few.1,
     )
 
 -- the records of formed answers whose trees have few nodes
 answers_few : (net : Net) (answers : List Answer) → AreFormed net [] built answers → HaveFewNodes MAX_BUDGET answers → AreFewNodes built (meaning.start net) (records_of net answers)
-answers_few net answers f few = few_by false built built_linked built_short (meaning.start net) [] answers tt refl f few
+answers_few net answers f few = few_by false built built_linked built_short (meaning.start net) answers tt f few
 
 -- ---- documents
 

@@ -1,5 +1,5 @@
 -- An answer and its records, in one or the other of two ways: by equations, if no tree follows them, or by what each gives for the other.
-use Rattle.std.proofs.Common.{◌↔◌, ◌≡◌, ◌++◌, ◌∙◌, ℕ, Bool, true, false, List, [], refl, sym, ap, ap₂, subst}
+use Rattle.std.proofs.Common.{◌≡◌, ◌++◌, ◌∙◌, ℕ, Bool, true, false, List, [], refl, sym, ap, ap₂, subst}
 use Rattle.std.proofs.lemmas.List.{append_cancel_left}
 use Rattle.crn_vec.specs.Kept.{KeptNums}
 use Rattle.crn_vec.specs.declared.signs.Sign.{Sign}
@@ -10,8 +10,9 @@ use Rattle.crn_cert.specs.declared.answer.Verdict.TheVariants.{Unknown}
 use Rattle.crn_cert.specs.declared.answer.Proof.{Proof}
 use Rattle.crn_cert.specs.declared.answer.Proof.TheVariants.{Nothing}
 use Rattle.crn_cert.specs.declared.answer.Answer.{Answer}
-use Rattle.crn_cert.specs.Questions.{Earlier, Question, Q1, Q2, Q3, Q4, Q5, Q6, Q7, Q8, Q9, Q10, Q11, Q12, Q13, Q14, Q15}
-use Rattle.crn_cert.specs.Tests.{Test, AllHold}
+use Rattle.crn_cert.specs.Questions.{Question, Q1, Q2, Q3, Q4, Q5, Q6, Q7, Q8, Q9, Q10, Q11, Q12, Q13, Q14, Q15}
+use Rattle.crn_cert.specs.Verdicts.{tight}
+use Rattle.crn_cert.specs.Tests.{AllHold}
 use Rattle.crn_cert.specs.Formed.{IsFormedOf}
 use Rattle.crn_cert.specs.Valid.{head_tests, row_tests, IsValid}
 use Rattle.crn_cert.proofs.CallerLemmas.{hold_append, hold_parts}
@@ -21,8 +22,7 @@ use Rattle.crn_ctext.specs.Documents.{Parts, IsFormed, AreTrees, IsGoodLeaf, IsO
 use Rattle.crn_ctext.specs.Documents as documents
 use Rattle.crn_ctext.specs.Answers.{head_of, records_below, proof_nodes, records}
 use Rattle.crn_ctext.specs.Meaning.{Known, shapes_of, sizes_of, verdict_of, proof_of, meaning}
-use Rattle.crn_ctext.specs.Same.{said, shown}
-use Rattle.crn_ctext.proofs.Alike.{IsAlike}
+use Rattle.crn_ctext.proofs.Shown.{shown}
 use Rattle.crn_ctext.proofs.KnownBefore.{AreKnown, IsStrongTrue}
 use Rattle.crn_ctext.proofs.AnswersApart.{block_apart}
 
@@ -33,11 +33,11 @@ abbrev pub parts : (q : Question) (known : Known) (a : Answer) → Parts (record
 parts q known a = record { head = head_of q a.verdict; rows = records_below (shapes_of known) a; nodes = proof_nodes a.proof; all = refl }
 
 -- the records are formed, their tests are those of the answer, and they say its verdict and its proof
-pub record IsLinked (known : Known) (earlier : Earlier) (q : Question) (a : Answer) : Type 1 where
+pub record IsLinked (known : Known) (q : Question) (a : Answer) : Type 1 where
   pub formed : IsFormed meaning q known (records q (shapes_of known) a) (parts q known a)
-  pub heads : head_claims meaning q known (head_of q a.verdict) ≡ head_tests known.net earlier q a.verdict
-  pub rows : row_claims meaning q known (head_of q a.verdict) (records_below (shapes_of known) a) ≡ row_tests known.net earlier q a.verdict a.proof
-  pub says : said (verdict_of q (sizes_of known) (head_of q a.verdict) (records_below (shapes_of known) a)) ≡ said a.verdict
+  pub heads : head_claims meaning q known (head_of q a.verdict) ≡ head_tests known.net known.earlier q a.verdict
+  pub rows : row_claims meaning q known (head_of q a.verdict) (records_below (shapes_of known) a) ≡ row_tests known.net known.earlier q a.verdict a.proof
+  pub says : verdict_of q (sizes_of known) (head_of q a.verdict) (records_below (shapes_of known) a) ≡ tight a.verdict
   pub shows : shown (proof_of q (shapes_of known) (head_of q a.verdict) (records_below (shapes_of known) a)) ≡ shown a.proof
 
 abbrev pub answer : Verdict → Proof → Answer
@@ -46,101 +46,69 @@ answer v p = record { verdict = v; proof = p }
 -- ---- open answers
 
 -- an answer that is open by this system and class has these numbers and no proof
-pub open_as : (known : Known) (earlier : Earlier) (q : Question) (system class index : ℕ) (basis : KeptNums) (p : Proof) (s c : ℕ) → system ≡ s → class ≡ c → p ≡ Nothing → IsLinked known earlier q (answer (Unknown (Wide s c index basis)) Nothing)
-    → IsLinked known earlier q (answer (Unknown (Wide system class index basis)) p)
-open_as known earlier q system class index basis p s c a b e l =
-    subst (λ (x : ℕ). IsLinked known earlier q (answer (Unknown (Wide x class index basis)) p)) (sym a) (subst (λ (x : ℕ). IsLinked known earlier q (answer (Unknown (Wide s x index basis)) p)) (sym b)
-    (subst (λ (x : Proof). IsLinked known earlier q (answer (Unknown (Wide s c index basis)) x)) (sym e) l))
+pub open_as : (known : Known) (q : Question) (system class index : ℕ) (basis : KeptNums) (p : Proof) (s c : ℕ) → system ≡ s → class ≡ c → p ≡ Nothing → IsLinked known q (answer (Unknown (Wide s c index basis)) Nothing)
+    → IsLinked known q (answer (Unknown (Wide system class index basis)) p)
+open_as known q system class index basis p s c a b e l =
+    subst (λ (x : ℕ). IsLinked known q (answer (Unknown (Wide x class index basis)) p)) (sym a) (subst (λ (x : ℕ). IsLinked known q (answer (Unknown (Wide s x index basis)) p)) (sym b)
+    (subst (λ (x : Proof). IsLinked known q (answer (Unknown (Wide s c index basis)) x)) (sym e) l))
 
 -- ---- tests
 
--- each formed answer to the question is linked, if what is known says the same as the earlier verdicts
+-- each formed answer to the question is linked, after the verdicts that are known
 abbrev pub IsLinkedFor : Question → Type 1
-IsLinkedFor q = (known : Known) (earlier : Earlier) (v : Verdict) (p : Proof) → IsAlike known earlier → IsFormedOf known.net earlier q v p → IsLinked known earlier q (answer v p)
+IsLinkedFor q = (known : Known) (v : Verdict) (p : Proof) → IsFormedOf known.net known.earlier q v p → IsLinked known q (answer v p)
 
--- The same, if the tests of the records hold if and only if those of the answer do.
-pub record IsTied (known : Known) (earlier : Earlier) (q : Question) (a : Answer) : Type 1 where
-  pub formed : IsFormed meaning q known (records q (shapes_of known) a) (parts q known a)
-  pub heads : AllHold (head_claims meaning q known (head_of q a.verdict)) ↔ AllHold (head_tests known.net earlier q a.verdict)
-  pub rows : AllHold (row_claims meaning q known (head_of q a.verdict) (records_below (shapes_of known) a)) ↔ AllHold (row_tests known.net earlier q a.verdict a.proof)
-  pub says : said (verdict_of q (sizes_of known) (head_of q a.verdict) (records_below (shapes_of known) a)) ≡ said a.verdict
-  pub shows : shown (proof_of q (shapes_of known) (head_of q a.verdict) (records_below (shapes_of known) a)) ≡ shown a.proof
-
-pub both_hold : (xs ys : List Test) → xs ≡ ys → AllHold xs ↔ AllHold ys
-both_hold xs ys e = ((λ h. subst AllHold e h), (λ h. subst AllHold (sym e) h))
-
-pub tied : (known : Known) (earlier : Earlier) (q : Question) (a : Answer) → IsLinked known earlier q a → IsTied known earlier q a
-tied known earlier q a l = record {
-  formed = l.formed;
-  heads = both_hold (head_claims meaning q known (head_of q a.verdict)) (head_tests known.net earlier q a.verdict) l.heads;
-  rows = both_hold (row_claims meaning q known (head_of q a.verdict) (records_below (shapes_of known) a)) (row_tests known.net earlier q a.verdict a.proof) l.rows;
-  says = l.says;
-  shows = l.shows;
-}
-
--- each formed answer to the question is tied, if what is known says the same as the earlier verdicts, and if the strong classes are known where they are said to be
-abbrev pub IsTiedFor : Bool → Question → Type 1
-IsTiedFor b q = (known : Known) (earlier : Earlier) (v : Verdict) (p : Proof) → AreKnown b known.earlier → IsAlike known earlier → IsFormedOf known.net earlier q v p → IsTied known earlier q (answer v p)
+-- the same, if the strong classes are known where they are said to be
+abbrev pub IsLinkedAfter : Bool → Question → Type 1
+IsLinkedAfter b q = (known : Known) (v : Verdict) (p : Proof) → AreKnown b known.earlier → IsFormedOf known.net known.earlier q v p → IsLinked known q (answer v p)
 
 -- ---- an answer by what it gives for its records and they for it
 
 -- the records of each formed answer to the question are formed, and valid if and only if it is, if the verdict on strong classes is true; they say its verdict, and answers with the same records are the same
 pub record IsJoinedFor (b : Bool) (q : Question) : Type 1 where
-  pub formed : (known : Known) (earlier : Earlier) (v : Verdict) (p : Proof) → AreKnown b known.earlier → IsAlike known earlier → IsFormedOf known.net earlier q v p → IsFormed meaning q known (records q (shapes_of known) (answer v p)) (parts q known (answer v p))
-  pub there : (known : Known) (earlier : Earlier) (v : Verdict) (p : Proof) → AreKnown b known.earlier → IsAlike known earlier → IsFormedOf known.net earlier q v p → IsValid known.net earlier q (answer v p)
+  pub formed : (known : Known) (v : Verdict) (p : Proof) → AreKnown b known.earlier → IsFormedOf known.net known.earlier q v p → IsFormed meaning q known (records q (shapes_of known) (answer v p)) (parts q known (answer v p))
+  pub there : (known : Known) (v : Verdict) (p : Proof) → AreKnown b known.earlier → IsFormedOf known.net known.earlier q v p → IsValid known.net known.earlier q (answer v p)
       → documents.IsValid meaning q known (records q (shapes_of known) (answer v p)) (parts q known (answer v p))
-  pub back : (known : Known) (earlier : Earlier) (v : Verdict) (p : Proof) → AreKnown b known.earlier → IsStrongTrue b known → IsAlike known earlier → IsFormedOf known.net earlier q v p
-      → documents.IsValid meaning q known (records q (shapes_of known) (answer v p)) (parts q known (answer v p)) → IsValid known.net earlier q (answer v p)
-  pub says : (known : Known) (earlier : Earlier) (v : Verdict) (p : Proof) → AreKnown b known.earlier → IsAlike known earlier → IsFormedOf known.net earlier q v p
-      → said (verdict_of q (sizes_of known) (head_of q v) (records_below (shapes_of known) (answer v p))) ≡ said v
-  pub shows : (known : Known) (earlier later : Earlier) (v w : Verdict) (p r : Proof) → AreKnown b known.earlier → IsAlike known earlier → IsAlike known later → IsFormedOf known.net earlier q v p → IsFormedOf known.net later q w r
+  pub back : (known : Known) (v : Verdict) (p : Proof) → AreKnown b known.earlier → IsStrongTrue b known → IsFormedOf known.net known.earlier q v p
+      → documents.IsValid meaning q known (records q (shapes_of known) (answer v p)) (parts q known (answer v p)) → IsValid known.net known.earlier q (answer v p)
+  pub says : (known : Known) (v : Verdict) (p : Proof) → AreKnown b known.earlier → IsFormedOf known.net known.earlier q v p
+      → verdict_of q (sizes_of known) (head_of q v) (records_below (shapes_of known) (answer v p)) ≡ tight v
+  pub shows : (known : Known) (v w : Verdict) (p r : Proof) → AreKnown b known.earlier → IsFormedOf known.net known.earlier q v p → IsFormedOf known.net known.earlier q w r
       → head_of q v ≡ head_of q w → records_below (shapes_of known) (answer v p) ≡ records_below (shapes_of known) (answer w r) → proof_nodes p ≡ proof_nodes r → shown p ≡ shown r
 
 -- formed trees of no problems are valid
 none_good : (ps : List {1} Problem) (rs : List Record) → ps ≡ [] → AreTrees (λ (problem : Problem) (prefix : List Sign) (r : Record). IsOneOf (leaf_forms problem) r) ps rs → AreTrees IsGoodLeaf ps rs
 none_good ps rs none t = subst (λ (xs : List {1} Problem). AreTrees IsGoodLeaf xs rs) (sym none) (subst (λ (xs : List {1} Problem). AreTrees (λ (problem : Problem) (prefix : List Sign) (r : Record). IsOneOf (leaf_forms problem) r) xs rs) none t)
 
-tied_there : (known : Known) (earlier : Earlier) (q : Question) (a : Answer) → problems meaning q known (head_of q a.verdict) ≡ [] → IsTied known earlier q a → IsValid known.net earlier q a → documents.IsValid meaning q known (records q (shapes_of known) a) (parts q known a)
-tied_there known earlier q a none l v =
-    let hold = hold_parts (head_tests known.net earlier q a.verdict) (row_tests known.net earlier q a.verdict a.proof) v in
+pub linked_there : (known : Known) (q : Question) (a : Answer) → problems meaning q known (head_of q a.verdict) ≡ [] → IsLinked known q a → IsValid known.net known.earlier q a → documents.IsValid meaning q known (records q (shapes_of known) a) (parts q known a)
+linked_there known q a none l v =
+    let hold = hold_parts (head_tests known.net known.earlier q a.verdict) (row_tests known.net known.earlier q a.verdict a.proof) v in
     let formed = l.formed in
-    let heads = l.heads in
-    let rows = l.rows in
-    record { head = heads.1 hold.0; rows = rows.1 hold.1; trees = none_good (problems meaning q known (head_of q a.verdict)) (proof_nodes a.proof) none formed.trees }
+    record { head = subst AllHold (sym l.heads) hold.0; rows = subst AllHold (sym l.rows) hold.1; trees = none_good (problems meaning q known (head_of q a.verdict)) (proof_nodes a.proof) none formed.trees }
 
-tied_back : (known : Known) (earlier : Earlier) (q : Question) (a : Answer) → IsTied known earlier q a → documents.IsValid meaning q known (records q (shapes_of known) a) (parts q known a) → IsValid known.net earlier q a
-tied_back known earlier q a l v =
-    let heads = l.heads in
-    let rows = l.rows in
-    hold_append (head_tests known.net earlier q a.verdict) (row_tests known.net earlier q a.verdict a.proof) (heads.0 v.head) (rows.0 v.rows)
+pub linked_back : (known : Known) (q : Question) (a : Answer) → IsLinked known q a → documents.IsValid meaning q known (records q (shapes_of known) a) (parts q known a) → IsValid known.net known.earlier q a
+linked_back known q a l v = hold_append (head_tests known.net known.earlier q a.verdict) (row_tests known.net known.earlier q a.verdict a.proof) (subst AllHold l.heads v.head) (subst AllHold l.rows v.rows)
 
-pub linked_there : (known : Known) (earlier : Earlier) (q : Question) (a : Answer) → problems meaning q known (head_of q a.verdict) ≡ [] → IsLinked known earlier q a → IsValid known.net earlier q a → documents.IsValid meaning q known (records q (shapes_of known) a) (parts q known a)
-linked_there known earlier q a none l v = tied_there known earlier q a none (tied known earlier q a l) v
-
-pub linked_back : (known : Known) (earlier : Earlier) (q : Question) (a : Answer) → IsLinked known earlier q a → documents.IsValid meaning q known (records q (shapes_of known) a) (parts q known a) → IsValid known.net earlier q a
-linked_back known earlier q a l v = tied_back known earlier q a (tied known earlier q a l) v
-
-tied_joins : (b : Bool) (q : Question) → ((known : Known) (h : Record) → problems meaning q known h ≡ []) → IsTiedFor b q → IsJoinedFor b q
-tied_joins b q none tie = record {
-  formed = λ known earlier v p k e f. let l = tie known earlier v p k e f in l.formed;
-  there = λ known earlier v p k e f valid. tied_there known earlier q (answer v p) (none known (head_of q v)) (tie known earlier v p k e f) valid;
-  back = λ known earlier v p k t e f valid. tied_back known earlier q (answer v p) (tie known earlier v p k e f) valid;
-  says = λ known earlier v p k e f. let l = tie known earlier v p k e f in l.says;
-  shows = λ known earlier later v w p r n d e f g head rows nodes.
-      let k = tie known earlier v p n d f in
-      let l = tie known later w r n e g in
+linked_after_joins : (b : Bool) (q : Question) → ((known : Known) (h : Record) → problems meaning q known h ≡ []) → IsLinkedAfter b q → IsJoinedFor b q
+linked_after_joins b q none link = record {
+  formed = λ known v p k f. let l = link known v p k f in l.formed;
+  there = λ known v p k f valid. linked_there known q (answer v p) (none known (head_of q v)) (link known v p k f) valid;
+  back = λ known v p k t f valid. linked_back known q (answer v p) (link known v p k f) valid;
+  says = λ known v p k f. let l = link known v p k f in l.says;
+  shows = λ known v w p r n f g head rows nodes.
+      let k = link known v p n f in
+      let l = link known w r n g in
       sym k.shows ∙ ap₂ (λ (x : Record) (xs : List Record). shown (proof_of q (shapes_of known) x xs)) head rows ∙ l.shows;
 }
 
 linked_joins : (b : Bool) (q : Question) → ((known : Known) (h : Record) → problems meaning q known h ≡ []) → IsLinkedFor q → IsJoinedFor b q
-linked_joins b q none link = tied_joins b q none (λ known earlier v p k e f. tied known earlier q (answer v p) (link known earlier v p e f))
+linked_joins b q none link = linked_after_joins b q none (λ known v p k f. link known v p f)
 
 -- ---- each question
 
 -- how formed answers to a question are related to their records: those on regularity rest on the strong classes, and those on signals and on concordance may have trees
 abbrev pub LinkFor : Bool → Question → Type 1
-LinkFor b Q11 = IsTiedFor b Q11
-LinkFor b Q12 = IsTiedFor b Q12
+LinkFor b Q11 = IsLinkedAfter b Q11
 LinkFor b Q13 = IsJoinedFor b Q13
 LinkFor b Q14 = IsJoinedFor b Q14
 LinkFor b Q15 = IsJoinedFor b Q15
@@ -161,8 +129,8 @@ joined b Q7 l = linked_joins b Q7 (λ known h. none_due (is_open h)) l
 joined b Q8 l = linked_joins b Q8 (λ known h. none_due (is_open h)) l
 joined b Q9 l = linked_joins b Q9 (λ known h. none_due (is_open h)) l
 joined b Q10 l = linked_joins b Q10 (λ known h. none_due (is_open h)) l
-joined b Q11 l = tied_joins b Q11 (λ known h. none_due (is_open h)) l
-joined b Q12 l = tied_joins b Q12 (λ known h. none_due (is_open h)) l
+joined b Q11 l = linked_after_joins b Q11 (λ known h. none_due (is_open h)) l
+joined b Q12 l = linked_joins b Q12 (λ known h. none_due (is_open h)) l
 joined b Q13 l = l
 joined b Q14 l = l
 joined b Q15 l = l

@@ -1,7 +1,7 @@
 -- The strong classes are known after question 2, and so are the linked pairs within terminal classes.
-use Rattle.std.proofs.Common.{◌≡◌, ◌==◌, ◌++◌, ◌∙◌, Bool, true, false, if◌then◌else◌, [], ◌∷◌, refl, sym, ap, subst, inl, inr}
-use Rattle.std.specs.Prelude.{◌||◌}
-use Rattle.std.specs.List.{AllByRecursion}
+use Rattle.std.proofs.Common.{◌≡◌, ◌==◌, ◌++◌, ◌∙◌, ℕ, Bool, true, false, if◌then◌else◌, List, [], ◌∷◌, length, refl, sym, ap, subst, inl, inr}
+use Rattle.std.specs.Prelude.{◌||◌, ◌&&◌, slice_index}
+use Rattle.std.specs.List.{AllByRecursion, filter, range_with_len}
 use Rattle.std.proofs.lemmas.Bool.{cases_Bool}
 use Rattle.crn_vec.specs.Network.{Net}
 use Rattle.crn_cert.specs.declared.answer.Gap.TheVariants.{Wide, Budget, Rests}
@@ -12,12 +12,11 @@ use Rattle.crn_cert.specs.Questions.{Earlier, Question, Q2, number, on, labels_o
 use Rattle.crn_cert.specs.Formed.{IsFormedOf}
 use Rattle.crn_cert.specs.Says.{IsTrueOf}
 use Rattle.crn_cert.specs.Law.{IsTrueOrOpen}
-use Rattle.crn_cert.specs.Valid.{pair_places, IsValid}
-use Rattle.crn_cert.proofs.CallerLemmas.{strong_law}
+use Rattle.crn_cert.specs.ClassTests.{of_class}
+use Rattle.crn_cert.specs.Valid.{ends_at, is_least_of_pair, pair_places, IsValid}
+use Rattle.crn_cert.specs.Verdicts.{tight}
+use Rattle.crn_cert.proofs.CallerLemmas.{strong_law, is_true_tight}
 use Rattle.crn_ctext.specs.Meaning.{Known, pairs_by, pairs_of}
-use Rattle.crn_ctext.specs.Same.{said}
-use Rattle.crn_ctext.proofs.Alike.{IsAlike, on_alike}
-use Rattle.crn_ctext.proofs.TestsAlike.{pairs_by_lists}
 
 -- the verdict gives strong classes
 abbrev pub IsStrong : Verdict → Type 0
@@ -56,21 +55,14 @@ formed_right net earlier Q2 (Unknown (Rests question)) p f = absurd f.0
 formed_right net earlier Q2 v p f = absurd f.0
 formed_right net earlier q v p f = tt
 
-said_strong : (v : Verdict) → IsStrong (said v) ≡ IsStrong v
-said_strong (Strong count terminal label exit) = refl
-said_strong v = refl
+pub strong_tight : (v : Verdict) → IsStrong v → IsStrong (tight v)
+strong_tight (Strong count terminal label exit) s = tt
+strong_tight v s = absurd s
 
-strong_moves : (v w : Verdict) → said v ≡ said w → IsStrong w → IsStrong v
-strong_moves v w e s = subst (λ (A : Type 0). A) (sym (said_strong w) ∙ ap IsStrong (sym e) ∙ said_strong v) s
-
--- so it is if verdicts that say the same give them
-pub alike_strong : (known : Known) (earlier : Earlier) → IsAlike known earlier → IsStrong (on earlier Q2) → IsStrong (on known.earlier Q2)
-alike_strong known earlier e s = strong_moves (on known.earlier Q2) (on earlier Q2) (on_alike known.earlier earlier Q2 e) s
-
--- so it is for a verdict that says the same
-pub said_right : (q : Question) (v w : Verdict) → said v ≡ said w → IsRight q w → IsRight q v
-said_right Q2 v w e r = strong_moves v w e r
-said_right q v w e r = tt
+-- so it does without the spares of its lists
+pub right_tight : (q : Question) (v : Verdict) → IsRight q v → IsRight q (tight v)
+right_tight Q2 v r = strong_tight v r
+right_tight q v r = tt
 
 -- ---- one more verdict
 
@@ -119,14 +111,10 @@ pub valid_is_true : (net : Net) (earlier : Earlier) (q : Question) (v : Verdict)
 valid_is_true net earlier Q2 v p f valid = true_strong net v (formed_right net earlier Q2 v p f) (strong_law net earlier v p f valid)
 valid_is_true net earlier q v p f valid = tt
 
-said_is_true : (net : Net) (v : Verdict) → IsTrueOf net Q2 (said v) ≡ IsTrueOf net Q2 v
-said_is_true net (Strong count terminal label exit) = refl
-said_is_true net v = refl
-
--- so is one that says the same
-pub true_moves : (q : Question) (net : Net) (v w : Verdict) → said v ≡ said w → IsTrueIfStrong q net w → IsTrueIfStrong q net v
-true_moves Q2 net v w e t = subst (λ (A : Type 0). A) (sym (said_is_true net w) ∙ ap (IsTrueOf net Q2) (sym e) ∙ said_is_true net v) t
-true_moves q net v w e t = tt
+-- and stays true without the spares of its lists
+pub true_if_strong_tight : (q : Question) (net : Net) (v : Verdict) → IsTrueIfStrong q net v → IsTrueIfStrong q net (tight v)
+true_if_strong_tight Q2 net v t = is_true_tight net Q2 v t
+true_if_strong_tight q net v t = tt
 
 -- it stays true after one more verdict
 pub true_then : (b : Bool) (q : Question) (known : Known) (v : Verdict) → AreKnown b known.earlier → IsStrongTrue b known → IsTrueIfStrong q known.net v → IsStrongTrue (after b q) (record { net = known.net; earlier = known.earlier ++ (q, v) ∷ [] })
@@ -139,6 +127,14 @@ true_then false q known v k s t = tt
 pairs_by_strong : (known : Known) (v : Verdict) → IsStrong v → pairs_by known v ≡ pair_places known.net known.earlier
 pairs_by_strong known (Strong count terminal label exit) s = refl
 pairs_by_strong known v s = absurd s
+
+-- two complexes are in one strong class without an exit, by lists
+abbrev is_within_by : (strong_are exits_are : List ℕ) → ℕ × ℕ → Bool
+is_within_by strong_are exits_are r = (slice_index strong_are r.0 == slice_index strong_are r.1) && (of_class strong_are exits_are r.0 == 0)
+
+-- the linked pairs within terminal classes, by lists
+abbrev pairs_by_lists : Net → (strong_are exits_are : List ℕ) → List ℕ
+pairs_by_lists net strong_are exits_are = filter (λ r. is_within_by strong_are exits_are (ends_at net r) && is_least_of_pair net r) (range_with_len 1 (length net.reactions))
 
 -- the pairs that are known are those of the earlier verdicts
 pub pairs_known : (known : Known) → IsStrong (on known.earlier Q2) → pairs_of known ≡ pair_places known.net known.earlier

@@ -52,8 +52,7 @@ mod AnswersApart
 mod DocumentsShort
 mod SharesApart
 mod DocumentsOne
-mod Alike
-mod TestsAlike
+mod Shown
 mod KnownBefore
 mod Joined
 mod TablesLinked

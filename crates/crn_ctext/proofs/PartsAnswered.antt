@@ -7,7 +7,7 @@ use Rattle.crn_vec.specs.Kept.{KeptNums}
 use Rattle.crn_vec.specs.declared.signs.Sign.{Sign}
 use Rattle.crn_cert.specs.declared.answer.Verdict.{Verdict}
 use Rattle.crn_cert.specs.declared.answer.Proof.{Proof}
-use Rattle.crn_cert.specs.Questions.{Earlier, Question}
+use Rattle.crn_cert.specs.Questions.{Question}
 use Rattle.crn_cert.specs.Formed.{IsFormedOf}
 use Rattle.crn_cert.specs.Ranges.{AreFrom}
 use Rattle.crn_ctext.specs.Records.{Record, Form, Takes, AreNarrow, AreOf, Fits}
@@ -17,7 +17,6 @@ use Rattle.crn_ctext.specs.Blocks.{Problem, problems, below}
 use Rattle.crn_ctext.specs.Documents.{AreTrees, IsOneOf, leaf_forms}
 use Rattle.crn_ctext.specs.Answers.{small_record, head_of, records_below, proof_nodes}
 use Rattle.crn_ctext.specs.Meaning.{Known, shapes_of, sizes_of, verdict_of, meaning}
-use Rattle.crn_ctext.proofs.Alike.{IsAlike}
 use Rattle.crn_ctext.proofs.RanksLinked.{naturals_back, record_is}
 
 -- ---- numbers
@@ -56,7 +55,7 @@ zip_none (r ∷ rows) z = absurd z
 
 -- The parts of a block are those of an answer that is formed after verdicts that say what is known; it has no tree, and its verdict is the one that is read of the block.
 abbrev pub IsAnswered : Known → Question → Record → List Record → List Record → Type 0
-IsAnswered known q head rows nodes = (v : Verdict) × (p : Proof) × ((earlier : Earlier) → IsAlike known earlier → IsFormedOf known.net earlier q v p)
+IsAnswered known q head rows nodes = (v : Verdict) × (p : Proof) × IsFormedOf known.net known.earlier q v p
     × (head ≡ head_of q v) × (rows ≡ records_below (shapes_of known) (record { verdict = v; proof = p })) × (nodes ≡ proof_nodes p)
     × (nodes ≡ []) × (verdict_of q (sizes_of known) head rows ≡ v)
 

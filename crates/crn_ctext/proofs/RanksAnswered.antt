@@ -8,7 +8,7 @@ use Rattle.crn_vec.proofs.CallerLemmas.{abs_back}
 use Rattle.crn_cert.specs.declared.answer.Gap.TheVariants.{Wide, Rests}
 use Rattle.crn_cert.specs.declared.answer.Verdict.TheVariants.{Rank, Deficiency, YesVec, NoVec, Unknown}
 use Rattle.crn_cert.specs.declared.answer.Proof.TheVariants.{Nothing, Rank as RankRows, Ranks}
-use Rattle.crn_cert.specs.Questions.{Question, Q1, Q5, Q6, Q7, Q8}
+use Rattle.crn_cert.specs.Questions.{Question, Q5, Q6, Q7, Q8}
 use Rattle.crn_cert.specs.Formed.{IsBasisOf}
 use Rattle.crn_cert.specs.Ranges.{AreFrom, AreFree}
 use Rattle.crn_cert.specs.Valid.{linkage_count, class_places}
@@ -18,9 +18,8 @@ use Rattle.crn_ctext.specs.Questions.{heads, head, yes, no, wide, rests, open_by
 use Rattle.crn_ctext.specs.Documents.{one_word, IsOneOf}
 use Rattle.crn_ctext.specs.Answers.{rank_records, head_with, open_head}
 use Rattle.crn_ctext.specs.Meaning.{Known, lengths, reactions_by_class, sizes_of, verdict_of}
-use Rattle.crn_ctext.proofs.Alike.{labels_alike, counts_alike}
 use Rattle.crn_ctext.proofs.MeaningShort.{lists_counted}
-use Rattle.crn_ctext.proofs.RanksLinked.{record_is, free_row, proof_with, rank_back, classes_back, places_from, sizes_from, places_at, proofs_alike, basis_alike, FitFields, number_back, rising_back, wide_back}
+use Rattle.crn_ctext.proofs.RanksLinked.{record_is, free_row, proof_with, rank_back, classes_back, places_from, sizes_from, places_at, FitFields, number_back, rising_back, wide_back}
 use Rattle.crn_ctext.proofs.PartsAnswered.{small_numbers, one_number, zip_none, FromParts, kept, at_head}
 
 -- ---- rank
@@ -36,7 +35,7 @@ rank_by known n rows nodes range z t =
     let b = rank_back known (range_with_len 1 (length known.net.reactions)) n rows z in
     let p = proof_with b.0 b.1 b.2 in
     let all : rows ≡ rank_records p ++ [] = b.3 ∙ sym (append-nil (rank_records p)) in
-    (Rank n (kept b.0), RankRows p, (λ earlier e. (range, (refl, b.4))), refl, all, t, t, ap (λ (rs : List Record). verdict_of Q5 (sizes_of known) (head_with Q5 [] (pos n ∷ [])) rs) b.3 ∙ ap (λ (xs : List ℕ). Rank n (kept xs)) (abs_back b.0))
+    (Rank n (kept b.0), RankRows p, (range, (refl, b.4)), refl, all, t, t, ap (λ (rs : List Record). verdict_of Q5 (sizes_of known) (head_with Q5 [] (pos n ∷ [])) rs) b.3 ∙ ap (λ (xs : List ℕ). Rank n (kept xs)) (abs_back b.0))
 
 pub rank_answered : (known : Known) (h : Record) (rows nodes : List Record) → IsOneOf (heads Q5 (sizes_of known)) h → FromParts known Q5 h rows nodes
 unfolding kept
@@ -49,7 +48,7 @@ rank_answered known h rows nodes (form, inr (inl e), fits) =
     let f : Fits (wide (codes "q5") 2 1 (length known.net.names) (length known.net.reactions)) h = subst (λ (f : Form). Fits f h) e fits in
     let b = wide_back 1 (length known.net.names) (length known.net.reactions) h.numbers f.1 in
     at_head known Q5 h (open_head Q5 (Wide 1 0 b.0 (kept b.1))) rows nodes (record_is h (codes "q5" ∷ open_by (codes "wide")) (map pos (1 ∷ 0 ∷ b.0 ∷ b.1)) f.0 b.2) (λ z t.
-    (Unknown (Wide 1 0 b.0 (kept b.1)), Nothing, (λ earlier e. ((refl, refl, b.3), refl)), refl, zip_none rows z, t, t, open_by_wide known Q5 1 0 b.0 b.1 rows))
+    (Unknown (Wide 1 0 b.0 (kept b.1)), Nothing, ((refl, refl, b.3), refl), refl, zip_none rows z, t, t, open_by_wide known Q5 1 0 b.0 b.1 rows))
 rank_answered known h rows nodes (form, inr (inr none), fits) = absurd none
 
 -- ---- deficiency
@@ -70,7 +69,7 @@ deficiency_by known total ds rows nodes most each z t =
     let b = classes_back known 1 ds rows (subst (λ (n : ℕ). AllZip Fits (class_forms (sizes_of known) (sizes_from known.earlier 1 n) (places_from net known.earlier 1 n) (map pos ds)) rows) (sym long) z) in (
       Deficiency total (kept ds),
       Ranks b.0,
-      (λ earlier e. (((omega arith, most), subst (λ (n : ℕ). AreFrom n 0 (length net.complexes) ds) (counts_alike known.earlier earlier Q1 e) each), proofs_alike net known.earlier earlier (labels_alike known.earlier earlier Q1 e) 1 ds b.0 b.2)),
+      (((omega arith, most), each), b.2),
       refl,
       b.1 ∙ sym (append-nil (flat_map rank_records b.0)),
       t,
@@ -96,7 +95,7 @@ unfolding kept
 deficiency_wide_by known k index basis rows nodes lt b z t = (
   Unknown (Wide 3 (suc k) index (kept basis)),
   Nothing,
-  (λ earlier e. ((refl, (omega arith, let count = counts_alike known.earlier earlier Q1 e in omega (arith, lt, count)), basis_alike known.net known.earlier earlier (labels_alike known.earlier earlier Q1 e) (suc k) index basis b), refl)),
+  ((refl, (omega arith, omega (arith, lt)), b), refl),
   refl,
   zip_none rows z,
   t,
@@ -125,7 +124,7 @@ deficiency_answered known h rows nodes (form, inr (inr (inl e)), fits) =
     let f : Fits (rests (codes "q6") 4 5) h = subst (λ (f : Form). Fits f h) e fits in
     let n = one_number 5 5 h.numbers f.1 in
     let five : pos n.0 ∷ [] ≡ pos 5 ∷ [] = ap (λ (x : ℕ). pos x ∷ []) (omega (arith, n.2.0, n.2.1)) in
-    at_head known Q6 h (open_head Q6 (Rests 5)) rows nodes (record_is h (codes "q6" ∷ open_by (codes "rests")) (pos 5 ∷ []) f.0 (n.1 ∙ five)) (λ z t. (Unknown (Rests 5), Nothing, (λ earlier e. (refl, refl)), refl, zip_none rows z, t, t, refl))
+    at_head known Q6 h (open_head Q6 (Rests 5)) rows nodes (record_is h (codes "q6" ∷ open_by (codes "rests")) (pos 5 ∷ []) f.0 (n.1 ∙ five)) (λ z t. (Unknown (Rests 5), Nothing, (refl, refl), refl, zip_none rows z, t, t, refl))
 deficiency_answered known h rows nodes (form, inr (inr (inr none)), fits) = absurd none
 
 -- ---- positive vectors
@@ -146,17 +145,17 @@ dependence_answered known h rows nodes (form, inl e, fits) =
     let f : Fits (head (codes "q7") 1 yes []) h = subst (λ (f : Form). Fits f h) e fits in
     at_head known Q7 h (head_with Q7 yes []) rows nodes (record_is h (codes "q7" ∷ yes) [] f.0 f.1) (λ z t.
     let a = free_alone (codes "vec") (length known.net.reactions) rows z in
-    (YesVec (kept_ints a.0), Nothing, (λ earlier e. (tt, a.2)), refl, a.1, t, t, ap (λ (rs : List Record). verdict_of Q7 (sizes_of known) (head_with Q7 yes []) rs) a.1))
+    (YesVec (kept_ints a.0), Nothing, (tt, a.2), refl, a.1, t, t, ap (λ (rs : List Record). verdict_of Q7 (sizes_of known) (head_with Q7 yes []) rs) a.1))
 dependence_answered known h rows nodes (form, inr (inl e), fits) =
     let f : Fits (head (codes "q7") 2 no []) h = subst (λ (f : Form). Fits f h) e fits in
     at_head known Q7 h (head_with Q7 no []) rows nodes (record_is h (codes "q7" ∷ no) [] f.0 f.1) (λ z t.
     let a = free_alone (codes "cut") (length known.net.names) rows z in
-    (NoVec (kept_ints a.0), Nothing, (λ earlier e. (tt, a.2)), refl, a.1, t, t, ap (λ (rs : List Record). verdict_of Q7 (sizes_of known) (head_with Q7 no []) rs) a.1))
+    (NoVec (kept_ints a.0), Nothing, (tt, a.2), refl, a.1, t, t, ap (λ (rs : List Record). verdict_of Q7 (sizes_of known) (head_with Q7 no []) rs) a.1))
 dependence_answered known h rows nodes (form, inr (inr (inl e)), fits) =
     let f : Fits (wide (codes "q7") 3 2 (length known.net.reactions) (length known.net.names)) h = subst (λ (f : Form). Fits f h) e fits in
     let b = wide_back 2 (length known.net.reactions) (length known.net.names) h.numbers f.1 in
     at_head known Q7 h (open_head Q7 (Wide 2 0 b.0 (kept b.1))) rows nodes (record_is h (codes "q7" ∷ open_by (codes "wide")) (map pos (2 ∷ 0 ∷ b.0 ∷ b.1)) f.0 b.2) (λ z t.
-    (Unknown (Wide 2 0 b.0 (kept b.1)), Nothing, (λ earlier e. ((refl, refl, b.3), refl)), refl, zip_none rows z, t, t, open_by_wide known Q7 2 0 b.0 b.1 rows))
+    (Unknown (Wide 2 0 b.0 (kept b.1)), Nothing, ((refl, refl, b.3), refl), refl, zip_none rows z, t, t, open_by_wide known Q7 2 0 b.0 b.1 rows))
 dependence_answered known h rows nodes (form, inr (inr (inr none)), fits) = absurd none
 
 pub conservation_answered : (known : Known) (h : Record) (rows nodes : List Record) → IsOneOf (heads Q8 (sizes_of known)) h → FromParts known Q8 h rows nodes
@@ -165,15 +164,15 @@ conservation_answered known h rows nodes (form, inl e, fits) =
     let f : Fits (head (codes "q8") 1 yes []) h = subst (λ (f : Form). Fits f h) e fits in
     at_head known Q8 h (head_with Q8 yes []) rows nodes (record_is h (codes "q8" ∷ yes) [] f.0 f.1) (λ z t.
     let a = free_alone (codes "vec") (length known.net.names) rows z in
-    (YesVec (kept_ints a.0), Nothing, (λ earlier e. (tt, a.2)), refl, a.1, t, t, ap (λ (rs : List Record). verdict_of Q8 (sizes_of known) (head_with Q8 yes []) rs) a.1))
+    (YesVec (kept_ints a.0), Nothing, (tt, a.2), refl, a.1, t, t, ap (λ (rs : List Record). verdict_of Q8 (sizes_of known) (head_with Q8 yes []) rs) a.1))
 conservation_answered known h rows nodes (form, inr (inl e), fits) =
     let f : Fits (head (codes "q8") 2 no []) h = subst (λ (f : Form). Fits f h) e fits in
     at_head known Q8 h (head_with Q8 no []) rows nodes (record_is h (codes "q8" ∷ no) [] f.0 f.1) (λ z t.
     let a = free_alone (codes "cut") (length known.net.reactions) rows z in
-    (NoVec (kept_ints a.0), Nothing, (λ earlier e. (tt, a.2)), refl, a.1, t, t, ap (λ (rs : List Record). verdict_of Q8 (sizes_of known) (head_with Q8 no []) rs) a.1))
+    (NoVec (kept_ints a.0), Nothing, (tt, a.2), refl, a.1, t, t, ap (λ (rs : List Record). verdict_of Q8 (sizes_of known) (head_with Q8 no []) rs) a.1))
 conservation_answered known h rows nodes (form, inr (inr (inl e)), fits) =
     let f : Fits (wide (codes "q8") 3 1 (length known.net.names) (length known.net.reactions)) h = subst (λ (f : Form). Fits f h) e fits in
     let b = wide_back 1 (length known.net.names) (length known.net.reactions) h.numbers f.1 in
     at_head known Q8 h (open_head Q8 (Wide 1 0 b.0 (kept b.1))) rows nodes (record_is h (codes "q8" ∷ open_by (codes "wide")) (map pos (1 ∷ 0 ∷ b.0 ∷ b.1)) f.0 b.2) (λ z t.
-    (Unknown (Wide 1 0 b.0 (kept b.1)), Nothing, (λ earlier e. ((refl, refl, b.3), refl)), refl, zip_none rows z, t, t, open_by_wide known Q8 1 0 b.0 b.1 rows))
+    (Unknown (Wide 1 0 b.0 (kept b.1)), Nothing, ((refl, refl, b.3), refl), refl, zip_none rows z, t, t, open_by_wide known Q8 1 0 b.0 b.1 rows))
 conservation_answered known h rows nodes (form, inr (inr (inr none)), fits) = absurd none

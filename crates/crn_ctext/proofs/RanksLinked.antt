@@ -23,7 +23,7 @@ use Rattle.crn_ctext.specs.Questions.{rank_forms, class_forms}
 use Rattle.crn_ctext.specs.Documents.{one_word}
 use Rattle.crn_ctext.specs.Answers.{small_record, rank_records}
 use Rattle.crn_ctext.specs.Meaning.{Known, sizes_of, lengths, lists, rank_proof, class_proofs}
-use Rattle.crn_ctext.specs.Same.{said_rank}
+use Rattle.crn_cert.specs.Verdicts.{tight_rank}
 
 -- ---- numbers
 
@@ -167,7 +167,7 @@ lists_back [] (v ∷ vs) = ap (λ (t : List (List ℤ)). v ∷ t) (lists_back []
 lists_back (u ∷ us) vs = ap (λ (t : List (List ℤ)). u ∷ t) (lists_back us vs)
 
 -- the records of a proof say it
-pub rank_said : (rank : ℕ) (p : RankProof) → length p.duals ≡ rank → rank_proof rank (rank_records p) ≡ said_rank p
+pub rank_said : (rank : ℕ) (p : RankProof) → length p.duals ≡ rank → rank_proof rank (rank_records p) ≡ tight_rank p
 rank_said rank p long =
     let rest = lists (map (one_word (codes "dual")) p.duals ++ map (one_word (codes "comb")) p.combs) in
     let all : rest ≡ p.duals ++ p.combs = lists_back p.duals p.combs in
@@ -230,7 +230,7 @@ classes_back known k (d ∷ ds) rows z =
 abbrev proofs_from : Net → Earlier → ℕ → List ℕ → List Record → List RankProof
 proofs_from net earlier k ds rs = class_proofs (sizes_from earlier k (length ds)) (places_from net earlier k (length ds)) (map pos ds) rs
 
-pub classes_said : (net : Net) (earlier : Earlier) (k : ℕ) (ds : List ℕ) (ps : List RankProof) → AreClassProofs net earlier k ds ps → proofs_from net earlier k ds (flat_map rank_records ps) ≡ map said_rank ps
+pub classes_said : (net : Net) (earlier : Earlier) (k : ℕ) (ds : List ℕ) (ps : List RankProof) → AreClassProofs net earlier k ds ps → proofs_from net earlier k ds (flat_map rank_records ps) ≡ map tight_rank ps
 classes_said net earlier k [] [] f = refl
 classes_said net earlier k [] (p ∷ ps) f = absurd f
 classes_said net earlier k (d ∷ ds) [] f = absurd f
@@ -244,30 +244,19 @@ classes_said net earlier k (d ∷ ds) (p ∷ ps) f =
     let long : length (rank_records p) ≡ suc (length members) = rank_counted net members rank p (class_ascending net earlier k) g in
     let prefix : take (suc (length members)) (rank_records p ++ rest) ≡ rank_records p = take_at (rank_records p) rest (suc (length members)) long in
     let back : drop (suc (length members)) (rank_records p ++ rest) ≡ rest = drop_at (rank_records p) rest (suc (length members)) long in
-    let one : rank_proof rank (take (suc (length members)) (rank_records p ++ rest)) ≡ said_rank p = ap (λ (rs : List Record). rank_proof rank rs) prefix ∙ rank_said rank p duals in
-    let more : proofs_from net earlier (k + 1) ds (drop (suc (length members)) (rank_records p ++ rest)) ≡ map said_rank ps = ap (λ (rs : List Record). proofs_from net earlier (k + 1) ds rs) back
-    ∙ subst (λ (j : ℕ). proofs_from net earlier j ds rest ≡ map said_rank ps) (next k) (classes_said net earlier (suc k) ds ps f.1) in
+    let one : rank_proof rank (take (suc (length members)) (rank_records p ++ rest)) ≡ tight_rank p = ap (λ (rs : List Record). rank_proof rank rs) prefix ∙ rank_said rank p duals in
+    let more : proofs_from net earlier (k + 1) ds (drop (suc (length members)) (rank_records p ++ rest)) ≡ map tight_rank ps = ap (λ (rs : List Record). proofs_from net earlier (k + 1) ds rs) back
+    ∙ subst (λ (j : ℕ). proofs_from net earlier j ds rest ≡ map tight_rank ps) (next k) (classes_said net earlier (suc k) ds ps f.1) in
     ap₂ (λ (x : RankProof) (xs : List RankProof). x ∷ xs) one more
 
-pub said_again : (ps : List RankProof) → map said_rank (map said_rank ps) ≡ map said_rank ps
+pub said_again : (ps : List RankProof) → map tight_rank (map tight_rank ps) ≡ map tight_rank ps
 said_again [] = refl
-said_again (p ∷ ps) = ap (λ (t : List RankProof). said_rank p ∷ t) (said_again ps)
+said_again (p ∷ ps) = ap (λ (t : List RankProof). tight_rank p ∷ t) (said_again ps)
 
--- ---- the same labels
-
-pub proofs_alike : (net : Net) (xs ys : Earlier) → linkage xs ≡ linkage ys → (k : ℕ) (ds : List ℕ) (ps : List RankProof) → AreClassProofs net xs k ds ps → AreClassProofs net ys k ds ps
-proofs_alike net xs ys e k [] [] f = tt
-proofs_alike net xs ys e k [] (p ∷ ps) f = absurd f
-proofs_alike net xs ys e k (d ∷ ds) [] f = absurd f
-proofs_alike net xs ys e k (d ∷ ds) (p ∷ ps) f = (subst (λ (l : List ℕ). IsRankProof net (places_by net l k) (length (class_members l k) - 1 - d) p) e f.0, proofs_alike net xs ys e (suc k) ds ps f.1)
-
-pub tests_alike : (net : Net) (xs ys : Earlier) → linkage xs ≡ linkage ys → (part k : ℕ) (ps : List RankProof) → class_rank_tests net xs part k (map said_rank ps) ≡ class_rank_tests net ys part k ps
-tests_alike net xs ys e part k [] = refl
-tests_alike net xs ys e part k (p ∷ ps) =
-    ap₂ (λ (a b : List {1} Test). a ++ b) (ap (λ (l : List ℕ). rank_tests net (places_by net l k) part p.base.list p.duals p.combs) e) (tests_alike net xs ys e (part + 1 + length p.duals + length p.combs) (suc k) ps)
-
-pub basis_alike : (net : Net) (xs ys : Earlier) → linkage xs ≡ linkage ys → (k index : ℕ) (basis : List ℕ) → IsBasisOf (length net.names) (length (class_places net xs k)) index basis → IsBasisOf (length net.names) (length (class_places net ys k)) index basis
-basis_alike net xs ys e k index basis b = subst (λ (l : List ℕ). IsBasisOf (length net.names) (length (places_by net l k)) index basis) e b
+-- the tests of proofs do not see spares
+pub tests_said : (net : Net) (earlier : Earlier) (part k : ℕ) (ps : List RankProof) → class_rank_tests net earlier part k (map tight_rank ps) ≡ class_rank_tests net earlier part k ps
+tests_said net earlier part k [] = refl
+tests_said net earlier part k (p ∷ ps) = ap (λ (ts : List {1} Test). rank_tests net (class_places net earlier k) part p.base.list p.duals p.combs ++ ts) (tests_said net earlier (part + 1 + length p.duals + length p.combs) (suc k) ps)
 
 -- how many reactions a class has, by its place
 pub places_at : (net : Net) (earlier : Earlier) (a n k : ℕ) → k < n → slice_index (lengths (places_from net earlier a n)) k ≡ length (class_places net earlier (a + k))

@@ -18,7 +18,7 @@ use Rattle.crn_cert.specs.declared.answer.Verdict.{Verdict}
 use Rattle.crn_cert.specs.declared.answer.Verdict.TheVariants.{Yes, YesVec, YesSignal, No, NotApplicable, Unknown}
 use Rattle.crn_cert.specs.declared.answer.Proof.{Proof}
 use Rattle.crn_cert.specs.declared.answer.Proof.TheVariants.{Nothing, One, Two}
-use Rattle.crn_cert.specs.Questions.{Earlier, Q2, Q4, Q12, Q13, on, terminal_of, vector_given, IsOpen, IsYes}
+use Rattle.crn_cert.specs.Questions.{Earlier, Q2, Q4, Q12, Q13, on, terminal_of, vector_given, IsYes}
 use Rattle.crn_cert.specs.Tests.{Test, test, AllHold}
 use Rattle.crn_cert.specs.Trees.{Plan, node_count, IsFormedTree}
 use Rattle.crn_cert.specs.Nodes.{Said, Splits, Flats, CutsA, CutsB, Fits as FitsNode}
@@ -36,9 +36,8 @@ use Rattle.crn_ctext.specs.Answers.{head_of, records_below, proof_nodes, records
 use Rattle.crn_vec.specs.Lists.{IsIn}
 use Rattle.crn_vec.proofs.CallerLemmas.{abs_back}
 use Rattle.crn_ctext.specs.Meaning.{Known, pairs_of, is_yes, has_vector, shapes_of, sizes_of, verdict_of, signal_problem, signal_problems, meaning}
-use Rattle.crn_ctext.specs.Same.{said, shown}
-use Rattle.crn_ctext.proofs.Alike.{all_said, IsAlike, vectors_alike, terminal_alike, yes_alike, open_alike}
-use Rattle.crn_ctext.proofs.TestsAlike.{pairs_alike}
+use Rattle.crn_cert.specs.Verdicts.{tight}
+use Rattle.crn_ctext.proofs.Shown.{shown}
 use Rattle.crn_ctext.proofs.KnownBefore.{IsStrong, pairs_known}
 use Rattle.crn_ctext.proofs.RanksLinked.{free_fits, number_then, wide_fits}
 use Rattle.crn_ctext.proofs.Joined.{parts, IsLinked, answer, open_as, linked_there, linked_back, IsJoinedFor}
@@ -76,25 +75,11 @@ pub same_type : {A B : Type 0} → A ≡ B → A → B
 same_type e a = subst (λ (X : Type 0). X) e a
 
 -- whether the network is weakly reversible, by verdicts that say the same
-pub weak_known : (known : Known) (earlier : Earlier) → IsAlike known earlier → IsYes (on earlier Q4) → is_yes (on known.earlier Q4) ≡ true
-weak_known known earlier e y = yes_is (on known.earlier Q4) (same_type (sym (yes_alike known.earlier earlier Q4 e)) y)
+pub weak_known : (known : Known) → IsYes (on known.earlier Q4) → is_yes (on known.earlier Q4) ≡ true
+weak_known known y = yes_is (on known.earlier Q4) y
 
-pub not_weak_known : (known : Known) (earlier : Earlier) → IsAlike known earlier → (IsYes (on earlier Q4) → ⊥) → is_yes (on known.earlier Q4) ≡ false
-not_weak_known known earlier e n = no_is (on known.earlier Q4) (λ y. n (same_type (yes_alike known.earlier earlier Q4 e) y))
-
--- ---- the head's tests
-
-abbrev yes_tests : ℤ → Option (List ℤ) → Type 0 → List {1} Test
-yes_tests turn given Weak = test 0 37 (IsSome given × (turn ≡ negsuc 0 → Weak)) ∷ []
-
-abbrev none_tests : Option (List ℤ) → Type 0 → List {1} Test
-none_tests given Open = test 0 37 ((IsSome given → ⊥) × (Open → ⊥)) ∷ []
-
-yes_heads : (xs ys : Earlier) (turn : ℤ) → all_said xs ≡ all_said ys → yes_tests turn (vector_given (on xs Q12)) (IsYes (on xs Q4)) ≡ yes_tests turn (vector_given (on ys Q12)) (IsYes (on ys Q4))
-yes_heads xs ys turn e = ap₂ (λ (given : Option (List ℤ)) (A : Type 0). yes_tests turn given A) (vectors_alike xs ys Q12 e) (yes_alike xs ys Q4 e)
-
-none_heads : (xs ys : Earlier) → all_said xs ≡ all_said ys → none_tests (vector_given (on xs Q12)) (IsOpen (on xs Q12)) ≡ none_tests (vector_given (on ys Q12)) (IsOpen (on ys Q12))
-none_heads xs ys e = ap₂ (λ (given : Option (List ℤ)) (A : Type 0). none_tests given A) (vectors_alike xs ys Q12 e) (open_alike xs ys Q12 e)
+pub not_weak_known : (known : Known) → (IsYes (on known.earlier Q4) → ⊥) → is_yes (on known.earlier Q4) ≡ false
+not_weak_known known n = no_is (on known.earlier Q4) n
 
 -- ---- a signal
 
@@ -114,14 +99,14 @@ shelves_between : (xs : List ℤ) → AllByRecursion IsShelf xs → AreBetween (
 shelves_between [] a = tt
 shelves_between (x ∷ xs) a = ((shelf_between x a.0).0, shelves_between xs a.1)
 
-signal_yes : (known : Known) (earlier : Earlier) (turn : ℤ) (shelves mu : KeptInts) (level : ℤ) (weights : KeptInts) → IsAlike known earlier → IsTurn turn → AreSignalRows known.net earlier shelves.list mu.list level weights.list
-    → IsLinked known earlier Q13 (answer (YesSignal turn shelves mu level weights) Nothing)
-signal_yes known earlier turn shelves mu level weights e t f =
+signal_yes : (known : Known) (turn : ℤ) (shelves mu : KeptInts) (level : ℤ) (weights : KeptInts) → IsTurn turn → AreSignalRows known.net known.earlier shelves.list mu.list level weights.list
+    → IsLinked known Q13 (answer (YesSignal turn shelves mu level weights) Nothing)
+signal_yes known turn shelves mu level weights t f =
     let net = known.net in
     let s = f.shelves_are in
     let long = s.long in
     let each = s.each in
-    let count : length shelves.list ≡ terminal_of (on known.earlier Q2) = long ∙ sym (terminal_alike known.earlier earlier Q2 e) in
+    let count : length shelves.list ≡ terminal_of (on known.earlier Q2) = long in
     record {
       formed = record {
         head = (_, inl refl, (refl, (turn ∷ [], [], refl, (turn_takes turn t, tt), refl)));
@@ -134,17 +119,17 @@ signal_yes known earlier turn shelves mu level weights e t f =
         );
         trees = refl;
       };
-      heads = yes_heads known.earlier earlier turn e;
-      rows = ap (λ (given : Option (List ℤ)). signal_tests net turn shelves.list mu.list level weights.list given) (vectors_alike known.earlier earlier Q12 e);
+      heads = refl;
+      rows = refl;
       says = refl;
       shows = refl;
     }
 
-signal_none : (known : Known) (earlier : Earlier) → IsAlike known earlier → IsLinked known earlier Q13 (answer NotApplicable Nothing)
-signal_none known earlier e =
+signal_none : (known : Known) → IsLinked known Q13 (answer NotApplicable Nothing)
+signal_none known =
     record {
       formed = record { head = (_, inr (inr (inl refl)), (refl, refl)); rows = tt; trees = refl };
-      heads = none_heads known.earlier earlier e;
+      heads = refl;
       rows = refl;
       says = refl;
       shows = refl;
@@ -186,8 +171,8 @@ rests_below known n = ap (λ (place : ℕ). rows Q13 (shapes_of known) place n) 
 fits_none : (forms : List Form) → forms ≡ [] → AllZip Fits forms []
 fits_none forms e = subst (λ (fs : List Form). AllZip Fits fs []) (sym e) tt
 
-signal_spent : (known : Known) (earlier : Earlier) (budget : ℕ) → 1 ≤ budget → budget ≤ MAX_BUDGET → IsLinked known earlier Q13 (answer (Unknown (Budget budget)) Nothing)
-signal_spent known earlier budget some most =
+signal_spent : (known : Known) (budget : ℕ) → 1 ≤ budget → budget ≤ MAX_BUDGET → IsLinked known Q13 (answer (Unknown (Budget budget)) Nothing)
+signal_spent known budget some most =
     record {
       formed = record {
         head = (_, inr (inr (inr (inr (spent_in (has_vector (on known.earlier Q12)) (sizes_of known))))), (refl, number_then 1 MAX_BUDGET budget [] [] some most refl));
@@ -200,8 +185,8 @@ signal_spent known earlier budget some most =
       shows = refl;
     }
 
-signal_rests : (known : Known) (earlier : Earlier) → IsLinked known earlier Q13 (answer (Unknown (Rests 12)) Nothing)
-signal_rests known earlier =
+signal_rests : (known : Known) → IsLinked known Q13 (answer (Unknown (Rests 12)) Nothing)
+signal_rests known =
     record {
       formed = record {
         head = (_, inr (inr (inr (inr (rests_in (has_vector (on known.earlier Q12)) (sizes_of known))))), (refl, number_then 12 12 12 [] [] (omega arith) (omega arith) refl));
@@ -214,8 +199,8 @@ signal_rests known earlier =
       shows = refl;
     }
 
-signal_open : (known : Known) (earlier : Earlier) (index : ℕ) (basis : KeptNums) → IsBasisOf (length known.net.reactions) (length known.net.names) index basis.list → IsLinked known earlier Q13 (answer (Unknown (Wide 2 0 index basis)) Nothing)
-signal_open known earlier index basis b =
+signal_open : (known : Known) (index : ℕ) (basis : KeptNums) → IsBasisOf (length known.net.reactions) (length known.net.names) index basis.list → IsLinked known Q13 (answer (Unknown (Wide 2 0 index basis)) Nothing)
+signal_open known index basis b =
     record {
       formed = record { head = (_, inr (inr (inr (inl refl))), (refl, wide_fits 2 (length known.net.reactions) (length known.net.names) index basis.list b)); rows = tt; trees = refl };
       heads = refl;
@@ -225,16 +210,16 @@ signal_open known earlier index basis b =
     }
 
 -- the pairs that are known are those of verdicts that say the same
-pub same_pairs : (known : Known) (earlier : Earlier) → IsStrong (on known.earlier Q2) → IsAlike known earlier → pairs_of known ≡ pair_places known.net earlier
-same_pairs known earlier k e = pairs_known known k ∙ pairs_alike known.net known.earlier earlier e
+pub same_pairs : (known : Known) → IsStrong (on known.earlier Q2) → pairs_of known ≡ pair_places known.net known.earlier
+same_pairs known k = pairs_known known k
 
-shelf_open : (known : Known) (earlier : Earlier) (index : ℕ) (basis : KeptNums) → IsStrong (on known.earlier Q2) → IsAlike known earlier → HasVector earlier
-    → IsBasisOf (length known.net.names + 1) (length known.net.complexes + length (pair_places known.net earlier)) index basis.list → IsLinked known earlier Q13 (answer (Unknown (Wide 5 0 index basis)) Nothing)
-shelf_open known earlier index basis k e given b =
+shelf_open : (known : Known) (index : ℕ) (basis : KeptNums) → IsStrong (on known.earlier Q2) → HasVector known.earlier
+    → IsBasisOf (length known.net.names + 1) (length known.net.complexes + length (pair_places known.net known.earlier)) index basis.list → IsLinked known Q13 (answer (Unknown (Wide 5 0 index basis)) Nothing)
+shelf_open known index basis k given b =
     let m = length known.net.names + 1 in
     let n = length known.net.complexes + length (pairs_of known) in
-    let here : IsBasisOf m n index basis.list = subst (λ (ps : List ℕ). IsBasisOf m (length known.net.complexes + length ps) index basis.list) (sym (same_pairs known earlier k e)) b in
-    let some : IsSome (vector_given (on known.earlier Q12)) = subst (λ (o : Option (List ℤ)). IsSome o) (sym (vectors_alike known.earlier earlier Q12 e)) given in
+    let here : IsBasisOf m n index basis.list = subst (λ (ps : List ℕ). IsBasisOf m (length known.net.complexes + length ps) index basis.list) (sym (same_pairs known k)) b in
+    let some : IsSome (vector_given (on known.earlier Q12)) = given in
     record {
       formed = record { head = (_, inr (inr (inr (inr (wide_in (has_vector (on known.earlier Q12)) (sizes_of known) (vector_is (on known.earlier Q12) some))))), (refl, wide_fits 5 m n index basis.list here)); rows = tt; trees = refl };
       heads = refl;
@@ -244,18 +229,18 @@ shelf_open known earlier index basis k e given b =
     }
 
 -- an answer without trees
-signal_linked : (known : Known) (earlier : Earlier) (v : Verdict) (p : Proof) → IsStrong (on known.earlier Q2) → IsAlike known earlier → IsFormedOf known.net earlier Q13 v p → (v ≡ No → ⊥) → IsLinked known earlier Q13 (answer v p)
-signal_linked known earlier (YesSignal turn shelves mu level weights) Nothing k e f other = signal_yes known earlier turn shelves mu level weights e f.0 f.1
-signal_linked known earlier (YesSignal turn shelves mu level weights) p k e f other = absurd f.1
-signal_linked known earlier No p k e f other = absurd (other refl)
-signal_linked known earlier NotApplicable Nothing k e f other = signal_none known earlier e
-signal_linked known earlier NotApplicable p k e f other = absurd f.1
-signal_linked known earlier (Unknown (Wide system class index basis)) p k e (inl w, none) other = open_as known earlier Q13 system class index basis p 2 0 w.0 w.1 none (signal_open known earlier index basis w.2)
-signal_linked known earlier (Unknown (Wide system class index basis)) p k e (inr w, none) other = open_as known earlier Q13 system class index basis p 5 0 w.0 w.1 none (shelf_open known earlier index basis k e w.2 w.3)
-signal_linked known earlier (Unknown (Budget budget)) p k e f other = subst (λ (x : Proof). IsLinked known earlier Q13 (answer (Unknown (Budget budget)) x)) (sym f.1) (signal_spent known earlier budget f.0.0 f.0.1)
-signal_linked known earlier (Unknown (Rests question)) p k e f other =
-    subst (λ (x : ℕ). IsLinked known earlier Q13 (answer (Unknown (Rests x)) p)) f.0 (subst (λ (x : Proof). IsLinked known earlier Q13 (answer (Unknown (Rests 12)) x)) (sym f.1) (signal_rests known earlier))
-signal_linked known earlier v p k e f other = absurd f.0
+signal_linked : (known : Known) (v : Verdict) (p : Proof) → IsStrong (on known.earlier Q2) → IsFormedOf known.net known.earlier Q13 v p → (v ≡ No → ⊥) → IsLinked known Q13 (answer v p)
+signal_linked known (YesSignal turn shelves mu level weights) Nothing k f other = signal_yes known turn shelves mu level weights f.0 f.1
+signal_linked known (YesSignal turn shelves mu level weights) p k f other = absurd f.1
+signal_linked known No p k f other = absurd (other refl)
+signal_linked known NotApplicable Nothing k f other = signal_none known
+signal_linked known NotApplicable p k f other = absurd f.1
+signal_linked known (Unknown (Wide system class index basis)) p k (inl w, none) other = open_as known Q13 system class index basis p 2 0 w.0 w.1 none (signal_open known index basis w.2)
+signal_linked known (Unknown (Wide system class index basis)) p k (inr w, none) other = open_as known Q13 system class index basis p 5 0 w.0 w.1 none (shelf_open known index basis k w.2 w.3)
+signal_linked known (Unknown (Budget budget)) p k f other = subst (λ (x : Proof). IsLinked known Q13 (answer (Unknown (Budget budget)) x)) (sym f.1) (signal_spent known budget f.0.0 f.0.1)
+signal_linked known (Unknown (Rests question)) p k f other =
+    subst (λ (x : ℕ). IsLinked known Q13 (answer (Unknown (Rests x)) p)) f.0 (subst (λ (x : Proof). IsLinked known Q13 (answer (Unknown (Rests 12)) x)) (sym f.1) (signal_rests known))
+signal_linked known v p k f other = absurd f.0
 
 -- ---- trees
 
@@ -263,31 +248,25 @@ abbrev pub choices_of : Known → ℕ
 choices_of known = terminal_of (on known.earlier Q2) + length known.net.names
 
 -- a formed tree is formed by what is known
-pub tree_known : (known : Known) (earlier : Earlier) (turn : ℤ) (t : Plan) → IsStrong (on known.earlier Q2) → IsAlike known earlier → IsSignalTree known.net earlier t → FormedAt (signal_problem known turn) [] t
-tree_known known earlier turn t k e f =
+pub tree_known : (known : Known) (turn : ℤ) (t : Plan) → IsStrong (on known.earlier Q2) → IsSignalTree known.net known.earlier t → FormedAt (signal_problem known turn) [] t
+tree_known known turn t k f =
     let net = known.net in
     let n = length net.names in
     let c = length net.complexes in
-    let by_count : IsFormedTree (terminal_of (on known.earlier Q2) + n) (c + length (pair_places net earlier)) n [] t = subst (λ (count : ℕ). IsFormedTree (count + n) (c + length (pair_places net earlier)) n [] t) (sym (terminal_alike known.earlier earlier Q2 e)) f in
-    subst (λ (ps : List ℕ). IsFormedTree (terminal_of (on known.earlier Q2) + n) (c + length ps) n [] t) (sym (same_pairs known earlier k e)) by_count
+    subst (λ (ps : List ℕ). IsFormedTree (terminal_of (on known.earlier Q2) + n) (c + length ps) n [] t) (sym (same_pairs known k)) f
 
-pub known_tree : (known : Known) (earlier : Earlier) (turn : ℤ) (t : Plan) → IsStrong (on known.earlier Q2) → IsAlike known earlier → FormedAt (signal_problem known turn) [] t → IsSignalTree known.net earlier t
-known_tree known earlier turn t k e f =
+pub known_tree : (known : Known) (turn : ℤ) (t : Plan) → IsStrong (on known.earlier Q2) → FormedAt (signal_problem known turn) [] t → IsSignalTree known.net known.earlier t
+known_tree known turn t k f =
     let net = known.net in
     let n = length net.names in
     let c = length net.complexes in
-    let by_count : IsFormedTree (terminal_of (on earlier Q2) + n) (c + length (pairs_of known)) n [] t = subst (λ (count : ℕ). IsFormedTree (count + n) (c + length (pairs_of known)) n [] t) (terminal_alike known.earlier earlier Q2 e) f in
-    subst (λ (ps : List ℕ). IsFormedTree (terminal_of (on earlier Q2) + n) (c + length ps) n [] t) (same_pairs known earlier k e) by_count
+    subst (λ (ps : List ℕ). IsFormedTree (terminal_of (on known.earlier Q2) + n) (c + length ps) n [] t) (same_pairs known k) f
 
--- a node is tested alike
-node_is : (known : Known) (earlier : Earlier) → IsAlike known earlier → (turn : ℤ) (p : List Sign) (said : Said) → IsNodeOf known.net known.earlier turn p said ≡ IsNodeOf known.net earlier turn p said
-node_is known earlier e turn p said = ap (λ (given : Option (List ℤ)). IsSomeAnd given (λ g. IsSignalNode known.net (by_turn turn g) p said)) (vectors_alike known.earlier earlier Q12 e)
-
-leaf_tests : (known : Known) (earlier : Earlier) → IsAlike known earlier → (turn : ℤ) → AreLeafTests (signal_problem known turn) (IsNodeOf known.net earlier turn)
-leaf_tests known earlier e turn = record {
-  part_a = λ p u. ((λ h. same_type (sym (node_is known earlier e turn p (CutsA u))) h), (λ h. same_type (node_is known earlier e turn p (CutsA u)) h));
-  part_b = λ p u. ((λ h. same_type (sym (node_is known earlier e turn p (CutsB u))) h), (λ h. same_type (node_is known earlier e turn p (CutsB u)) h));
-  closed = λ p. ((λ h. same_type (sym (node_is known earlier e turn p Flats)) h), (λ h. same_type (node_is known earlier e turn p Flats) h));
+leaf_tests : (known : Known) → (turn : ℤ) → AreLeafTests (signal_problem known turn) (IsNodeOf known.net known.earlier turn)
+leaf_tests known turn = record {
+  part_a = λ p u. ((λ h. h), (λ h. h));
+  part_b = λ p u. ((λ h. h), (λ h. h));
+  closed = λ p. ((λ h. h), (λ h. h));
 }
 
 abbrev Tested : Net → Earlier → ℤ → ℕ → Plan → Type 0
@@ -296,9 +275,9 @@ Tested net earlier turn part tree = AllHold (tree_tests (IsNodeOf net earlier tu
 abbrev Good : Known → ℤ → List Record → Type 0
 Good known turn rs = IsTree (IsGoodLeaf (signal_problem known turn)) (choices_of known) [] rs
 
-tested_good : (known : Known) (earlier : Earlier) (turn : ℤ) (part : ℕ) (tree : Plan) → IsAlike known earlier → FormedAt (signal_problem known turn) [] tree → Tested known.net earlier turn part tree → Good known turn (nodes tree)
-tested_good known earlier turn part tree e f hold =
-    tree_good (signal_problem known turn) (choices_of known) [] tree (at_root (choices_of known)) f (tests_true (signal_problem known turn) (IsNodeOf known.net earlier turn) (leaf_tests known earlier e turn) part [] tree hold)
+tested_good : (known : Known) (turn : ℤ) (part : ℕ) (tree : Plan) → FormedAt (signal_problem known turn) [] tree → Tested known.net known.earlier turn part tree → Good known turn (nodes tree)
+tested_good known turn part tree f hold =
+    tree_good (signal_problem known turn) (choices_of known) [] tree (at_root (choices_of known)) f (tests_true (signal_problem known turn) (IsNodeOf known.net known.earlier turn) (leaf_tests known turn) part [] tree hold)
 
 some_map : (o : Option (List ℤ)) (P Q : List ℤ → Type 0) → ((g : List ℤ) → P g → Q g) → IsSomeAnd o P → IsSomeAnd o Q
 some_map None P Q f h = h
@@ -323,11 +302,11 @@ splits_by known turn true_ shape p less =
         let room : length p < s.count + s.species = omega (arith, less, species, shape_count known.net known.earlier (by_turn turn g) s true_ is) in
         room
 
-good_tested : (known : Known) (earlier : Earlier) (turn : ℤ) (part : ℕ) (tree : Plan) → IsTrueOf known.net Q2 (on known.earlier Q2) → IsAlike known earlier → FormedAt (signal_problem known turn) [] tree → Good known turn (nodes tree) → Tested known.net earlier turn part tree
-good_tested known earlier turn part tree true_ e f good =
+good_tested : (known : Known) (turn : ℤ) (part : ℕ) (tree : Plan) → IsTrueOf known.net Q2 (on known.earlier Q2) → FormedAt (signal_problem known turn) [] tree → Good known turn (nodes tree) → Tested known.net known.earlier turn part tree
+good_tested known turn part tree true_ f good =
     let leaves = tree_true (signal_problem known turn) (choices_of known) [] tree (at_root (choices_of known)) f good in
     let shape : ShapeKnown known turn = from_some_leaf (ShapeKnown known turn) (signal_problem known turn) (λ p u h. shape_by known turn p (CutsA u) h) (λ p u h. shape_by known turn p (CutsB u) h) (λ p h. shape_by known turn p Flats h) [] tree leaves in
-    true_tests (signal_problem known turn) (IsNodeOf known.net earlier turn) (leaf_tests known earlier e turn) (λ p less. same_type (node_is known earlier e turn p Splits) (splits_by known turn true_ shape p less)) part [] tree f leaves
+    true_tests (signal_problem known turn) (IsNodeOf known.net known.earlier turn) (leaf_tests known turn) (λ p less. splits_by known turn true_ shape p less) part [] tree f leaves
 
 -- ---- one tree, or two
 
@@ -374,83 +353,77 @@ AnyLeaf problem prefix r = IsOneOf (leaf_forms problem) r
 
 -- ---- formed answers
 
-signal_formed : (known : Known) (earlier : Earlier) (v : Verdict) (p : Proof) → IsStrong (on known.earlier Q2) → IsAlike known earlier → IsFormedOf known.net earlier Q13 v p → IsFormed meaning Q13 known (records Q13 (shapes_of known) (answer v p)) (parts Q13 known (answer v p))
-signal_formed known earlier No (One tree) k e f =
-    record { head = (_, inr (inl refl), (refl, refl)); rows = tt; trees = by_weak AnyLeaf known false (nodes tree) (not_weak_known known earlier e f.1.0) (one_formed known tree (tree_known known earlier (pos 1) tree k e f.1.1)) }
-signal_formed known earlier No (Two tree second) k e f =
+signal_formed : (known : Known) (v : Verdict) (p : Proof) → IsStrong (on known.earlier Q2) → IsFormedOf known.net known.earlier Q13 v p → IsFormed meaning Q13 known (records Q13 (shapes_of known) (answer v p)) (parts Q13 known (answer v p))
+signal_formed known No (One tree) k f =
+    record { head = (_, inr (inl refl), (refl, refl)); rows = tt; trees = by_weak AnyLeaf known false (nodes tree) (not_weak_known known f.1.0) (one_formed known tree (tree_known known (pos 1) tree k f.1.1)) }
+signal_formed known No (Two tree second) k f =
     record {
       head = (_, inr (inl refl), (refl, refl));
       rows = tt;
-      trees = by_weak AnyLeaf known true (nodes tree ++ nodes second) (weak_known known earlier e f.1.0) (two_formed known tree second (tree_known known earlier (pos 1) tree k e f.1.1) (tree_known known earlier (negsuc 0) second k e f.1.2));
+      trees = by_weak AnyLeaf known true (nodes tree ++ nodes second) (weak_known known f.1.0) (two_formed known tree second (tree_known known (pos 1) tree k f.1.1) (tree_known known (negsuc 0) second k f.1.2));
     }
-signal_formed known earlier No p k e f = absurd f.1
-signal_formed known earlier (YesSignal turn shelves mu level weights) p k e f = let l = signal_linked known earlier (YesSignal turn shelves mu level weights) p k e f (λ o. absurd cc) in l.formed
-signal_formed known earlier NotApplicable p k e f = let l = signal_linked known earlier NotApplicable p k e f (λ o. absurd cc) in l.formed
-signal_formed known earlier (Unknown gap) p k e f = let l = signal_linked known earlier (Unknown gap) p k e f (λ o. absurd cc) in l.formed
-signal_formed known earlier v p k e f = absurd f.0
+signal_formed known No p k f = absurd f.1
+signal_formed known (YesSignal turn shelves mu level weights) p k f = let l = signal_linked known (YesSignal turn shelves mu level weights) p k f (λ o. absurd cc) in l.formed
+signal_formed known NotApplicable p k f = let l = signal_linked known NotApplicable p k f (λ o. absurd cc) in l.formed
+signal_formed known (Unknown gap) p k f = let l = signal_linked known (Unknown gap) p k f (λ o. absurd cc) in l.formed
+signal_formed known v p k f = absurd f.0
 
 -- ---- valid answers
 
-vector_there : (known : Known) (earlier : Earlier) → IsAlike known earlier → HasVector earlier → HasVector known.earlier
-vector_there known earlier e h = subst (λ (o : Option (List ℤ)). IsSome o) (sym (vectors_alike known.earlier earlier Q12 e)) h
-
-vector_back : (known : Known) (earlier : Earlier) → IsAlike known earlier → HasVector known.earlier → HasVector earlier
-vector_back known earlier e h = subst (λ (o : Option (List ℤ)). IsSome o) (vectors_alike known.earlier earlier Q12 e) h
-
-signal_there : (known : Known) (earlier : Earlier) (v : Verdict) (p : Proof) → IsStrong (on known.earlier Q2) → IsAlike known earlier → IsFormedOf known.net earlier Q13 v p → IsValid known.net earlier Q13 (answer v p) → documents.IsValid meaning Q13 known (records Q13 (shapes_of known) (answer v p)) (parts Q13 known (answer v p))
-signal_there known earlier No (One tree) k e f v =
+signal_there : (known : Known) (v : Verdict) (p : Proof) → IsStrong (on known.earlier Q2) → IsFormedOf known.net known.earlier Q13 v p → IsValid known.net known.earlier Q13 (answer v p) → documents.IsValid meaning Q13 known (records Q13 (shapes_of known) (answer v p)) (parts Q13 known (answer v p))
+signal_there known No (One tree) k f v =
     record {
-      head = (vector_there known earlier e v.0, tt);
+      head = (v.0, tt);
       rows = tt;
-      trees = by_weak IsGoodLeaf known false (nodes tree) (not_weak_known known earlier e f.1.0) (one_good known tree (tested_good known earlier (pos 1) 1 tree e (tree_known known earlier (pos 1) tree k e f.1.1) v.1));
+      trees = by_weak IsGoodLeaf known false (nodes tree) (not_weak_known known f.1.0) (one_good known tree (tested_good known (pos 1) 1 tree (tree_known known (pos 1) tree k f.1.1) v.1));
     }
-signal_there known earlier No (Two tree second) k e f v =
+signal_there known No (Two tree second) k f v =
     let last = 1 + node_count tree in
-    let both = hold_parts (tree_tests (IsNodeOf known.net earlier (pos 1)) 1 [] tree) (tree_tests (IsNodeOf known.net earlier (negsuc 0)) last [] second) v.1 in
+    let both = hold_parts (tree_tests (IsNodeOf known.net known.earlier (pos 1)) 1 [] tree) (tree_tests (IsNodeOf known.net known.earlier (negsuc 0)) last [] second) v.1 in
     record {
-      head = (vector_there known earlier e v.0, tt);
+      head = (v.0, tt);
       rows = tt;
-      trees = by_weak IsGoodLeaf known true (nodes tree ++ nodes second) (weak_known known earlier e f.1.0)
-          (two_good known tree second (tested_good known earlier (pos 1) 1 tree e (tree_known known earlier (pos 1) tree k e f.1.1) both.0) (tested_good known earlier (negsuc 0) last second e (tree_known known earlier (negsuc 0) second k e f.1.2) both.1));
+      trees = by_weak IsGoodLeaf known true (nodes tree ++ nodes second) (weak_known known f.1.0)
+          (two_good known tree second (tested_good known (pos 1) 1 tree (tree_known known (pos 1) tree k f.1.1) both.0) (tested_good known (negsuc 0) last second (tree_known known (negsuc 0) second k f.1.2) both.1));
     }
-signal_there known earlier No p k e f v = absurd f.1
-signal_there known earlier (YesSignal turn shelves mu level weights) p k e f v = linked_there known earlier Q13 (answer (YesSignal turn shelves mu level weights) p) refl (signal_linked known earlier (YesSignal turn shelves mu level weights) p k e f (λ o. absurd cc)) v
-signal_there known earlier NotApplicable p k e f v = linked_there known earlier Q13 (answer NotApplicable p) refl (signal_linked known earlier NotApplicable p k e f (λ o. absurd cc)) v
-signal_there known earlier (Unknown (Wide system class index basis)) p k e f v = linked_there known earlier Q13 (answer (Unknown (Wide system class index basis)) p) refl (signal_linked known earlier (Unknown (Wide system class index basis)) p k e f (λ o. absurd cc)) v
-signal_there known earlier (Unknown (Budget budget)) p k e f v = linked_there known earlier Q13 (answer (Unknown (Budget budget)) p) refl (signal_linked known earlier (Unknown (Budget budget)) p k e f (λ o. absurd cc)) v
-signal_there known earlier (Unknown (Rests question)) p k e f v = linked_there known earlier Q13 (answer (Unknown (Rests question)) p) refl (signal_linked known earlier (Unknown (Rests question)) p k e f (λ o. absurd cc)) v
-signal_there known earlier v p k e f valid = absurd f.0
+signal_there known No p k f v = absurd f.1
+signal_there known (YesSignal turn shelves mu level weights) p k f v = linked_there known Q13 (answer (YesSignal turn shelves mu level weights) p) refl (signal_linked known (YesSignal turn shelves mu level weights) p k f (λ o. absurd cc)) v
+signal_there known NotApplicable p k f v = linked_there known Q13 (answer NotApplicable p) refl (signal_linked known NotApplicable p k f (λ o. absurd cc)) v
+signal_there known (Unknown (Wide system class index basis)) p k f v = linked_there known Q13 (answer (Unknown (Wide system class index basis)) p) refl (signal_linked known (Unknown (Wide system class index basis)) p k f (λ o. absurd cc)) v
+signal_there known (Unknown (Budget budget)) p k f v = linked_there known Q13 (answer (Unknown (Budget budget)) p) refl (signal_linked known (Unknown (Budget budget)) p k f (λ o. absurd cc)) v
+signal_there known (Unknown (Rests question)) p k f v = linked_there known Q13 (answer (Unknown (Rests question)) p) refl (signal_linked known (Unknown (Rests question)) p k f (λ o. absurd cc)) v
+signal_there known v p k f valid = absurd f.0
 
-signal_back : (known : Known) (earlier : Earlier) (v : Verdict) (p : Proof) → IsStrong (on known.earlier Q2) → IsTrueOf known.net Q2 (on known.earlier Q2) → IsAlike known earlier → IsFormedOf known.net earlier Q13 v p
-    → documents.IsValid meaning Q13 known (records Q13 (shapes_of known) (answer v p)) (parts Q13 known (answer v p)) → IsValid known.net earlier Q13 (answer v p)
-signal_back known earlier No (One tree) k s e f v =
+signal_back : (known : Known) (v : Verdict) (p : Proof) → IsStrong (on known.earlier Q2) → IsTrueOf known.net Q2 (on known.earlier Q2) → IsFormedOf known.net known.earlier Q13 v p
+    → documents.IsValid meaning Q13 known (records Q13 (shapes_of known) (answer v p)) (parts Q13 known (answer v p)) → IsValid known.net known.earlier Q13 (answer v p)
+signal_back known No (One tree) k s f v =
     let head = v.head in
-    let trees = to_weak IsGoodLeaf known false (nodes tree) (not_weak_known known earlier e f.1.0) v.trees in
-    (vector_back known earlier e head.0, good_tested known earlier (pos 1) 1 tree s e (tree_known known earlier (pos 1) tree k e f.1.1) (good_one known tree trees))
-signal_back known earlier No (Two tree second) k s e f v =
+    let trees = to_weak IsGoodLeaf known false (nodes tree) (not_weak_known known f.1.0) v.trees in
+    (head.0, good_tested known (pos 1) 1 tree s (tree_known known (pos 1) tree k f.1.1) (good_one known tree trees))
+signal_back known No (Two tree second) k s f v =
     let head = v.head in
     let last = 1 + node_count tree in
-    let first = tree_known known earlier (pos 1) tree k e f.1.1 in
-    let trees = to_weak IsGoodLeaf known true (nodes tree ++ nodes second) (weak_known known earlier e f.1.0) v.trees in
+    let first = tree_known known (pos 1) tree k f.1.1 in
+    let trees = to_weak IsGoodLeaf known true (nodes tree ++ nodes second) (weak_known known f.1.0) v.trees in
     let both = good_two known tree second first trees in (
-      vector_back known earlier e head.0,
-      hold_append (tree_tests (IsNodeOf known.net earlier (pos 1)) 1 [] tree) (tree_tests (IsNodeOf known.net earlier (negsuc 0)) last [] second)
-          (good_tested known earlier (pos 1) 1 tree s e first both.0) (good_tested known earlier (negsuc 0) last second s e (tree_known known earlier (negsuc 0) second k e f.1.2) both.1),
+      head.0,
+      hold_append (tree_tests (IsNodeOf known.net known.earlier (pos 1)) 1 [] tree) (tree_tests (IsNodeOf known.net known.earlier (negsuc 0)) last [] second)
+          (good_tested known (pos 1) 1 tree s first both.0) (good_tested known (negsuc 0) last second s (tree_known known (negsuc 0) second k f.1.2) both.1),
     )
-signal_back known earlier No p k s e f v = absurd f.1
-signal_back known earlier (YesSignal turn shelves mu level weights) p k s e f v = linked_back known earlier Q13 (answer (YesSignal turn shelves mu level weights) p) (signal_linked known earlier (YesSignal turn shelves mu level weights) p k e f (λ o. absurd cc)) v
-signal_back known earlier NotApplicable p k s e f v = linked_back known earlier Q13 (answer NotApplicable p) (signal_linked known earlier NotApplicable p k e f (λ o. absurd cc)) v
-signal_back known earlier (Unknown gap) p k s e f v = linked_back known earlier Q13 (answer (Unknown gap) p) (signal_linked known earlier (Unknown gap) p k e f (λ o. absurd cc)) v
-signal_back known earlier v p k s e f valid = absurd f.0
+signal_back known No p k s f v = absurd f.1
+signal_back known (YesSignal turn shelves mu level weights) p k s f v = linked_back known Q13 (answer (YesSignal turn shelves mu level weights) p) (signal_linked known (YesSignal turn shelves mu level weights) p k f (λ o. absurd cc)) v
+signal_back known NotApplicable p k s f v = linked_back known Q13 (answer NotApplicable p) (signal_linked known NotApplicable p k f (λ o. absurd cc)) v
+signal_back known (Unknown gap) p k s f v = linked_back known Q13 (answer (Unknown gap) p) (signal_linked known (Unknown gap) p k f (λ o. absurd cc)) v
+signal_back known v p k s f valid = absurd f.0
 
 -- ---- what the records say
 
-signal_says : (known : Known) (earlier : Earlier) (v : Verdict) (p : Proof) → IsStrong (on known.earlier Q2) → IsAlike known earlier → IsFormedOf known.net earlier Q13 v p → said (verdict_of Q13 (sizes_of known) (head_of Q13 v) (records_below (shapes_of known) (answer v p))) ≡ said v
-signal_says known earlier No p k e f = refl
-signal_says known earlier (YesSignal turn shelves mu level weights) p k e f = let l = signal_linked known earlier (YesSignal turn shelves mu level weights) p k e f (λ o. absurd cc) in l.says
-signal_says known earlier NotApplicable p k e f = let l = signal_linked known earlier NotApplicable p k e f (λ o. absurd cc) in l.says
-signal_says known earlier (Unknown gap) p k e f = let l = signal_linked known earlier (Unknown gap) p k e f (λ o. absurd cc) in l.says
-signal_says known earlier v p k e f = absurd f.0
+signal_says : (known : Known) (v : Verdict) (p : Proof) → IsStrong (on known.earlier Q2) → IsFormedOf known.net known.earlier Q13 v p → verdict_of Q13 (sizes_of known) (head_of Q13 v) (records_below (shapes_of known) (answer v p)) ≡ tight v
+signal_says known No p k f = refl
+signal_says known (YesSignal turn shelves mu level weights) p k f = let l = signal_linked known (YesSignal turn shelves mu level weights) p k f (λ o. absurd cc) in l.says
+signal_says known NotApplicable p k f = let l = signal_linked known NotApplicable p k f (λ o. absurd cc) in l.says
+signal_says known (Unknown gap) p k f = let l = signal_linked known (Unknown gap) p k f (λ o. absurd cc) in l.says
+signal_says known v p k f = absurd f.0
 
 -- the trees of a proof: none, one, or two, by whether the network is weakly reversible
 abbrev pub HasSignalTrees : Net → Earlier → Proof → Type 0
@@ -477,33 +450,33 @@ no_more tree rs e = by (nodes tree) (some_nodes tree) e
     by [] none same = none refl
     by (n ∷ ns) none same = cc
 
-shown_by : (known : Known) (earlier later : Earlier) (p r : Proof) → IsStrong (on known.earlier Q2) → IsAlike known earlier → IsAlike known later → HasSignalTrees known.net earlier p → HasSignalTrees known.net later r → proof_nodes p ≡ proof_nodes r → shown p ≡ shown r
-shown_by known earlier later p r k d e (inl a) (inl b) n = ap shown (a ∙ sym b)
-shown_by known earlier later p r k d e (inl a) (inr (inl b)) n = absurd (some_nodes b.0 (sym (ap proof_nodes b.1) ∙ sym n ∙ ap proof_nodes a))
-shown_by known earlier later p r k d e (inl a) (inr (inr b)) n = absurd (no_more b.0 (nodes b.1) (sym (ap proof_nodes b.2) ∙ sym n ∙ ap proof_nodes a))
-shown_by known earlier later p r k d e (inr (inl a)) (inl b) n = absurd (some_nodes a.0 (sym (ap proof_nodes a.1) ∙ n ∙ ap proof_nodes b))
-shown_by known earlier later p r k d e (inr (inr a)) (inl b) n = absurd (no_more a.0 (nodes a.1) (sym (ap proof_nodes a.2) ∙ n ∙ ap proof_nodes b))
-shown_by known earlier later p r k d e (inr (inl a)) (inr (inr b)) n = absurd (let h : false ≡ true = sym (not_weak_known known earlier d a.2) ∙ weak_known known later e b.3 in cc)
-shown_by known earlier later p r k d e (inr (inr a)) (inr (inl b)) n = absurd (let h : true ≡ false = sym (weak_known known earlier d a.3) ∙ not_weak_known known later e b.2 in cc)
-shown_by known earlier later p r k d e (inr (inl a)) (inr (inl b)) n =
+shown_by : (known : Known) (p r : Proof) → IsStrong (on known.earlier Q2) → HasSignalTrees known.net known.earlier p → HasSignalTrees known.net known.earlier r → proof_nodes p ≡ proof_nodes r → shown p ≡ shown r
+shown_by known p r k (inl a) (inl b) n = ap shown (a ∙ sym b)
+shown_by known p r k (inl a) (inr (inl b)) n = absurd (some_nodes b.0 (sym (ap proof_nodes b.1) ∙ sym n ∙ ap proof_nodes a))
+shown_by known p r k (inl a) (inr (inr b)) n = absurd (no_more b.0 (nodes b.1) (sym (ap proof_nodes b.2) ∙ sym n ∙ ap proof_nodes a))
+shown_by known p r k (inr (inl a)) (inl b) n = absurd (some_nodes a.0 (sym (ap proof_nodes a.1) ∙ n ∙ ap proof_nodes b))
+shown_by known p r k (inr (inr a)) (inl b) n = absurd (no_more a.0 (nodes a.1) (sym (ap proof_nodes a.2) ∙ n ∙ ap proof_nodes b))
+shown_by known p r k (inr (inl a)) (inr (inr b)) n = absurd (let h : false ≡ true = sym (not_weak_known known a.2) ∙ weak_known known b.3 in cc)
+shown_by known p r k (inr (inr a)) (inr (inl b)) n = absurd (let h : true ≡ false = sym (weak_known known a.3) ∙ not_weak_known known b.2 in cc)
+shown_by known p r k (inr (inl a)) (inr (inl b)) n =
     let same : nodes a.0 ≡ nodes b.0 = sym (ap proof_nodes a.1) ∙ n ∙ ap proof_nodes b.1 in
-    let one = plans_one (signal_problem known (pos 1)) (choices_of known) [] a.0 b.0 (at_root (choices_of known)) (tree_known known earlier (pos 1) a.0 k d a.3) (tree_known known later (pos 1) b.0 k e b.3) same in
+    let one = plans_one (signal_problem known (pos 1)) (choices_of known) [] a.0 b.0 (at_root (choices_of known)) (tree_known known (pos 1) a.0 k a.3) (tree_known known (pos 1) b.0 k b.3) same in
     ap shown a.1 ∙ ap (λ t. (Nothing, t ∷ [])) one ∙ sym (ap shown b.1)
-shown_by known earlier later p r k d e (inr (inr a)) (inr (inr b)) n =
+shown_by known p r k (inr (inr a)) (inr (inr b)) n =
     let same : nodes a.0 ++ nodes a.1 ≡ nodes b.0 ++ nodes b.1 = sym (ap proof_nodes a.2) ∙ n ∙ ap proof_nodes b.2 in
-    let f = tree_known known earlier (pos 1) a.0 k d a.4 in
-    let g = tree_known known later (pos 1) b.0 k e b.4 in
+    let f = tree_known known (pos 1) a.0 k a.4 in
+    let g = tree_known known (pos 1) b.0 k b.4 in
     let apart = tree_apart (signal_problem known (pos 1)) (choices_of known) [] (nodes a.0) (nodes b.0) (nodes a.1) (nodes b.1) (tree_formed (signal_problem known (pos 1)) (choices_of known) [] a.0 (at_root (choices_of known)) f)
     (tree_formed (signal_problem known (pos 1)) (choices_of known) [] b.0 (at_root (choices_of known)) g) same in
     let one = plans_one (signal_problem known (pos 1)) (choices_of known) [] a.0 b.0 (at_root (choices_of known)) f g apart.0 in
-    let two = plans_one (signal_problem known (negsuc 0)) (choices_of known) [] a.1 b.1 (at_root (choices_of known)) (tree_known known earlier (negsuc 0) a.1 k d a.5) (tree_known known later (negsuc 0) b.1 k e b.5) apart.1 in
+    let two = plans_one (signal_problem known (negsuc 0)) (choices_of known) [] a.1 b.1 (at_root (choices_of known)) (tree_known known (negsuc 0) a.1 k a.5) (tree_known known (negsuc 0) b.1 k b.5) apart.1 in
     ap shown a.2 ∙ ap₂ (λ (t u : Plan). (Nothing, t ∷ u ∷ [])) one two ∙ sym (ap shown b.2)
 
 pub signal_joined : IsJoinedFor true Q13
 signal_joined = record {
-  formed = λ known earlier v p k e f. signal_formed known earlier v p k e f;
-  there = λ known earlier v p k e f valid. signal_there known earlier v p k e f valid;
-  back = λ known earlier v p k s e f valid. signal_back known earlier v p k s e f valid;
-  says = λ known earlier v p k e f. signal_says known earlier v p k e f;
-  shows = λ known earlier later v w p r k d e f g head rows nodes. shown_by known earlier later p r k d e (signal_trees known.net earlier v p f.1) (signal_trees known.net later w r g.1) nodes;
+  formed = λ known v p k f. signal_formed known v p k f;
+  there = λ known v p k f valid. signal_there known v p k f valid;
+  back = λ known v p k s f valid. signal_back known v p k s f valid;
+  says = λ known v p k f. signal_says known v p k f;
+  shows = λ known v w p r k f g head rows nodes. shown_by known p r k (signal_trees known.net known.earlier v p f.1) (signal_trees known.net known.earlier w r g.1) nodes;
 }

@@ -12,9 +12,7 @@ use Rattle.crn_cert.specs.declared.answer.Verdict.{Verdict}
 use Rattle.crn_cert.specs.declared.answer.Verdict.TheVariants.{Yes, Unknown, NoPair, YesSignal, No, NotApplicable}
 use Rattle.crn_cert.specs.declared.answer.Proof.{Proof}
 use Rattle.crn_cert.specs.declared.answer.Proof.TheVariants.{Nothing, One, Two}
-use Rattle.crn_cert.specs.Questions.{Earlier, Question, Q2, Q4, Q12, Q13, Q14, Q15, on, terminal_of, IsYes}
-use Rattle.std.specs.Prelude.{Option}
-use Rattle.std.specs.Option.{IsSome}
+use Rattle.crn_cert.specs.Questions.{Question, Q2, Q4, Q12, Q13, Q14, Q15, on, terminal_of, IsYes}
 use Rattle.crn_cert.specs.Says.{IsTurn, IsShelf}
 use Rattle.crn_cert.specs.Formed.{IsBasisOf, AreShelves, IsFormedOf}
 use Rattle.crn_cert.specs.Ranges.{IsNarrow, AreFree}
@@ -25,8 +23,7 @@ use Rattle.crn_ctext.specs.Blocks.{problems, below}
 use Rattle.crn_ctext.specs.Documents.{one_word, AreTrees, IsOneOf}
 use Rattle.crn_ctext.specs.Answers.{head_with, open_head, head_of, records_below, proof_nodes, nodes as nodes_of}
 use Rattle.crn_ctext.specs.Meaning.{Known, is_yes, has_vector, signal_problem, signal_problems, pairs_of, shapes_of, sizes_of, verdict_of, meaning}
-use Rattle.crn_ctext.proofs.Alike.{IsAlike, vectors_alike, terminal_alike, yes_alike}
-use Rattle.crn_ctext.proofs.SignalLinked.{is_yes_then, vector_then, same_type, weak_known, last_forms, spent_below, rests_below, same_pairs, choices_of, known_tree}
+use Rattle.crn_ctext.proofs.SignalLinked.{is_yes_then, vector_then, weak_known, last_forms, spent_below, rests_below, same_pairs, choices_of, known_tree}
 use Rattle.crn_ctext.proofs.KnownBefore.{IsStrong}
 use Rattle.crn_ctext.proofs.TreeRecords.{tree_of}
 use Rattle.crn_ctext.proofs.TablesLinked.{table_of, at_root}
@@ -40,7 +37,7 @@ use Rattle.crn_ctext.proofs.ConfluenceAnswered.{free_pair}
 
 -- The parts of a block are those of an answer that is formed after verdicts that say what is known, and its verdict is the one that is read of the block.
 abbrev pub IsShown : Known → Question → Record → List Record → List Record → Type 0
-IsShown known q head rows nodes = (v : Verdict) × (p : Proof) × ((earlier : Earlier) → IsAlike known earlier → IsFormedOf known.net earlier q v p)
+IsShown known q head rows nodes = (v : Verdict) × (p : Proof) × IsFormedOf known.net known.earlier q v p
     × (head ≡ head_of q v) × (rows ≡ records_below (shapes_of known) (record { verdict = v; proof = p })) × (nodes ≡ proof_nodes p)
     × (verdict_of q (sizes_of known) head rows ≡ v)
 
@@ -57,22 +54,22 @@ concordance_answered known h rows nodes (form, inl e, fits) =
     let f : Fits (head (codes "q14") 1 yes []) h = subst (λ (f : Form). Fits f h) e fits in
     shown_at known Q14 h (head_with Q14 yes []) rows nodes (record_is h (codes "q14" ∷ yes) [] f.0 f.1) (λ z t.
     let tree = tree_of (table_of net (plain_table net)) (length net.names) [] t.0 (at_root (length net.names)) t.3 in
-    (Yes, One tree.0, (λ earlier e. (tt, tree.2)), refl, zip_none rows z, t.2 ∙ ap (λ (x : List Record). t.0 ++ x) t.4 ∙ append-nil t.0 ∙ tree.1, refl))
+    (Yes, One tree.0, (tt, tree.2), refl, zip_none rows z, t.2 ∙ ap (λ (x : List Record). t.0 ++ x) t.4 ∙ append-nil t.0 ∙ tree.1, refl))
 concordance_answered known h rows nodes (form, inr (inl e), fits) =
     let f : Fits (head (codes "q14") 2 no []) h = subst (λ (f : Form). Fits f h) e fits in
     shown_at known Q14 h (head_with Q14 no []) rows nodes (record_is h (codes "q14" ∷ no) [] f.0 f.1) (λ z t.
     let a = free_pair (codes "alpha") (codes "weights") (length known.net.reactions) rows z in
-    (NoPair (kept_ints a.0) (kept_ints a.1), Nothing, (λ earlier e. (tt, (a.3.0, a.3.1))), refl, a.2, t, ap (λ (rs : List Record). verdict_of Q14 (sizes_of known) (head_with Q14 no []) rs) a.2))
+    (NoPair (kept_ints a.0) (kept_ints a.1), Nothing, (tt, (a.3.0, a.3.1)), refl, a.2, t, ap (λ (rs : List Record). verdict_of Q14 (sizes_of known) (head_with Q14 no []) rs) a.2))
 concordance_answered known h rows nodes (form, inr (inr (inl e)), fits) =
     let f : Fits (wide (codes "q14") 3 2 (length known.net.reactions) (length known.net.names)) h = subst (λ (f : Form). Fits f h) e fits in
     let b = wide_back 2 (length known.net.reactions) (length known.net.names) h.numbers f.1 in
     shown_at known Q14 h (open_head Q14 (Wide 2 0 b.0 (kept b.1))) rows nodes (record_is h (codes "q14" ∷ open_by (codes "wide")) (map pos (2 ∷ 0 ∷ b.0 ∷ b.1)) f.0 b.2) (λ z t.
-    (Unknown (Wide 2 0 b.0 (kept b.1)), Nothing, (λ earlier e. ((refl, refl, b.3), refl)), refl, zip_none rows z, t, open_by_wide known Q14 2 0 b.0 b.1 rows))
+    (Unknown (Wide 2 0 b.0 (kept b.1)), Nothing, ((refl, refl, b.3), refl), refl, zip_none rows z, t, open_by_wide known Q14 2 0 b.0 b.1 rows))
 concordance_answered known h rows nodes (form, inr (inr (inr (inl e))), fits) =
     let f : Fits (spent (codes "q14") 4) h = subst (λ (f : Form). Fits f h) e fits in
     let n = one_number 1 MAX_BUDGET h.numbers f.1 in
     shown_at known Q14 h (open_head Q14 (Budget n.0)) rows nodes (record_is h (codes "q14" ∷ open_by (codes "budget")) (pos n.0 ∷ []) f.0 n.1) (λ z t.
-    (Unknown (Budget n.0), Nothing, (λ earlier e. (n.2, refl)), refl, zip_none rows z, t, refl))
+    (Unknown (Budget n.0), Nothing, (n.2, refl), refl, zip_none rows z, t, refl))
 concordance_answered known h rows nodes (form, inr (inr (inr (inr none))), fits) = absurd none
 
 pub strong_concordance_answered : (known : Known) (h : Record) (rows nodes : List Record) → IsOneOf (heads Q15 (sizes_of known)) h → TellParts known Q15 h rows nodes
@@ -82,22 +79,22 @@ strong_concordance_answered known h rows nodes (form, inl e, fits) =
     let f : Fits (head (codes "q15") 1 yes []) h = subst (λ (f : Form). Fits f h) e fits in
     shown_at known Q15 h (head_with Q15 yes []) rows nodes (record_is h (codes "q15" ∷ yes) [] f.0 f.1) (λ z t.
     let tree = tree_of (table_of net (strong_table net)) (length net.names) [] t.0 (at_root (length net.names)) t.3 in
-    (Yes, One tree.0, (λ earlier e. (tt, tree.2)), refl, zip_none rows z, t.2 ∙ ap (λ (x : List Record). t.0 ++ x) t.4 ∙ append-nil t.0 ∙ tree.1, refl))
+    (Yes, One tree.0, (tt, tree.2), refl, zip_none rows z, t.2 ∙ ap (λ (x : List Record). t.0 ++ x) t.4 ∙ append-nil t.0 ∙ tree.1, refl))
 strong_concordance_answered known h rows nodes (form, inr (inl e), fits) =
     let f : Fits (head (codes "q15") 2 no []) h = subst (λ (f : Form). Fits f h) e fits in
     shown_at known Q15 h (head_with Q15 no []) rows nodes (record_is h (codes "q15" ∷ no) [] f.0 f.1) (λ z t.
     let a = free_pair (codes "alpha") (codes "weights") (length known.net.reactions) rows z in
-    (NoPair (kept_ints a.0) (kept_ints a.1), Nothing, (λ earlier e. (tt, (a.3.0, a.3.1))), refl, a.2, t, ap (λ (rs : List Record). verdict_of Q15 (sizes_of known) (head_with Q15 no []) rs) a.2))
+    (NoPair (kept_ints a.0) (kept_ints a.1), Nothing, (tt, (a.3.0, a.3.1)), refl, a.2, t, ap (λ (rs : List Record). verdict_of Q15 (sizes_of known) (head_with Q15 no []) rs) a.2))
 strong_concordance_answered known h rows nodes (form, inr (inr (inl e)), fits) =
     let f : Fits (wide (codes "q15") 3 2 (length known.net.reactions) (length known.net.names)) h = subst (λ (f : Form). Fits f h) e fits in
     let b = wide_back 2 (length known.net.reactions) (length known.net.names) h.numbers f.1 in
     shown_at known Q15 h (open_head Q15 (Wide 2 0 b.0 (kept b.1))) rows nodes (record_is h (codes "q15" ∷ open_by (codes "wide")) (map pos (2 ∷ 0 ∷ b.0 ∷ b.1)) f.0 b.2) (λ z t.
-    (Unknown (Wide 2 0 b.0 (kept b.1)), Nothing, (λ earlier e. ((refl, refl, b.3), refl)), refl, zip_none rows z, t, open_by_wide known Q15 2 0 b.0 b.1 rows))
+    (Unknown (Wide 2 0 b.0 (kept b.1)), Nothing, ((refl, refl, b.3), refl), refl, zip_none rows z, t, open_by_wide known Q15 2 0 b.0 b.1 rows))
 strong_concordance_answered known h rows nodes (form, inr (inr (inr (inl e))), fits) =
     let f : Fits (spent (codes "q15") 4) h = subst (λ (f : Form). Fits f h) e fits in
     let n = one_number 1 MAX_BUDGET h.numbers f.1 in
     shown_at known Q15 h (open_head Q15 (Budget n.0)) rows nodes (record_is h (codes "q15" ∷ open_by (codes "budget")) (pos n.0 ∷ []) f.0 n.1) (λ z t.
-    (Unknown (Budget n.0), Nothing, (λ earlier e. (n.2, refl)), refl, zip_none rows z, t, refl))
+    (Unknown (Budget n.0), Nothing, (n.2, refl), refl, zip_none rows z, t, refl))
 strong_concordance_answered known h rows nodes (form, inr (inr (inr (inr none))), fits) = absurd none
 
 -- ---- signals
@@ -169,7 +166,7 @@ signal_by known turn rows nodes is z t =
     let b = shelves_back known.net (terminal_of (on known.earlier Q2)) rows z in (
       YesSignal turn (kept_ints b.0) (kept_ints b.1) b.2 (kept_ints b.3),
       Nothing,
-      (λ earlier e. (is, record { shelves_are = subst (λ (n : ℕ). AreShelves n b.0) (terminal_alike known.earlier earlier Q2 e) b.5.0; mu_is = b.5.1.0; level_is = b.5.1.1.0; weights_are = b.5.1.1.1 })),
+      (is, record { shelves_are = b.5.0; mu_is = b.5.1.0; level_is = b.5.1.1.0; weights_are = b.5.1.1.1 }),
       refl,
       b.4,
       t,
@@ -177,18 +174,18 @@ signal_by known turn rows nodes is z t =
     )
 
 -- whether it is answered by a yes, by verdicts that say the same
-yes_later : (known : Known) (earlier : Earlier) → IsAlike known earlier → is_yes (on known.earlier Q4) ≡ true → IsYes (on earlier Q4)
-yes_later known earlier e h = same_type (yes_alike known.earlier earlier Q4 e) (is_yes_then (on known.earlier Q4) h)
+yes_later : (known : Known) → is_yes (on known.earlier Q4) ≡ true → IsYes (on known.earlier Q4)
+yes_later known h = is_yes_then (on known.earlier Q4) h
 
-no_later : (known : Known) (earlier : Earlier) → IsAlike known earlier → is_yes (on known.earlier Q4) ≡ false → IsYes (on earlier Q4) → ⊥
-no_later known earlier e h y = let both : true ≡ false = sym (weak_known known earlier e y) ∙ h in cc
+no_later : (known : Known) → is_yes (on known.earlier Q4) ≡ false → IsYes (on known.earlier Q4) → ⊥
+no_later known h y = let both : true ≡ false = sym (weak_known known y) ∙ h in cc
 
 -- a no has one tree, or two
 no_signal_by : (known : Known) (rows nodes : List Record) → IsStrong (on known.earlier Q2) → (weak : Bool) → is_yes (on known.earlier Q4) ≡ weak → rows ≡ [] → AreTrees Leaf (signal_problems known weak) nodes → IsShown known Q13 (head_with Q13 no []) rows nodes
 no_signal_by known rows nodes k false weak none t =
     let c = choices_of known in
     let tree = tree_of (signal_problem known (pos 1)) c [] t.0 (at_root c) t.3 in
-    (No, One tree.0, (λ earlier e. (tt, (no_later known earlier e weak, known_tree known earlier (pos 1) tree.0 k e tree.2))), refl, none, t.2 ∙ ap (λ (x : List Record). t.0 ++ x) t.4 ∙ append-nil t.0 ∙ tree.1, refl)
+    (No, One tree.0, (tt, (no_later known weak, known_tree known (pos 1) tree.0 k tree.2)), refl, none, t.2 ∙ ap (λ (x : List Record). t.0 ++ x) t.4 ∙ append-nil t.0 ∙ tree.1, refl)
 no_signal_by known rows nodes k true weak none t =
     let c = choices_of known in
     let u = t.4 in
@@ -197,7 +194,7 @@ no_signal_by known rows nodes k true weak none t =
     let last : t.1 ≡ nodes_of second.0 = u.2 ∙ ap (λ (x : List Record). u.0 ++ x) u.4 ∙ append-nil u.0 ∙ second.1 in (
       No,
       Two tree.0 second.0,
-      (λ earlier e. (tt, (yes_later known earlier e weak, known_tree known earlier (pos 1) tree.0 k e tree.2, known_tree known earlier (negsuc 0) second.0 k e second.2))),
+      (tt, (yes_later known weak, known_tree known (pos 1) tree.0 k tree.2, known_tree known (negsuc 0) second.0 k second.2)),
       refl,
       none,
       t.2 ∙ ap₂ (λ (x y : List Record). x ++ y) tree.1 last,
@@ -209,12 +206,12 @@ signal_spent_by : (known : Known) (h : Record) (rows nodes : List Record) → Fi
 signal_spent_by known h rows nodes f =
     let n = one_number 1 MAX_BUDGET h.numbers f.1 in
     shown_at known Q13 h (open_head Q13 (Budget n.0)) rows nodes (record_is h (codes "q13" ∷ open_by (codes "budget")) (pos n.0 ∷ []) f.0 n.1) (λ z t.
-    (Unknown (Budget n.0), Nothing, (λ earlier e. (n.2, refl)), refl, zip_none rows (subst (λ (fs : List Form). AllZip Fits fs rows) (spent_below known (pos n.0 ∷ [])) z), t, refl))
+    (Unknown (Budget n.0), Nothing, (n.2, refl), refl, zip_none rows (subst (λ (fs : List Form). AllZip Fits fs rows) (spent_below known (pos n.0 ∷ [])) z), t, refl))
 
 signal_rests_by : (known : Known) (h : Record) (rows nodes : List Record) → Fits (rests (codes "q13") 6 12) h → TellParts known Q13 h rows nodes
 signal_rests_by known h rows nodes f =
     shown_at known Q13 h (open_head Q13 (Rests 12)) rows nodes (rests_back (codes "q13") 6 12 h f) (λ z t.
-    (Unknown (Rests 12), Nothing, (λ earlier e. (refl, refl)), refl, zip_none rows (subst (λ (fs : List Form). AllZip Fits fs rows) (rests_below known (pos 12 ∷ [])) z), t, refl))
+    (Unknown (Rests 12), Nothing, (refl, refl), refl, zip_none rows (subst (λ (fs : List Form). AllZip Fits fs rows) (rests_below known (pos 12 ∷ [])) z), t, refl))
 
 shelf_wide_by : (known : Known) (h : Record) (rows nodes : List Record) → IsStrong (on known.earlier Q2) → has_vector (on known.earlier Q12) ≡ true → Fits (wide (codes "q13") 4 5 (length known.net.names + 1) (length known.net.complexes + length (pairs_of known))) h → TellParts known Q13 h rows nodes
 unfolding kept
@@ -226,15 +223,15 @@ shelf_wide_by known h rows nodes k given f =
     shown_at known Q13 h (open_head Q13 (Wide 5 0 b.0 (kept b.1))) rows nodes (record_is h (codes "q13" ∷ open_by (codes "wide")) (map pos (5 ∷ 0 ∷ b.0 ∷ b.1)) f.0 b.2) (λ z t. (
       Unknown (Wide 5 0 b.0 (kept b.1)),
       Nothing,
-      (λ earlier e. (
+      (
         inr (
           refl,
           refl,
-          subst (λ (o : Option (List ℤ)). IsSome o) (vectors_alike known.earlier earlier Q12 e) (vector_then (on known.earlier Q12) given),
-          subst (λ (ps : List ℕ). IsBasisOf m (length net.complexes + length ps) b.0 b.1) (same_pairs known earlier k e) b.3,
+          vector_then (on known.earlier Q12) given,
+          subst (λ (ps : List ℕ). IsBasisOf m (length net.complexes + length ps) b.0 b.1) (same_pairs known k) b.3,
         ),
         refl,
-      )),
+      ),
       refl,
       zip_none rows z,
       t,
@@ -262,10 +259,10 @@ signal_answered known h rows nodes k (form, inr (inl e), fits) =
     shown_at known Q13 h (head_with Q13 no []) rows nodes (record_is h (codes "q13" ∷ no) [] f.0 f.1) (λ z t. no_signal_by known rows nodes k (is_yes (on known.earlier Q4)) refl (zip_none rows z) t)
 signal_answered known h rows nodes k (form, inr (inr (inl e)), fits) =
     let f : Fits (head (codes "q13") 3 (codes "none" ∷ []) []) h = subst (λ (f : Form). Fits f h) e fits in
-    shown_at known Q13 h (head_with Q13 (codes "none" ∷ []) []) rows nodes (record_is h (codes "q13" ∷ codes "none" ∷ []) [] f.0 f.1) (λ z t. (NotApplicable, Nothing, (λ earlier e. (tt, tt)), refl, zip_none rows z, t, refl))
+    shown_at known Q13 h (head_with Q13 (codes "none" ∷ []) []) rows nodes (record_is h (codes "q13" ∷ codes "none" ∷ []) [] f.0 f.1) (λ z t. (NotApplicable, Nothing, (tt, tt), refl, zip_none rows z, t, refl))
 signal_answered known h rows nodes k (form, inr (inr (inr (inl e))), fits) =
     let f : Fits (wide (codes "q13") 4 2 (length known.net.reactions) (length known.net.names)) h = subst (λ (f : Form). Fits f h) e fits in
     let b = wide_back 2 (length known.net.reactions) (length known.net.names) h.numbers f.1 in
     shown_at known Q13 h (open_head Q13 (Wide 2 0 b.0 (kept b.1))) rows nodes (record_is h (codes "q13" ∷ open_by (codes "wide")) (map pos (2 ∷ 0 ∷ b.0 ∷ b.1)) f.0 b.2) (λ z t.
-    (Unknown (Wide 2 0 b.0 (kept b.1)), Nothing, (λ earlier e. (inl (refl, refl, b.3), refl)), refl, zip_none rows z, t, open_by_wide known Q13 2 0 b.0 b.1 rows))
+    (Unknown (Wide 2 0 b.0 (kept b.1)), Nothing, (inl (refl, refl, b.3), refl), refl, zip_none rows z, t, open_by_wide known Q13 2 0 b.0 b.1 rows))
 signal_answered known h rows nodes k (form, inr (inr (inr (inr i))), fits) = signal_last known h rows nodes k (has_vector (on known.earlier Q12)) refl (form, i, fits)

@@ -32,7 +32,8 @@ use Rattle.crn_ctext.specs.Documents.{IsFormed, IsTree, AreTrees, IsGoodLeaf}
 use Rattle.crn_ctext.specs.Documents as documents
 use Rattle.crn_ctext.specs.Answers.{head_of, records_below, proof_nodes, records, nodes}
 use Rattle.crn_ctext.specs.Meaning.{Known, shapes_of, sizes_of, verdict_of, problem_over, table_problem, meaning}
-use Rattle.crn_ctext.specs.Same.{said, shown}
+use Rattle.crn_cert.specs.Verdicts.{tight}
+use Rattle.crn_ctext.proofs.Shown.{shown}
 use Rattle.crn_ctext.proofs.RanksLinked.{free_fits, number_then, wide_fits}
 use Rattle.crn_ctext.proofs.Joined.{parts, IsLinked, answer, open_as, linked_there, linked_back, IsJoinedFor}
 use Rattle.crn_ctext.proofs.TreeRecords.{AreLeafTests, tree_formed, tree_good, tree_true, tests_true, true_tests, plans_one}
@@ -111,8 +112,8 @@ shown_by net table p r (inr a) (inr b) n =
 
 -- ---- concordant
 
-plain_open : (known : Known) (earlier : Earlier) (index : ℕ) (basis : KeptNums) → IsBasisOf (length known.net.reactions) (length known.net.names) index basis.list → IsLinked known earlier Q14 (answer (Unknown (Wide 2 0 index basis)) Nothing)
-plain_open known earlier index basis b =
+plain_open : (known : Known) (index : ℕ) (basis : KeptNums) → IsBasisOf (length known.net.reactions) (length known.net.names) index basis.list → IsLinked known Q14 (answer (Unknown (Wide 2 0 index basis)) Nothing)
+plain_open known index basis b =
     record {
       formed = record { head = (_, inr (inr (inl refl)), (refl, wide_fits 2 (length known.net.reactions) (length known.net.names) index basis.list b)); rows = tt; trees = refl };
       heads = refl;
@@ -121,8 +122,8 @@ plain_open known earlier index basis b =
       shows = refl;
     }
 
-plain_spent : (known : Known) (earlier : Earlier) (budget : ℕ) → 1 ≤ budget → budget ≤ MAX_BUDGET → IsLinked known earlier Q14 (answer (Unknown (Budget budget)) Nothing)
-plain_spent known earlier budget some most =
+plain_spent : (known : Known) (budget : ℕ) → 1 ≤ budget → budget ≤ MAX_BUDGET → IsLinked known Q14 (answer (Unknown (Budget budget)) Nothing)
+plain_spent known budget some most =
     record {
       formed = record { head = (_, inr (inr (inr (inl refl))), (refl, number_then 1 MAX_BUDGET budget [] [] some most refl)); rows = tt; trees = refl };
       heads = refl;
@@ -132,47 +133,47 @@ plain_spent known earlier budget some most =
     }
 
 -- an answer without a tree
-plain_linked : (known : Known) (earlier : Earlier) (v : Verdict) (p : Proof) → IsFormedOf known.net earlier Q14 v p → (v ≡ Yes → ⊥) → IsLinked known earlier Q14 (answer v p)
-plain_linked known earlier Yes p f other = absurd (other refl)
-plain_linked known earlier (NoPair alpha weights) Nothing f other =
+plain_linked : (known : Known) (v : Verdict) (p : Proof) → IsFormedOf known.net known.earlier Q14 v p → (v ≡ Yes → ⊥) → IsLinked known Q14 (answer v p)
+plain_linked known Yes p f other = absurd (other refl)
+plain_linked known (NoPair alpha weights) Nothing f other =
     let r = length known.net.reactions in
     record { formed = record { head = (_, inr (inl refl), (refl, refl)); rows = (free_fits (codes "alpha") r alpha.list f.1.0, (free_fits (codes "weights") r weights.list f.1.1, tt)); trees = refl }; heads = refl; rows = refl; says = refl; shows = refl }
-plain_linked known earlier (NoPair alpha weights) p f other = absurd f.1
-plain_linked known earlier (Unknown (Wide system class index basis)) p f other = open_as known earlier Q14 system class index basis p 2 0 f.0.0 f.0.1 f.1 (plain_open known earlier index basis f.0.2)
-plain_linked known earlier (Unknown (Budget budget)) p f other = subst (λ (x : Proof). IsLinked known earlier Q14 (answer (Unknown (Budget budget)) x)) (sym f.1) (plain_spent known earlier budget f.0.0 f.0.1)
-plain_linked known earlier (Unknown (Rests question)) p f other = absurd f.0
-plain_linked known earlier v p f other = absurd f.0
+plain_linked known (NoPair alpha weights) p f other = absurd f.1
+plain_linked known (Unknown (Wide system class index basis)) p f other = open_as known Q14 system class index basis p 2 0 f.0.0 f.0.1 f.1 (plain_open known index basis f.0.2)
+plain_linked known (Unknown (Budget budget)) p f other = subst (λ (x : Proof). IsLinked known Q14 (answer (Unknown (Budget budget)) x)) (sym f.1) (plain_spent known budget f.0.0 f.0.1)
+plain_linked known (Unknown (Rests question)) p f other = absurd f.0
+plain_linked known v p f other = absurd f.0
 
-plain_formed : (known : Known) (earlier : Earlier) (v : Verdict) (p : Proof) → IsFormedOf known.net earlier Q14 v p → IsFormed meaning Q14 known (records Q14 (shapes_of known) (answer v p)) (parts Q14 known (answer v p))
-plain_formed known earlier Yes (One tree) f =
+plain_formed : (known : Known) (v : Verdict) (p : Proof) → IsFormedOf known.net known.earlier Q14 v p → IsFormed meaning Q14 known (records Q14 (shapes_of known) (answer v p)) (parts Q14 known (answer v p))
+plain_formed known Yes (One tree) f =
     let net = known.net in
     record { head = (_, inl refl, (refl, refl)); rows = tt; trees = (nodes tree, [], sym (append-nil (nodes tree)), tree_formed (table_of net (plain_table net)) (length net.names) [] tree (at_root (length net.names)) f.1, refl) }
-plain_formed known earlier Yes p f = absurd f.1
-plain_formed known earlier (NoPair alpha weights) p f = let l = plain_linked known earlier (NoPair alpha weights) p f (λ e. absurd cc) in l.formed
-plain_formed known earlier (Unknown gap) p f = let l = plain_linked known earlier (Unknown gap) p f (λ e. absurd cc) in l.formed
-plain_formed known earlier v p f = absurd f.0
+plain_formed known Yes p f = absurd f.1
+plain_formed known (NoPair alpha weights) p f = let l = plain_linked known (NoPair alpha weights) p f (λ e. absurd cc) in l.formed
+plain_formed known (Unknown gap) p f = let l = plain_linked known (Unknown gap) p f (λ e. absurd cc) in l.formed
+plain_formed known v p f = absurd f.0
 
-plain_there : (known : Known) (earlier : Earlier) (v : Verdict) (p : Proof) → IsFormedOf known.net earlier Q14 v p → IsValid known.net earlier Q14 (answer v p) → documents.IsValid meaning Q14 known (records Q14 (shapes_of known) (answer v p)) (parts Q14 known (answer v p))
-plain_there known earlier Yes (One tree) f v = record { head = tt; rows = tt; trees = tests_good known.net (plain_table known.net) tree f.1 v }
-plain_there known earlier Yes p f v = absurd f.1
-plain_there known earlier (NoPair alpha weights) p f v = linked_there known earlier Q14 (answer (NoPair alpha weights) p) refl (plain_linked known earlier (NoPair alpha weights) p f (λ e. absurd cc)) v
-plain_there known earlier (Unknown (Wide system class index basis)) p f v = linked_there known earlier Q14 (answer (Unknown (Wide system class index basis)) p) refl (plain_linked known earlier (Unknown (Wide system class index basis)) p f (λ e. absurd cc)) v
-plain_there known earlier (Unknown (Budget budget)) p f v = linked_there known earlier Q14 (answer (Unknown (Budget budget)) p) refl (plain_linked known earlier (Unknown (Budget budget)) p f (λ e. absurd cc)) v
-plain_there known earlier (Unknown (Rests question)) p f v = absurd f.0
-plain_there known earlier v p f valid = absurd f.0
+plain_there : (known : Known) (v : Verdict) (p : Proof) → IsFormedOf known.net known.earlier Q14 v p → IsValid known.net known.earlier Q14 (answer v p) → documents.IsValid meaning Q14 known (records Q14 (shapes_of known) (answer v p)) (parts Q14 known (answer v p))
+plain_there known Yes (One tree) f v = record { head = tt; rows = tt; trees = tests_good known.net (plain_table known.net) tree f.1 v }
+plain_there known Yes p f v = absurd f.1
+plain_there known (NoPair alpha weights) p f v = linked_there known Q14 (answer (NoPair alpha weights) p) refl (plain_linked known (NoPair alpha weights) p f (λ e. absurd cc)) v
+plain_there known (Unknown (Wide system class index basis)) p f v = linked_there known Q14 (answer (Unknown (Wide system class index basis)) p) refl (plain_linked known (Unknown (Wide system class index basis)) p f (λ e. absurd cc)) v
+plain_there known (Unknown (Budget budget)) p f v = linked_there known Q14 (answer (Unknown (Budget budget)) p) refl (plain_linked known (Unknown (Budget budget)) p f (λ e. absurd cc)) v
+plain_there known (Unknown (Rests question)) p f v = absurd f.0
+plain_there known v p f valid = absurd f.0
 
-plain_back : (known : Known) (earlier : Earlier) (v : Verdict) (p : Proof) → IsFormedOf known.net earlier Q14 v p → documents.IsValid meaning Q14 known (records Q14 (shapes_of known) (answer v p)) (parts Q14 known (answer v p)) → IsValid known.net earlier Q14 (answer v p)
-plain_back known earlier Yes (One tree) f v = good_tests known.net (plain_table known.net) tree f.1 v.trees
-plain_back known earlier Yes p f v = absurd f.1
-plain_back known earlier (NoPair alpha weights) p f v = linked_back known earlier Q14 (answer (NoPair alpha weights) p) (plain_linked known earlier (NoPair alpha weights) p f (λ e. absurd cc)) v
-plain_back known earlier (Unknown gap) p f v = linked_back known earlier Q14 (answer (Unknown gap) p) (plain_linked known earlier (Unknown gap) p f (λ e. absurd cc)) v
-plain_back known earlier v p f valid = absurd f.0
+plain_back : (known : Known) (v : Verdict) (p : Proof) → IsFormedOf known.net known.earlier Q14 v p → documents.IsValid meaning Q14 known (records Q14 (shapes_of known) (answer v p)) (parts Q14 known (answer v p)) → IsValid known.net known.earlier Q14 (answer v p)
+plain_back known Yes (One tree) f v = good_tests known.net (plain_table known.net) tree f.1 v.trees
+plain_back known Yes p f v = absurd f.1
+plain_back known (NoPair alpha weights) p f v = linked_back known Q14 (answer (NoPair alpha weights) p) (plain_linked known (NoPair alpha weights) p f (λ e. absurd cc)) v
+plain_back known (Unknown gap) p f v = linked_back known Q14 (answer (Unknown gap) p) (plain_linked known (Unknown gap) p f (λ e. absurd cc)) v
+plain_back known v p f valid = absurd f.0
 
-plain_says : (known : Known) (earlier : Earlier) (v : Verdict) (p : Proof) → IsFormedOf known.net earlier Q14 v p → said (verdict_of Q14 (sizes_of known) (head_of Q14 v) (records_below (shapes_of known) (answer v p))) ≡ said v
-plain_says known earlier Yes p f = refl
-plain_says known earlier (NoPair alpha weights) p f = let l = plain_linked known earlier (NoPair alpha weights) p f (λ e. absurd cc) in l.says
-plain_says known earlier (Unknown gap) p f = let l = plain_linked known earlier (Unknown gap) p f (λ e. absurd cc) in l.says
-plain_says known earlier v p f = absurd f.0
+plain_says : (known : Known) (v : Verdict) (p : Proof) → IsFormedOf known.net known.earlier Q14 v p → verdict_of Q14 (sizes_of known) (head_of Q14 v) (records_below (shapes_of known) (answer v p)) ≡ tight v
+plain_says known Yes p f = refl
+plain_says known (NoPair alpha weights) p f = let l = plain_linked known (NoPair alpha weights) p f (λ e. absurd cc) in l.says
+plain_says known (Unknown gap) p f = let l = plain_linked known (Unknown gap) p f (λ e. absurd cc) in l.says
+plain_says known v p f = absurd f.0
 
 plain_rows : (net : Net) (earlier : Earlier) (v : Verdict) (p : Proof) → IsFormedOf net earlier Q14 v p → TableRows net v p
 plain_rows net earlier Yes p f = f.1
@@ -182,18 +183,18 @@ plain_rows net earlier v p f = absurd f.0
 
 pub plain_joined : (b : Bool) → IsJoinedFor b Q14
 plain_joined b = record {
-  formed = λ known earlier v p k e f. plain_formed known earlier v p f;
-  there = λ known earlier v p k e f valid. plain_there known earlier v p f valid;
-  back = λ known earlier v p k s e f valid. plain_back known earlier v p f valid;
-  says = λ known earlier v p k e f. plain_says known earlier v p f;
-  shows = λ known earlier later v w p r k d e f g head rows nodes.
-      shown_by known.net (plain_table known.net) p r (tree_or_none known.net v p (plain_rows known.net earlier v p f)) (tree_or_none known.net w r (plain_rows known.net later w r g)) nodes;
+  formed = λ known v p k f. plain_formed known v p f;
+  there = λ known v p k f valid. plain_there known v p f valid;
+  back = λ known v p k s f valid. plain_back known v p f valid;
+  says = λ known v p k f. plain_says known v p f;
+  shows = λ known v w p r k f g head rows nodes.
+      shown_by known.net (plain_table known.net) p r (tree_or_none known.net v p (plain_rows known.net known.earlier v p f)) (tree_or_none known.net w r (plain_rows known.net known.earlier w r g)) nodes;
 }
 
 -- ---- strongly concordant
 
-strong_open : (known : Known) (earlier : Earlier) (index : ℕ) (basis : KeptNums) → IsBasisOf (length known.net.reactions) (length known.net.names) index basis.list → IsLinked known earlier Q15 (answer (Unknown (Wide 2 0 index basis)) Nothing)
-strong_open known earlier index basis b =
+strong_open : (known : Known) (index : ℕ) (basis : KeptNums) → IsBasisOf (length known.net.reactions) (length known.net.names) index basis.list → IsLinked known Q15 (answer (Unknown (Wide 2 0 index basis)) Nothing)
+strong_open known index basis b =
     record {
       formed = record { head = (_, inr (inr (inl refl)), (refl, wide_fits 2 (length known.net.reactions) (length known.net.names) index basis.list b)); rows = tt; trees = refl };
       heads = refl;
@@ -202,8 +203,8 @@ strong_open known earlier index basis b =
       shows = refl;
     }
 
-strong_spent : (known : Known) (earlier : Earlier) (budget : ℕ) → 1 ≤ budget → budget ≤ MAX_BUDGET → IsLinked known earlier Q15 (answer (Unknown (Budget budget)) Nothing)
-strong_spent known earlier budget some most =
+strong_spent : (known : Known) (budget : ℕ) → 1 ≤ budget → budget ≤ MAX_BUDGET → IsLinked known Q15 (answer (Unknown (Budget budget)) Nothing)
+strong_spent known budget some most =
     record {
       formed = record { head = (_, inr (inr (inr (inl refl))), (refl, number_then 1 MAX_BUDGET budget [] [] some most refl)); rows = tt; trees = refl };
       heads = refl;
@@ -213,47 +214,47 @@ strong_spent known earlier budget some most =
     }
 
 -- an answer without a tree
-strong_linked : (known : Known) (earlier : Earlier) (v : Verdict) (p : Proof) → IsFormedOf known.net earlier Q15 v p → (v ≡ Yes → ⊥) → IsLinked known earlier Q15 (answer v p)
-strong_linked known earlier Yes p f other = absurd (other refl)
-strong_linked known earlier (NoPair alpha weights) Nothing f other =
+strong_linked : (known : Known) (v : Verdict) (p : Proof) → IsFormedOf known.net known.earlier Q15 v p → (v ≡ Yes → ⊥) → IsLinked known Q15 (answer v p)
+strong_linked known Yes p f other = absurd (other refl)
+strong_linked known (NoPair alpha weights) Nothing f other =
     let r = length known.net.reactions in
     record { formed = record { head = (_, inr (inl refl), (refl, refl)); rows = (free_fits (codes "alpha") r alpha.list f.1.0, (free_fits (codes "weights") r weights.list f.1.1, tt)); trees = refl }; heads = refl; rows = refl; says = refl; shows = refl }
-strong_linked known earlier (NoPair alpha weights) p f other = absurd f.1
-strong_linked known earlier (Unknown (Wide system class index basis)) p f other = open_as known earlier Q15 system class index basis p 2 0 f.0.0 f.0.1 f.1 (strong_open known earlier index basis f.0.2)
-strong_linked known earlier (Unknown (Budget budget)) p f other = subst (λ (x : Proof). IsLinked known earlier Q15 (answer (Unknown (Budget budget)) x)) (sym f.1) (strong_spent known earlier budget f.0.0 f.0.1)
-strong_linked known earlier (Unknown (Rests question)) p f other = absurd f.0
-strong_linked known earlier v p f other = absurd f.0
+strong_linked known (NoPair alpha weights) p f other = absurd f.1
+strong_linked known (Unknown (Wide system class index basis)) p f other = open_as known Q15 system class index basis p 2 0 f.0.0 f.0.1 f.1 (strong_open known index basis f.0.2)
+strong_linked known (Unknown (Budget budget)) p f other = subst (λ (x : Proof). IsLinked known Q15 (answer (Unknown (Budget budget)) x)) (sym f.1) (strong_spent known budget f.0.0 f.0.1)
+strong_linked known (Unknown (Rests question)) p f other = absurd f.0
+strong_linked known v p f other = absurd f.0
 
-strong_formed : (known : Known) (earlier : Earlier) (v : Verdict) (p : Proof) → IsFormedOf known.net earlier Q15 v p → IsFormed meaning Q15 known (records Q15 (shapes_of known) (answer v p)) (parts Q15 known (answer v p))
-strong_formed known earlier Yes (One tree) f =
+strong_formed : (known : Known) (v : Verdict) (p : Proof) → IsFormedOf known.net known.earlier Q15 v p → IsFormed meaning Q15 known (records Q15 (shapes_of known) (answer v p)) (parts Q15 known (answer v p))
+strong_formed known Yes (One tree) f =
     let net = known.net in
     record { head = (_, inl refl, (refl, refl)); rows = tt; trees = (nodes tree, [], sym (append-nil (nodes tree)), tree_formed (table_of net (strong_table net)) (length net.names) [] tree (at_root (length net.names)) f.1, refl) }
-strong_formed known earlier Yes p f = absurd f.1
-strong_formed known earlier (NoPair alpha weights) p f = let l = strong_linked known earlier (NoPair alpha weights) p f (λ e. absurd cc) in l.formed
-strong_formed known earlier (Unknown gap) p f = let l = strong_linked known earlier (Unknown gap) p f (λ e. absurd cc) in l.formed
-strong_formed known earlier v p f = absurd f.0
+strong_formed known Yes p f = absurd f.1
+strong_formed known (NoPair alpha weights) p f = let l = strong_linked known (NoPair alpha weights) p f (λ e. absurd cc) in l.formed
+strong_formed known (Unknown gap) p f = let l = strong_linked known (Unknown gap) p f (λ e. absurd cc) in l.formed
+strong_formed known v p f = absurd f.0
 
-strong_there : (known : Known) (earlier : Earlier) (v : Verdict) (p : Proof) → IsFormedOf known.net earlier Q15 v p → IsValid known.net earlier Q15 (answer v p) → documents.IsValid meaning Q15 known (records Q15 (shapes_of known) (answer v p)) (parts Q15 known (answer v p))
-strong_there known earlier Yes (One tree) f v = record { head = tt; rows = tt; trees = tests_good known.net (strong_table known.net) tree f.1 v }
-strong_there known earlier Yes p f v = absurd f.1
-strong_there known earlier (NoPair alpha weights) p f v = linked_there known earlier Q15 (answer (NoPair alpha weights) p) refl (strong_linked known earlier (NoPair alpha weights) p f (λ e. absurd cc)) v
-strong_there known earlier (Unknown (Wide system class index basis)) p f v = linked_there known earlier Q15 (answer (Unknown (Wide system class index basis)) p) refl (strong_linked known earlier (Unknown (Wide system class index basis)) p f (λ e. absurd cc)) v
-strong_there known earlier (Unknown (Budget budget)) p f v = linked_there known earlier Q15 (answer (Unknown (Budget budget)) p) refl (strong_linked known earlier (Unknown (Budget budget)) p f (λ e. absurd cc)) v
-strong_there known earlier (Unknown (Rests question)) p f v = absurd f.0
-strong_there known earlier v p f valid = absurd f.0
+strong_there : (known : Known) (v : Verdict) (p : Proof) → IsFormedOf known.net known.earlier Q15 v p → IsValid known.net known.earlier Q15 (answer v p) → documents.IsValid meaning Q15 known (records Q15 (shapes_of known) (answer v p)) (parts Q15 known (answer v p))
+strong_there known Yes (One tree) f v = record { head = tt; rows = tt; trees = tests_good known.net (strong_table known.net) tree f.1 v }
+strong_there known Yes p f v = absurd f.1
+strong_there known (NoPair alpha weights) p f v = linked_there known Q15 (answer (NoPair alpha weights) p) refl (strong_linked known (NoPair alpha weights) p f (λ e. absurd cc)) v
+strong_there known (Unknown (Wide system class index basis)) p f v = linked_there known Q15 (answer (Unknown (Wide system class index basis)) p) refl (strong_linked known (Unknown (Wide system class index basis)) p f (λ e. absurd cc)) v
+strong_there known (Unknown (Budget budget)) p f v = linked_there known Q15 (answer (Unknown (Budget budget)) p) refl (strong_linked known (Unknown (Budget budget)) p f (λ e. absurd cc)) v
+strong_there known (Unknown (Rests question)) p f v = absurd f.0
+strong_there known v p f valid = absurd f.0
 
-strong_back : (known : Known) (earlier : Earlier) (v : Verdict) (p : Proof) → IsFormedOf known.net earlier Q15 v p → documents.IsValid meaning Q15 known (records Q15 (shapes_of known) (answer v p)) (parts Q15 known (answer v p)) → IsValid known.net earlier Q15 (answer v p)
-strong_back known earlier Yes (One tree) f v = good_tests known.net (strong_table known.net) tree f.1 v.trees
-strong_back known earlier Yes p f v = absurd f.1
-strong_back known earlier (NoPair alpha weights) p f v = linked_back known earlier Q15 (answer (NoPair alpha weights) p) (strong_linked known earlier (NoPair alpha weights) p f (λ e. absurd cc)) v
-strong_back known earlier (Unknown gap) p f v = linked_back known earlier Q15 (answer (Unknown gap) p) (strong_linked known earlier (Unknown gap) p f (λ e. absurd cc)) v
-strong_back known earlier v p f valid = absurd f.0
+strong_back : (known : Known) (v : Verdict) (p : Proof) → IsFormedOf known.net known.earlier Q15 v p → documents.IsValid meaning Q15 known (records Q15 (shapes_of known) (answer v p)) (parts Q15 known (answer v p)) → IsValid known.net known.earlier Q15 (answer v p)
+strong_back known Yes (One tree) f v = good_tests known.net (strong_table known.net) tree f.1 v.trees
+strong_back known Yes p f v = absurd f.1
+strong_back known (NoPair alpha weights) p f v = linked_back known Q15 (answer (NoPair alpha weights) p) (strong_linked known (NoPair alpha weights) p f (λ e. absurd cc)) v
+strong_back known (Unknown gap) p f v = linked_back known Q15 (answer (Unknown gap) p) (strong_linked known (Unknown gap) p f (λ e. absurd cc)) v
+strong_back known v p f valid = absurd f.0
 
-strong_says : (known : Known) (earlier : Earlier) (v : Verdict) (p : Proof) → IsFormedOf known.net earlier Q15 v p → said (verdict_of Q15 (sizes_of known) (head_of Q15 v) (records_below (shapes_of known) (answer v p))) ≡ said v
-strong_says known earlier Yes p f = refl
-strong_says known earlier (NoPair alpha weights) p f = let l = strong_linked known earlier (NoPair alpha weights) p f (λ e. absurd cc) in l.says
-strong_says known earlier (Unknown gap) p f = let l = strong_linked known earlier (Unknown gap) p f (λ e. absurd cc) in l.says
-strong_says known earlier v p f = absurd f.0
+strong_says : (known : Known) (v : Verdict) (p : Proof) → IsFormedOf known.net known.earlier Q15 v p → verdict_of Q15 (sizes_of known) (head_of Q15 v) (records_below (shapes_of known) (answer v p)) ≡ tight v
+strong_says known Yes p f = refl
+strong_says known (NoPair alpha weights) p f = let l = strong_linked known (NoPair alpha weights) p f (λ e. absurd cc) in l.says
+strong_says known (Unknown gap) p f = let l = strong_linked known (Unknown gap) p f (λ e. absurd cc) in l.says
+strong_says known v p f = absurd f.0
 
 strong_rows : (net : Net) (earlier : Earlier) (v : Verdict) (p : Proof) → IsFormedOf net earlier Q15 v p → TableRows net v p
 strong_rows net earlier Yes p f = f.1
@@ -263,10 +264,10 @@ strong_rows net earlier v p f = absurd f.0
 
 pub strong_joined : (b : Bool) → IsJoinedFor b Q15
 strong_joined b = record {
-  formed = λ known earlier v p k e f. strong_formed known earlier v p f;
-  there = λ known earlier v p k e f valid. strong_there known earlier v p f valid;
-  back = λ known earlier v p k s e f valid. strong_back known earlier v p f valid;
-  says = λ known earlier v p k e f. strong_says known earlier v p f;
-  shows = λ known earlier later v w p r k d e f g head rows nodes.
-      shown_by known.net (strong_table known.net) p r (tree_or_none known.net v p (strong_rows known.net earlier v p f)) (tree_or_none known.net w r (strong_rows known.net later w r g)) nodes;
+  formed = λ known v p k f. strong_formed known v p f;
+  there = λ known v p k f valid. strong_there known v p f valid;
+  back = λ known v p k s f valid. strong_back known v p f valid;
+  says = λ known v p k f. strong_says known v p f;
+  shows = λ known v w p r k f g head rows nodes.
+      shown_by known.net (strong_table known.net) p r (tree_or_none known.net v p (strong_rows known.net known.earlier v p f)) (tree_or_none known.net w r (strong_rows known.net known.earlier w r g)) nodes;
 }

@@ -34,9 +34,8 @@ use Rattle.crn_ctext.specs.Documents.{Share, FitsShare, is_cut_leaf, cut_lists, 
 use Rattle.crn_ctext.specs.Meaning.{Known, pairs_of, shapes_of, sizes_of, verdict_of, meaning}
 use Rattle.crn_ctext.specs.Linked.{records_of}
 use Rattle.crn_ctext.specs.Inner.Written.{shapes_with, blocks, strong_pairs, pairs_in}
-use Rattle.crn_ctext.proofs.Alike.{IsAlike}
-use Rattle.crn_ctext.proofs.TestsAlike.{pairs_alike}
-use Rattle.crn_ctext.proofs.KnownBefore.{IsStrong, formed_right, strong_stays, alike_strong, pairs_known, pairs_stay}
+use Rattle.crn_cert.specs.Verdicts.{tight}
+use Rattle.crn_ctext.proofs.KnownBefore.{IsStrong, formed_right, strong_stays, strong_tight, pairs_known, pairs_stay}
 use Rattle.crn_ctext.proofs.AnswersLinked.{linkage_next, strong_next}
 use Rattle.crn_ctext.proofs.WrittenLines.{lines_append}
 use Rattle.crn_ctext.proofs.WrittenLeaves.{IsPlain, written_none}
@@ -179,7 +178,7 @@ cuts_by net earlier (q ∷ qs) [] n s h = absurd h
 cuts_by net earlier (q ∷ qs) (a ∷ xs) n s h =
     let p = plain_for q s.0 in
     let cuts = p.cuts in
-    all_append (IsShareable MAX_NUMBERS) (cuts_in a.proof) (all_cuts xs) (cuts net earlier a.verdict a.proof n h.0.1) (cuts_by net (earlier ++ (q, a.verdict) ∷ []) qs xs n s.1 h.1)
+    all_append (IsShareable MAX_NUMBERS) (cuts_in a.proof) (all_cuts xs) (cuts net earlier a.verdict a.proof n h.0.1) (cuts_by net (earlier ++ (q, tight a.verdict) ∷ []) qs xs n s.1 h.1)
 
 pub built_short : AllByRecursion ShortFor built
 built_short = (rows_linkage, (rows_strong, (rows_reversible, (rows_weak, (rows_rank, (rows_deficiency, (rows_dependence, (rows_conservation, (rows_zero, (rows_one, (rows_regular, (rows_confluence, (tt, (tt, (tt, tt)))))))))))))))
@@ -215,22 +214,22 @@ written_after pairs (q ∷ qs) known (a ∷ xs) s e =
     let more = (q, verdict_of q (sizes_of known) (head_of q a.verdict) (records_below (shapes_of known) a)) ∷ [] in
     (rows_by_pairs (shapes_of known) (shapes_with pairs) a.proof e, written_after pairs qs (after_answer q known a) xs (strong_stays known.earlier more s) (pairs_stay known more s ∙ e))
 
-pairs_of_strong : (net : Net) (v w : Verdict) → IsStrong w → pair_places net ((Q1, v) ∷ (Q2, w) ∷ []) ≡ strong_pairs net w
+pairs_of_strong : (net : Net) (v w : Verdict) → IsStrong w → pair_places net ((Q1, v) ∷ (Q2, tight w) ∷ []) ≡ strong_pairs net w
 pairs_of_strong net v (Strong count terminal label exit) s = refl
 pairs_of_strong net v w s = absurd s
 
 -- the pairs that are known after the first two answers are those of their verdicts
-pairs_then : (net : Net) (a b : Answer) → IsFormedAnswer net [] Q1 a → IsFormedAnswer net ((Q1, a.verdict) ∷ []) Q2 b
+pairs_then : (net : Net) (a b : Answer) → IsFormedAnswer net [] Q1 a → IsFormedAnswer net ((Q1, tight a.verdict) ∷ []) Q2 b
     → (let known = after_answer Q2 (after_answer Q1 (meaning.start net) a) b in IsStrong (on known.earlier Q2) × (pairs_of known ≡ strong_pairs net b.verdict))
 pairs_then net a b f g =
-    let start : Known = meaning.start net in
-    let one = after_answer Q1 start a in
+    let one = after_answer Q1 (meaning.start net) a in
     let known = after_answer Q2 one b in
-    let first : IsAlike one ((Q1, a.verdict) ∷ []) = linkage_next start [] a refl f in
-    let second : IsAlike known ((Q1, a.verdict) ∷ (Q2, b.verdict) ∷ []) = strong_next one ((Q1, a.verdict) ∷ []) b first g in
-    let right : IsStrong b.verdict = formed_right net ((Q1, a.verdict) ∷ []) Q2 b.verdict b.proof g in
-    let strong : IsStrong (on known.earlier Q2) = alike_strong known ((Q1, a.verdict) ∷ (Q2, b.verdict) ∷ []) second right in
-    (strong, pairs_known known strong ∙ pairs_alike net known.earlier ((Q1, a.verdict) ∷ (Q2, b.verdict) ∷ []) second ∙ pairs_of_strong net a.verdict b.verdict right)
+    let first : one.earlier ≡ (Q1, tight a.verdict) ∷ [] = linkage_next (meaning.start net) a f in
+    let second : known.earlier ≡ one.earlier ++ (Q2, tight b.verdict) ∷ [] = strong_next one b (subst (λ (es : Earlier). IsFormedAnswer net es Q2 b) (sym first) g) in
+    let both : known.earlier ≡ (Q1, tight a.verdict) ∷ (Q2, tight b.verdict) ∷ [] = second ∙ ap (λ (es : Earlier). es ++ (Q2, tight b.verdict) ∷ []) first in
+    let right : IsStrong b.verdict = formed_right net ((Q1, tight a.verdict) ∷ []) Q2 b.verdict b.proof g in
+    let strong : IsStrong (on known.earlier Q2) = subst (λ (es : Earlier). IsStrong (on es Q2)) (sym both) (strong_tight b.verdict right) in
+    (strong, pairs_known known strong ∙ ap (λ (es : Earlier). pair_places net es) both ∙ pairs_of_strong net (tight a.verdict) b.verdict right)
 
 -- the records of formed answers are those with the pairs of their verdicts
 all_written : (net : Net) (xs : List Answer) → AreFormed net [] built xs → AreWritten (pairs_in net xs) built (meaning.start net) xs
@@ -242,7 +241,7 @@ all_written net (a ∷ b ∷ xs) h =
     let p = pairs_then net a b h.0 h.1.0 in (
       same_rows (shapes_of start) (shapes_with pairs) a.proof (sees_first net [] a.verdict a.proof h.0.1),
       (
-        same_rows (shapes_of (after_answer Q1 start a)) (shapes_with pairs) b.proof (sees_second net ((Q1, a.verdict) ∷ []) b.verdict b.proof h.1.0.1),
+        same_rows (shapes_of (after_answer Q1 start a)) (shapes_with pairs) b.proof (sees_second net ((Q1, tight a.verdict) ∷ []) b.verdict b.proof h.1.0.1),
         written_after pairs (Q3 ∷ Q4 ∷ Q5 ∷ Q6 ∷ Q7 ∷ Q8 ∷ Q9 ∷ Q10 ∷ Q11 ∷ Q12 ∷ Q13 ∷ Q14 ∷ Q15 ∷ []) (after_answer Q2 (after_answer Q1 start a) b) xs p.0 p.1,
       ),
     )

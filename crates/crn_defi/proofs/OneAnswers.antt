@@ -14,6 +14,7 @@ use Rattle.crn_cert.specs.declared.answer.Verdict.TheVariants.{Classes, Strong, 
 use Rattle.crn_cert.specs.declared.answer.Gap.TheVariants.{Rests}
 use Rattle.crn_cert.specs.declared.answer.Proof.TheVariants.{Nothing}
 use Rattle.crn_cert.specs.declared.answer.Answer.{Answer}
+use Rattle.crn_cert.specs.Verdicts.{tight}
 use Rattle.crn_cert.specs.Questions.{Earlier, Q1, Q2, Q6, Q10, on, count_of, deficiencies_of, IsOpen}
 use Rattle.crn_cert.specs.Formed.{IsFormed}
 use Rattle.crn_cert.specs.Valid.{linkage, exits, terminals_in, HaveOneBefore, HaveOneEach, IsFirstLarge, WithDeficiencies, IsValid}
@@ -113,11 +114,11 @@ sum_few (d ∷ ds) h = omega (arith, sum_by-cons (λ (x : ℕ). x) d ds, h.0, su
 abbrev plain : Verdict → Answer
 plain v = record { verdict = v; proof = Nothing }
 
-with_known : (earlier : Earlier) (total : ℕ) (ds : KeptNums) (Has : ℕ → List ℕ → Type 0) → on earlier Q6 ≡ Deficiency total ds → Has total ds.list → WithDeficiencies Has (deficiencies_of (on earlier Q6))
+with_known : (earlier : Earlier) (total : ℕ) (ds : KeptNums) (Has : ℕ → List ℕ → Type 0) → on earlier Q6 ≡ tight (Deficiency total ds) → Has total ds.list → WithDeficiencies Has (deficiencies_of (on earlier Q6))
 with_known earlier total ds Has e h = subst (λ (v : Verdict). WithDeficiencies Has (deficiencies_of v)) (sym e) h
 
 after_ready : (net : Net) (earlier : Earlier) (count : ℕ) (links : List ℕ) (strong_count terminal : ℕ) (labels exit_list : List ℕ) (total : ℕ) (ds : KeptNums) (v : Verdict) → Known net count links strong_count terminal labels exit_list
-    → HaveOneUpTo labels exit_list links (length exit_list) count → AreDeficiencies net total ds.list → GiveClasses earlier links count labels exit_list → on earlier Q6 ≡ Deficiency total ds → IsVerdictOn total ds.list v → IsFormed net earlier Q10 (plain v) × IsValid net earlier Q10 (plain v)
+    → HaveOneUpTo labels exit_list links (length exit_list) count → AreDeficiencies net total ds.list → GiveClasses earlier links count labels exit_list → on earlier Q6 ≡ tight (Deficiency total ds) → IsVerdictOn total ds.list v → IsFormed net earlier Q10 (plain v) × IsValid net earlier Q10 (plain v)
 after_ready net earlier count links strong_count terminal labels exit_list total ds Yes known one d g e h =
     let has = with_known earlier total ds (λ t cs. AreAtMostOne cs × (sum cs ≡ t)) e h in
     ((tt, tt), ((one_earlier earlier links count labels exit_list g one, has), tt))
@@ -141,9 +142,9 @@ after_answered net budget earlier total ds (NoSum x) h t = t
 after_answered net budget earlier total ds v h t = absurd h
 
 pub after_given : (net : Net) (budget : ℕ) (earlier : Earlier) (count : ℕ) (links : List ℕ) (strong_count terminal : ℕ) (labels exit_list : List ℕ) (q6 v : Verdict) → Known net count links strong_count terminal labels exit_list
-    → HaveOneUpTo labels exit_list links (length exit_list) count → IsTrueOrOpen net Q6 q6 → GiveClasses earlier links count labels exit_list → on earlier Q6 ≡ q6 → IsVerdictAfter q6 v → IsAnswer net budget earlier Q10 (plain v)
+    → HaveOneUpTo labels exit_list links (length exit_list) count → IsTrueOrOpen net Q6 q6 → GiveClasses earlier links count labels exit_list → on earlier Q6 ≡ tight q6 → IsVerdictAfter q6 v → IsAnswer net budget earlier Q10 (plain v)
 after_given net budget earlier count links strong_count terminal labels exit_list (Deficiency total ds) v known one six g e h =
-    let q6 = Deficiency total ds in
+    let q6 = tight (Deficiency total ds) in
     let ready = after_ready net earlier count links strong_count terminal labels exit_list total ds v known one six g e h in
     let own = earlier_of count links strong_count terminal labels exit_list q6 in
     let again = after_ready net own count links strong_count terminal labels exit_list total ds v known one six (earlier_gives net count links strong_count terminal labels exit_list q6 known) refl h in

@@ -1,6 +1,7 @@
 ghost use Rattle.std.specs.Prelude.{◌≡◌, ◌≤◌, ℕ, length, sum, MatchOption};
 ghost use Rattle.crn_vec.specs.declared.limits.TheConstants.{MAX_COMPLEXES};
 ghost use Rattle.crn_vec.specs.Deficiency.{AreAtMostOne};
+ghost use Rattle.crn_cert.specs.Verdicts.{tight};
 ghost use Rattle.crn_cert.specs.Questions.{Earlier, Q6, Q10, on};
 ghost use Rattle.crn_cert.specs.Says.{AreLinkageClasses, AreStrongClasses};
 ghost use Rattle.crn_cert.specs.ClassTests.{DoLevelsFall};
@@ -86,7 +87,7 @@ pub fn one_hypotheses(
     ensures { (budget : ℕ) (earlier : Earlier) →
         GiveClasses earlier linkage.now.label.list linkage.now.count strong.now.label.list
         strong.now.exit.list →
-        on earlier Q6 ≡ q6.now →
+        on earlier Q6 ≡ tight q6.now →
         IsAnswer net.now budget earlier Q10 result }
 {
     net.meets_definition();

@@ -35,7 +35,7 @@ use Rattle.crn_ctext.specs.Meaning.{Known, lists, problems_by, sizes_of, shapes_
 use Rattle.crn_ctext.specs.Meaning as said
 use Rattle.crn_check.specs.Facts.{KeptFacts, asked}
 use Rattle.crn_check.specs.Check.{AsksForTree, IsBuilt, shown_by_tree, tree_place}
-use Rattle.crn_check.specs.Verdicts.{tight}
+use Rattle.crn_cert.specs.Verdicts.{tight}
 use Rattle.crn_document.specs.declared.parts.Part.{Part}
 use Rattle.crn_document.specs.Inner.Answer.{IsHeadOf, verdict_at, verdict_of_head}
 use Rattle.crn_document.specs.Inner.Answers.{FitAnswer, proof_of_head}
@@ -123,11 +123,6 @@ pub so_far_next : (qs : List Question) (q : Question) (old new : Earlier) (v : V
 so_far_next qs q old new v so_far same =
     ap (λ (es : Earlier). map (λ (e : Question × Verdict). e.0) es) same ∙ map-append (λ (e : Question × Verdict). e.0) old ((q, v) ∷ [])
     ∙ ap (λ (xs : List Question). xs ++ q ∷ []) so_far
-
-pub kept_next : (q : Question) (old new : Earlier) (vs ws : List Verdict) (v : Verdict) → map tight vs ≡ map (λ (e : Question × Verdict). e.1) old → new ≡ old ++ (q, tight v) ∷ [] → ws ≡ vs ++ v ∷ [] → map tight ws ≡ map (λ (e : Question × Verdict). e.1) new
-kept_next q old new vs ws v is same all =
-    ap (λ (x : List Verdict). map tight x) all ∙ map-append tight vs (v ∷ []) ∙ ap (λ (x : List Verdict). x ++ tight v ∷ []) is
-    ∙ sym (ap (λ (es : Earlier). map (λ (e : Question × Verdict). e.1) es) same ∙ map-append (λ (e : Question × Verdict). e.1) old ((q, tight v) ∷ []))
 
 -- ---- after the records of a block
 

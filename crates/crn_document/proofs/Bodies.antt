@@ -7,7 +7,6 @@ use Rattle.crn_vec.specs.Network.{Net}
 use Rattle.crn_cert.specs.Built.{built}
 use Rattle.crn_cert.specs.declared.answer.Verdict.{Verdict}
 use Rattle.crn_cert.specs.Questions.{Earlier}
-use Rattle.crn_check.specs.Verdicts.{tight}
 use Rattle.crn_ctext.specs.Records.{Record}
 use Rattle.crn_ctext.specs.Course.{Course, ◌>>=◌}
 use Rattle.crn_ctext.specs.Blocks.{AfterBlocks, ReadOf, asks_blocks, asks_table, lists_of}
@@ -69,7 +68,7 @@ blocks_begin P version v line l table net earlier by_tree same here none first p
 
 -- what follows the blocks
 end_after : (version : ℕ) (net : Net) (earlier : Earlier) (by_tree : Bool) (verdicts : List Verdict) (y : AfterBlocks Known) (result : Result (Unit {0}) CheckStop) (last : Reading) (more now : SourceSeen)
-    → last.version ≡ version → IsAfter net earlier by_tree last.line y → map tight verdicts ≡ verdicts_said built (meaning.start net) y.blocks
+    → last.version ≡ version → IsAfter net earlier by_tree last.line y → verdicts ≡ verdicts_said built (meaning.start net) y.blocks
     → ((read : ReadOf) → EndStepIs (asks_end last.version last.line by_tree read) read result last more now)
     → LastIs (last_course version net y) (λ t read. IsSaidIn net verdicts read) result last more now
 end_after version net earlier by_tree verdicts y result last more now same after said ends =
@@ -82,7 +81,7 @@ end_after version net earlier by_tree verdicts y result last more now same after
 
 -- the shared lists, the blocks and the end
 pub parts_end : (net : Net) (earlier : Earlier) (by_tree : Bool) (verdicts : List Verdict) (rs : List Record) (y : AfterBlocks Known) (result : Result (Unit {0}) CheckStop) (old mid last : Reading) (before between more now : SourceSeen)
-    → last.version ≡ old.version → map tight verdicts ≡ map (λ e. e.1) earlier
+    → last.version ≡ old.version → verdicts ≡ map (λ e. e.1) earlier
     → StepGives (asks_table old.version old.line) rs old.line mid.line old.lines mid.lines before.left between.left → between.faults ≡ before.faults
     → IsAfter net earlier by_tree last.line y
     → StepGives (asks_blocks meaning old.version (lists_of rs) built (after_at net [] (old.line + length rs) [])) y mid.line last.line mid.lines last.lines between.left more.left → more.faults ≡ between.faults
@@ -91,7 +90,7 @@ pub parts_end : (net : Net) (earlier : Earlier) (by_tree : Bool) (verdicts : Lis
 parts_end net earlier by_tree verdicts rs y result old mid last before between more now version kept p same after b quiet ends =
     let blocks_said = built_blocks_say old.version (lists_of rs) net (old.line + length rs) y (place mid.line mid.lines (b.pulled ++ [])) (place last.line last.lines []) in
     let said : map (λ e. e.1) y.known.earlier ≡ verdicts_said built (meaning.start net) y.blocks = blocks_said (let g = b.gives in g []) in
-    let all : map tight verdicts ≡ verdicts_said built (meaning.start net) y.blocks = kept ∙ ap (λ (z : AfterBlocks Known). map (λ e. e.1) z.known.earlier) (sym after.1) ∙ said in
+    let all : verdicts ≡ verdicts_said built (meaning.start net) y.blocks = kept ∙ ap (λ (z : AfterBlocks Known). map (λ e. e.1) z.known.earlier) (sym after.1) ∙ said in
     last_then (asks_table old.version old.line) (after_table old.version old.line net) rs (λ t read. IsSaidIn net verdicts read) result old mid before between now p same
     (last_then (asks_blocks meaning old.version (lists_of rs) built (after_at net [] (old.line + length rs) [])) (λ end. last_course old.version net end) y (λ t read. IsSaidIn net verdicts read) result mid last between more now b quiet
     (end_after old.version net earlier by_tree verdicts y result last more now version after all ends))

@@ -1,13 +1,10 @@
 -- A whole document, from its first line to its end, and what is said of its text.
-use Rattle.std.proofs.Common.{◌≡◌, ◌+◌, ◌∙◌, ◌⊎◌, ℕ, List, [], ◌∷◌, map, refl, sym, subst, ap, inl, inr, arith, Option, Some, None, Result, Ok, Err}
+use Rattle.std.proofs.Common.{◌≡◌, ◌+◌, ◌∙◌, ◌⊎◌, ℕ, List, [], refl, sym, subst, ap, inl, inr, arith, Option, Some, None, Result, Ok, Err}
 use Rattle.crn_io.specs.Device.{SourceSeen, Rose}
 use Rattle.crn_io.specs.Lines.{beginning}
 use Rattle.crn_vec.specs.Network.{Net}
 use Rattle.crn_cert.specs.Built.{built}
 use Rattle.crn_cert.specs.declared.answer.Verdict.{Verdict}
-use Rattle.crn_cert.specs.Questions.{Question}
-use Rattle.crn_check.specs.Verdicts.{tight}
-use Rattle.crn_check.proofs.CallerLemmas.{true_untight}
 use Rattle.crn_ctext.specs.Course.{Course, find, ◌>>=◌}
 use Rattle.crn_ctext.specs.Blocks.{ReadOf, IsNetworkOf, asks_lines}
 use Rattle.crn_ctext.specs.Judged.{IsReadOf, IsFaultOf}
@@ -78,13 +75,6 @@ body_at P version v count k line net n same number here is p =
 from_first : (P : ℕ → Type 0) (at : Reading) → IsNew at → P at.line → P 1
 from_first P at new p = subst P new.line p
 
--- verdicts that are true or open without the memory of their lists are so with it
-sound_untight : (net : Net) (qs : List Question) (vs : List Verdict) → AreSound net qs (map tight vs) → AreSound net qs vs
-sound_untight net [] [] h = refl
-sound_untight net [] (v ∷ vs) h = absurd cc
-sound_untight net (q ∷ qs) [] h = absurd h
-sound_untight net (q ∷ qs) (v ∷ vs) h = (true_untight net q v h.0, sound_untight net qs vs h.1)
-
 -- what a whole document answers
 pub document_gives : (result : Result Accepted CheckStop) (at : Reading) (before now : SourceSeen) → IsNew at → LastIs whole_course IsWhole result at before now → CheckGives result before now
 document_gives (Ok accepted) at before now new p =
@@ -102,7 +92,7 @@ document_gives (Ok accepted) at before now new p =
       blocks = blocks;
       gives = gives;
       verdicts = p.1.2;
-      sound = sound_untight accepted.net built accepted.verdicts (subst (λ (vs : List Verdict). AreSound accepted.net built vs) (sym p.1.2) (let s = read_true t.0 read gives in s.1));
+      sound = subst (λ (vs : List Verdict). AreSound accepted.net built vs) (sym p.1.2) (let s = read_true t.0 read gives in s.1);
     }
 document_gives (Err (stop.Rejected code line)) at before now new p =
     let step = from_first (λ n. StepFails whole_course n at.lines before.left now.left line code) at new p.0 in

@@ -13,7 +13,7 @@ use Rattle.crn_cert.specs.Questions.{Earlier}
 use Rattle.crn_cert.specs.Formed.{HeadMayBe, IsFormedOf, IsBasisOf}
 use Rattle.crn_cert.specs.Tests.{AllHold}
 use Rattle.crn_cert.specs.Valid.{head_tests, row_tests, linkage, linkage_count, class_places, pair_places}
-use Rattle.crn_check.specs.Verdicts.{tight}
+use Rattle.crn_cert.specs.Verdicts.{tight}
 use Rattle.crn_cert.specs.Ranges.{AreFrom}
 use Rattle.crn_ctext.specs.Records.{Record, Form, AreRising, Rising, Fits, AreOf}
 use Rattle.crn_ctext.specs.Kinds.{small, just, small_form}

@@ -1,6 +1,6 @@
 -- What checking a document answers, by the bytes that were read.
 -- Source: this project's own. Shapes: lines of a document count from 1.
-use Rattle.std.specs.Prelude.{◌≡◌, ◌≤◌, ◌+◌, ◌⊎◌, ℕ, List, length, map, Option, Some, None, Result, Ok, Err}
+use Rattle.std.specs.Prelude.{◌≡◌, ◌≤◌, ◌+◌, ◌⊎◌, ℕ, List, length, Option, Some, None, Result, Ok, Err}
 use Rattle.crn_io.specs.Device.{SourceSeen, Rose}
 use Rattle.crn_io.specs.Pull.{Consumes, HasNoneLeft}
 use Rattle.crn_io.specs.Read.{ConsumesUpTo}
@@ -11,7 +11,6 @@ use Rattle.crn_ctext.specs.Blocks.{ReadOf}
 use Rattle.crn_ctext.specs.Meaning.{meaning, verdicts_said}
 use Rattle.crn_ctext.specs.Judged.{IsReadOf, IsFaultOf}
 use Rattle.crn_ctext.specs.Linked.{AreSound}
-use Rattle.crn_check.specs.Verdicts.{tight}
 use Rattle.crn_document.specs.declared.check.Accepted.{Accepted}
 use Rattle.crn_document.specs.declared.fault.CheckStop.{CheckStop}
 use Rattle.crn_document.specs.declared.fault.CheckStop.TheVariants.{Rejected, Failed, NoMemory}
@@ -32,15 +31,14 @@ pub record IsRead (text : List ℕ) (old new : SourceSeen) : Type 0 where
   pub faults : new.faults ≡ old.faults
 
 -- The document was read to its end, and gave this network and these blocks. The verdicts are those
--- that the blocks say, but for the memory of their lists, and each is true of the network or open.
+-- that the blocks say, and each is true of the network or open.
 pub record Accepts (accepted : Accepted) (old new : SourceSeen) : Type 0 where
   pub text : List ℕ
   pub read : IsRead text old new
   pub none : HasNoneLeft new.left
   pub blocks : List (List Record)
   pub gives : IsReadOf text (record { net = accepted.net; blocks = blocks })
-  pub verdicts : map tight accepted.verdicts
-      ≡ verdicts_said built (meaning.start accepted.net) blocks
+  pub verdicts : accepted.verdicts ≡ verdicts_said built (meaning.start accepted.net) blocks
   pub sound : AreSound accepted.net built accepted.verdicts
 
 -- the first fault of the document is of this kind and at this line

@@ -10,7 +10,7 @@ ghost use Rattle.crn_ctext.specs.Blocks.{asks_block, asks_trees};
 ghost use Rattle.crn_ctext.specs.Meaning.{meaning, number, problems_by};
 ghost use Rattle.crn_check.specs.Facts.{AreFactsOf, asked};
 ghost use Rattle.crn_check.specs.Check.{AsksForTree, HoldsNoTree, IsBuilt, Judges, shown_by_tree, tree_place};
-ghost use Rattle.crn_check.specs.Verdicts.{tight};
+ghost use Rattle.crn_cert.specs.Verdicts.{tight};
 ghost use Rattle.crn_document.specs.Inner.Parts.{before, up_to};
 ghost use Rattle.crn_document.specs.Inner.Steps.{GoesOn, StepIs};
 ghost use Rattle.crn_document.specs.Inner.Answer.{AreSmall};
@@ -27,7 +27,7 @@ use crate::reading::Reading;
 use crate::rows::{Below, next_rows, rows_below};
 use crate::signal_trees::shape_of;
 use crate::tree::{ends_in_tree, next_trees};
-use crn_cert::{Answer, Proof, Rows, Verdict, Verdicts};
+use crn_cert::{Answer, Proof, Rows, Verdict};
 use crn_check::{CheckFault, Facts, accept_tree, check_answer, check_head, check_signal_answer};
 use crn_ctree::SharedTable;
 use crn_io::{NoMemory, Source};
@@ -35,12 +35,11 @@ use crn_net::Network;
 use crn_vec::{Ints, Nums};
 use std::alloc::Global;
 
-// The verdicts that were accepted so far: as facts for the tests of later blocks, and in the order of the questions; the
-// sides of a yes to question 11; and whether the last block ended in a tree.
+// The verdicts that were accepted so far, as facts for the tests of later blocks; the sides of a yes to question 11; and
+// whether the last block ended in a tree.
 #[derive(Drop)]
 pub(crate) struct Checked {
     pub(crate) facts: Facts,
-    pub(crate) verdicts: Verdicts,
     pub(crate) sides: Rows,
     pub(crate) by_tree: bool,
 }
@@ -65,7 +64,6 @@ fn check_records(
     ensures accepted { IfOk result (λ judged. OnOk judged (checked.new.facts.earlier
         ≡ checked.old.facts.earlier ++ (asked question, tight answer.now.verdict) ∷ [])) }
     ensures facts { AreFactsOf net.now checked.new.facts }
-    ensures verdicts { checked.new.verdicts ≡ checked.old.verdicts }
     ensures sides { checked.new.sides ≡ checked.old.sides }
 {
     match &answer.verdict {
@@ -80,7 +78,6 @@ fn check_records(
 // Keeps the sides of a yes to question 11.
 fn keep_sides(checked: &mut Checked, question: u32, proof: Proof)
     ensures facts { checked.new.facts ≡ checked.old.facts }
-    ensures verdicts { checked.new.verdicts ≡ checked.old.verdicts }
     ensures sides { question ≡ 11 → (sides : List (List ℤ)) → proof ≡ Sides sides
         → checked.new.sides ≡ sides }
     ensures same { (question ≡ 11 → ⊥) → checked.new.sides ≡ checked.old.sides }
@@ -125,9 +122,7 @@ fn accept(
     let answer = answer_of(at.alloc, question, head, parts, rows)?;
     match check_records(at.alloc, net, checked, question, &answer)? {
         Ok(()) => {
-            let Answer { verdict, proof } = answer;
-            checked.verdicts.push(verdict);
-            keep_sides(checked, question, proof);
+            keep_sides(checked, question, answer.proof);
             Ok(())
         }
         Err(fault) => Err(CheckStop::Rejected {
@@ -135,17 +130,6 @@ fn accept(
             line: line + fault.part,
         }),
     }
-}
-
-// The verdict that trees show on this question.
-fn shown_verdict(question: u32) -> Verdict
-    requires { AsksForTree question }
-    ensures { result ≡ shown_by_tree (asked question) }
-{
-    if question == 13 {
-        return Verdict::No;
-    }
-    Verdict::Yes
 }
 
 // Reads the trees that show a verdict on this question, and keeps the verdict.
@@ -177,7 +161,6 @@ fn accept_shown<S: Source>(
 {
     next_trees(source, at, net, table, checked, question)?;
     accept_tree(net, &mut checked.facts, question);
-    checked.verdicts.push(shown_verdict(question));
     Ok(())
 }
 

@@ -1,4 +1,4 @@
-ghost use Rattle.std.specs.Prelude.{◌≡◌, [], false, IfOk};
+ghost use Rattle.std.specs.Prelude.{◌≡◌, [], false, map, IfOk};
 ghost use Rattle.crn_vec.specs.Network.{IsNetwork};
 ghost use Rattle.crn_document.specs.Inner.Steps.{GoesOn};
 ghost use Rattle.crn_document.specs.Inner.Blocks.{IsReady};
@@ -26,7 +26,6 @@ fn none_checked(alloc: Global, net: &Network) -> Result<Checked, NoMemory>
 {
     Ok(Checked {
         facts: Facts::new(alloc, net)?,
-        verdicts: Verdicts::new(alloc)?,
         sides: Rows::new(alloc)?,
         by_tree: false,
     })
@@ -44,7 +43,7 @@ fn next_parts<S: Source>(
     requires empty { checked.old.facts.earlier ≡ [] }
     requires first { checked.old.by_tree ≡ false }
     ensures step { LastIs (rest_course at.old.version at.old.line net.now)
-        (λ _ read. IsSaidIn net.now checked.new.verdicts read)
+        (λ _ read. IsSaidIn net.now (map (λ e. e.1) checked.new.facts.earlier) read)
         result at.old (S.seen source.old) (S.seen source.new) }
 {
     let table = next_table(source, at)?;
@@ -66,11 +65,5 @@ pub(crate) fn next_rest<S: Source>(
 {
     let mut checked = none_checked(at.alloc, net)?;
     next_parts(source, at, net, &mut checked)?;
-    let Checked {
-        facts: _,
-        verdicts,
-        sides: _,
-        by_tree: _,
-    } = checked;
-    Ok(verdicts)
+    Ok(checked.facts.into_verdicts())
 }

@@ -13,6 +13,7 @@ use Rattle.crn_cert.specs.declared.answer.Gap.TheVariants.{Rests}
 use Rattle.crn_cert.specs.declared.answer.Verdict.{Verdict}
 use Rattle.crn_cert.specs.declared.answer.Verdict.TheVariants.{Strong, Yes, YesVec, NoVec, NoTerminal, NoDependence, NoCycle, Unknown}
 use Rattle.crn_cert.specs.declared.answer.Proof.TheVariants.{Sides}
+use Rattle.crn_cert.specs.Verdicts.{tight}
 use Rattle.crn_cert.specs.Questions.{Earlier, Q2, Q7, Q11, on, IsOpen, IsYes, IsNo}
 use Rattle.crn_cert.specs.Ranges.{IsFrom, AreBits}
 use Rattle.crn_cert.specs.Says.{AreStrongClasses, IsCycle, from_zero}
@@ -83,7 +84,7 @@ pub record Ready (net : Net) (earlier : Earlier) (links labels exit_list pairs :
   pub each : HaveOneEach earlier
   pub list : pairs ≡ pairs_to net labels exit_list (length net.reactions)
   pub are : ArePairs net.reactions (from_zero pairs)
-  pub seven : on earlier Q7 ≡ q7
+  pub seven : on earlier Q7 ≡ tight q7
   pub true_seven : IsTrueOrOpen net Q7 q7
 
 pair_list : (net : Net) (earlier : Earlier) (links labels exit_list pairs : List ℕ) (count : ℕ) (q7 : Verdict) → Ready net earlier links labels exit_list pairs count q7 → pair_places net earlier ≡ pairs
@@ -116,7 +117,7 @@ sides_answer net budget earlier links labels exit_list pairs count q7 sides k na
 
 -- ---- a pair that is no cut pair
 
-yes_or_open : (net : Net) (q7 : Verdict) → IsTrueOrOpen net Q7 q7 → (IsNo q7 → ⊥) → IsYes q7 ⊎ IsOpen q7
+yes_or_open : (net : Net) (q7 : Verdict) → IsTrueOrOpen net Q7 q7 → (IsNo q7 → ⊥) → IsYes (tight q7) ⊎ IsOpen (tight q7)
 yes_or_open net (YesVec v) h nay = inl tt
 yes_or_open net (Unknown gap) h nay = inr tt
 yes_or_open net (NoVec m) h nay = absurd (nay tt)

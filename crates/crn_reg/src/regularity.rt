@@ -1,4 +1,5 @@
 ghost use Rattle.std.specs.Prelude.{◌≡◌, ℕ, List, IfOk};
+ghost use Rattle.crn_cert.specs.Verdicts.{tight};
 ghost use Rattle.crn_cert.specs.Questions.{Earlier, Q7, Q11, on};
 ghost use Rattle.crn_cert.specs.Says.{AreLinkageClasses, AreStrongClasses};
 ghost use Rattle.crn_cert.specs.ClassTests.{DoLevelsFall};
@@ -59,7 +60,7 @@ pub fn regular(
     ensures { IfOk result (λ answer. (budget : ℕ) (earlier : Earlier) →
         GiveClasses earlier linkage.now.label.list linkage.now.count strong.now.label.list
         strong.now.exit.list →
-        on earlier Q7 ≡ q7.now →
+        on earlier Q7 ≡ tight q7.now →
         IsAnswer net.now budget earlier Q11 answer) }
 {
     net.meets_definition();

@@ -56,7 +56,7 @@ pub verdicts_count : (net : Net) (earlier : Earlier) (qs : List Question) (vs : 
 verdicts_count net earlier [] [] p = refl
 verdicts_count net earlier [] (v ∷ vs) p = absurd p
 verdicts_count net earlier (q ∷ qs) [] p = absurd p
-verdicts_count net earlier (q ∷ qs) (v ∷ vs) p = ap suc (verdicts_count net (earlier ++ (q, v) ∷ []) qs vs p.1)
+verdicts_count net earlier (q ∷ qs) (v ∷ vs) p = ap suc (verdicts_count net (earlier ++ (q, tight v) ∷ []) qs vs p.1)
 
 -- each verdict of formed ones is readable
 pub all_readable : (net : Net) (earlier : Earlier) (qs : List Question) (vs : List Verdict) (i : ℕ) → AreFormedVerdicts net earlier qs vs → i < length vs → IsReadable net (get_or vs i NotApplicable)
@@ -64,7 +64,7 @@ all_readable net earlier [] [] i p lt = absurd (omega arith)
 all_readable net earlier [] (v ∷ vs) i p lt = absurd p
 all_readable net earlier (q ∷ qs) [] i p lt = absurd p
 all_readable net earlier (q ∷ qs) (v ∷ vs) zero p lt = readable net earlier q v p.0
-all_readable net earlier (q ∷ qs) (v ∷ vs) (suc i) p lt = all_readable net (earlier ++ (q, v) ∷ []) qs vs i p.1 (omega arith)
+all_readable net earlier (q ∷ qs) (v ∷ vs) (suc i) p lt = all_readable net (earlier ++ (q, tight v) ∷ []) qs vs i p.1 (omega arith)
 
 -- the verdict at a place counted from 1
 pub got_here : (vs : List Verdict) (place : ℕ) (v : Verdict) → slice_get vs (place + 1 - 1) ≡ Some v → get_or vs place NotApplicable ≡ v

@@ -4,7 +4,6 @@ mod Outputs
 mod Certificates
 mod Accepted
 mod Checked
-mod CheckedForms
 mod Complete
 mod ClapWords
 mod ClapSteps

@@ -7,6 +7,7 @@ use Rattle.crn_cert.specs.declared.answer.Verdict.{Verdict}
 use Rattle.crn_cert.specs.Answers.{verdicts_of}
 use Rattle.crn_cert.specs.Built.{built}
 use Rattle.crn_cert.specs.Questions.{Earlier, Question}
+use Rattle.crn_cert.specs.Verdicts.{tight}
 use Rattle.crn_cert.specs.Formed.{AreFormed}
 use Rattle.crn_cert.specs.FormedVerdicts.{AreFormedVerdicts}
 use Rattle.crn_cert.specs.Valid.{AreValid}
@@ -28,7 +29,7 @@ pub answers_formed : (net : Net) (earlier : Earlier) (qs : List Question) (answe
 answers_formed net earlier [] [] f = tt
 answers_formed net earlier [] (a ∷ more) f = absurd f
 answers_formed net earlier (q ∷ qs) [] f = absurd f
-answers_formed net earlier (q ∷ qs) (a ∷ more) f = (formed_answers_have_formed_verdicts net earlier q a.verdict a.proof f.0, answers_formed net (earlier ++ (q, a.verdict) ∷ []) qs more f.1)
+answers_formed net earlier (q ∷ qs) (a ∷ more) f = (formed_answers_have_formed_verdicts net earlier q a.verdict a.proof f.0, answers_formed net (earlier ++ (q, tight a.verdict) ∷ []) qs more f.1)
 
 report_is_output : (budget : ℕ) (whole : Status) (text out : List ℕ) (answers : List Answer) → AreLeftBy whole answers → IsReportOf budget text out answers → IsOutput (Report budget) whole text out
 report_is_output budget Done text out answers left r = (answers, left, r)

@@ -11,7 +11,6 @@ use crate::output;
 use crate::status::Status;
 use crate::summary::summarize_sample;
 use crate::words::{Command, command_of};
-use crn_cert::formed_answers_have_formed_verdicts;
 use crn_ctext::{answers_are_as_their_records, good_documents_are_read};
 use crn_document::{CheckStop, check_document};
 use crn_io::{Sink, Source};
@@ -95,7 +94,6 @@ fn check<S: Source, K: Sink>(alloc: Global, source: &mut S, sink: &mut K) -> Sta
 {
     good_documents_are_read();
     answers_are_as_their_records();
-    formed_answers_have_formed_verdicts();
     match check_document(alloc, source) {
         Ok(accepted) => output::accept(&accepted, sink),
         Err(CheckStop::Rejected { code, line }) => output::reject(code, line, sink),

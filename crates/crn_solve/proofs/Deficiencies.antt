@@ -12,6 +12,8 @@ use Rattle.crn_cert.specs.Valid.{linkage, linkage_count}
 use Rattle.crn_cert.specs.Licensed.{IsTrueOrLicensed}
 use Rattle.crn_cert.specs.Given.{GiveRank}
 use Rattle.crn_cert.specs.Answered.{IsAnswer}
+use Rattle.crn_cert.specs.Verdicts.{tight}
+use Rattle.crn_cert.proofs.CallerLemmas.{rank_tight, open_tight}
 use Rattle.crn_solve.specs.Inner.Answered.{IsRankOrOpen}
 use Rattle.crn_solve.specs.Inner.Given.{rests_answer}
 
@@ -25,11 +27,11 @@ rank_or_open net budget earlier (Unknown gap) h = record { rank = λ s e. none e
 rank_or_open net budget earlier v h = absurd h
 
 -- the earlier verdicts give the linkage classes and the rank
-pub gives_rank : (earlier : Earlier) (labels : List ℕ) (count rank : ℕ) (v : Verdict) → rank_of v ≡ Some rank → linkage earlier ≡ labels → linkage_count earlier ≡ count → on earlier Q5 ≡ v → GiveRank earlier labels count rank
-gives_rank earlier labels count rank v r l c is = record { labels_are = l; count_is = c; rank_is = ap rank_of is ∙ r }
+pub gives_rank : (earlier : Earlier) (labels : List ℕ) (count rank : ℕ) (v : Verdict) → rank_of v ≡ Some rank → linkage earlier ≡ labels → linkage_count earlier ≡ count → on earlier Q5 ≡ tight v → GiveRank earlier labels count rank
+gives_rank earlier labels count rank v r l c is = record { labels_are = l; count_is = c; rank_is = ap rank_of is ∙ rank_tight v ∙ r }
 
 -- an open rank leaves the deficiencies open
-pub rests_given : (net : Net) (budget : ℕ) (earlier : Earlier) (v : Verdict) → IsOpen v → on earlier Q5 ≡ v → IsAnswer net budget earlier Q6 (rests_answer 5)
+pub rests_given : (net : Net) (budget : ℕ) (earlier : Earlier) (v : Verdict) → IsOpen v → on earlier Q5 ≡ tight v → IsAnswer net budget earlier Q6 (rests_answer 5)
 rests_given net budget earlier v o is =
     let formed : IsFormed net earlier Q6 (rests_answer 5) = (refl, refl) in
-    record { formed = formed; valid = tt; answered = (refl, subst IsOpen (sym is) o, tt) }
+    record { formed = formed; valid = tt; answered = (refl, subst IsOpen (sym is) (subst (λ (A : Type 0). A) (sym (open_tight v)) o), tt) }

@@ -5,11 +5,12 @@ use Rattle.crn_vec.specs.Confluence.{IsRegular}
 use Rattle.crn_cert.specs.declared.answer.Verdict.{Verdict}
 use Rattle.crn_cert.specs.declared.answer.Verdict.TheVariants.{Classes, Strong, Yes, YesVec, NoTerminal, NoDependence, NoCycle, Unknown}
 use Rattle.crn_cert.specs.Questions.{Earlier, Q1, Q2, Q4, Q11, Q12, IsNo, IsOpen, IsYes, on}
+use Rattle.crn_cert.specs.Verdicts.{tight}
 use Rattle.crn_cert.specs.Says.{AreLinkageClasses, AreStrongClasses, IsTrueOf}
 use Rattle.crn_cert.specs.Valid.{IsValid}
 use Rattle.crn_cert.specs.Law.{IsTrueOrOpen}
 use Rattle.crn_cert.specs.Answered.{IsAnswer}
-use Rattle.crn_cert.proofs.CallerLemmas.{valid_answers_are_true}
+use Rattle.crn_cert.proofs.CallerLemmas.{valid_answers_are_true, no_tight, open_tight}
 use Rattle.crn_graph.specs.declared.linkage_data.LinkageData.{LinkageData}
 use Rattle.crn_graph.specs.declared.strong_data.StrongData.{StrongData}
 use Rattle.crn_solve.specs.Inner.Given.{irregular_answer, rests_answer}
@@ -39,11 +40,11 @@ irregular net linkage strong weak v n l s w h says_no =
 
 -- a network that is not regular has no confluence vector
 pub irregular_given : (net : Net) (budget : ℕ) (earlier : Earlier) (linkage : LinkageData) (strong : StrongData) (weak v : Verdict) → IsNetwork net → AreLinkageClasses net linkage.count linkage.label.list
-    → AreStrongClasses net strong.count strong.terminal strong.label.list strong.exit.list → IsTrueOf net Q4 weak → IsTrueOrOpen net Q11 v → (IsYes v → ⊥) → (IsOpen v → ⊥) → on earlier Q11 ≡ v → IsAnswer net budget earlier Q12 irregular_answer
+    → AreStrongClasses net strong.count strong.terminal strong.label.list strong.exit.list → IsTrueOf net Q4 weak → IsTrueOrOpen net Q11 v → (IsYes v → ⊥) → (IsOpen v → ⊥) → on earlier Q11 ≡ tight v → IsAnswer net budget earlier Q12 irregular_answer
 irregular_given net budget earlier linkage strong weak v n l s w h not_yes not_open is =
     let says_no = regular_no net v h not_yes not_open in
-    record { formed = (tt, tt); valid = (subst IsNo (sym is) says_no, tt); answered = irregular net linkage strong weak v n l s w h says_no }
+    record { formed = (tt, tt); valid = (subst IsNo (sym is) (subst (λ (A : Type 0). A) (sym (no_tight v)) says_no), tt); answered = irregular net linkage strong weak v n l s w h says_no }
 
 -- an open verdict on regularity leaves the confluence vector open
-pub confluence_rests : (net : Net) (budget : ℕ) (earlier : Earlier) (v : Verdict) → IsOpen v → on earlier Q11 ≡ v → IsAnswer net budget earlier Q12 (rests_answer 11)
-confluence_rests net budget earlier v o is = record { formed = (refl, refl); valid = tt; answered = (refl, subst IsOpen (sym is) o, tt) }
+pub confluence_rests : (net : Net) (budget : ℕ) (earlier : Earlier) (v : Verdict) → IsOpen v → on earlier Q11 ≡ tight v → IsAnswer net budget earlier Q12 (rests_answer 11)
+confluence_rests net budget earlier v o is = record { formed = (refl, refl); valid = tt; answered = (refl, subst IsOpen (sym is) (subst (λ (A : Type 0). A) (sym (open_tight v)) o), tt) }

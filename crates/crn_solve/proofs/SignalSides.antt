@@ -1,5 +1,5 @@
 -- Answers to questions 11 and 12 give the vector and the sides to question 13.
-use Rattle.std.proofs.Common.{◌≡◌, subst}
+use Rattle.std.proofs.Common.{◌≡◌, ◌∙◌, ap, subst}
 use Rattle.std.specs.List.{AllByRecursion}
 use Rattle.crn_vec.specs.Kept.{KeptInts}
 use Rattle.crn_vec.specs.Network.{Net, IsNetwork}
@@ -14,6 +14,8 @@ use Rattle.crn_cert.specs.Ranges.{IsNarrow}
 use Rattle.crn_cert.specs.Says.{IsTrueOf}
 use Rattle.crn_cert.specs.Formed.{RowsConfluence, IsFormedOf, IsFormed}
 use Rattle.crn_cert.specs.Valid.{linkage, IsValid}
+use Rattle.crn_cert.specs.Verdicts.{tight}
+use Rattle.crn_cert.proofs.CallerLemmas.{yes_tight}
 use Rattle.crn_shape.proofs.CallerLemmas.{tested_sides}
 use Rattle.crn_solve.specs.Inner.Sides.{GiveSides}
 
@@ -31,13 +33,13 @@ vector_narrow : (net : Net) (earlier : Earlier) (vector : KeptInts) (p : Proof) 
 vector_narrow net earlier vector (Ties ties) f = f.0.each
 vector_narrow net earlier vector p f = absurd f
 
-both_given : (net : Net) (earlier later : Earlier) (regular : Answer) (v : Verdict) (p : Proof) → IsNetwork net → IsTrueOf net Q2 (on earlier Q2) → IsLabelled net (linkage earlier) → IsFormed net earlier Q11 regular → IsValid net earlier Q11 regular → on later Q11 ≡ regular.verdict
+both_given : (net : Net) (earlier later : Earlier) (regular : Answer) (v : Verdict) (p : Proof) → IsNetwork net → IsTrueOf net Q2 (on earlier Q2) → IsLabelled net (linkage earlier) → IsFormed net earlier Q11 regular → IsValid net earlier Q11 regular → on later Q11 ≡ tight regular.verdict
     → IsFormedOf net later Q12 v p → IsValid net later Q12 (record { verdict = v; proof = p }) → GiveSides net v regular.proof
 both_given net earlier later regular (YesVec vector) p n strong l f h is f12 h12 =
-    regular_given net earlier regular.verdict regular.proof vector n strong l f h (subst IsYes is h12.0) (vector_narrow net later vector p f12.1)
+    regular_given net earlier regular.verdict regular.proof vector n strong l f h (subst (λ (A : Type 0). A) (ap IsYes is ∙ yes_tight regular.verdict) h12.0) (vector_narrow net later vector p f12.1)
 both_given net earlier later regular v p n strong l f h is f12 h12 = tt
 
 -- formed and valid answers to questions 11 and 12 give both
-pub gives_sides : (net : Net) (earlier later : Earlier) (regular confluence : Answer) → IsNetwork net → IsTrueOf net Q2 (on earlier Q2) → IsLabelled net (linkage earlier) → IsFormed net earlier Q11 regular → IsValid net earlier Q11 regular → on later Q11 ≡ regular.verdict
+pub gives_sides : (net : Net) (earlier later : Earlier) (regular confluence : Answer) → IsNetwork net → IsTrueOf net Q2 (on earlier Q2) → IsLabelled net (linkage earlier) → IsFormed net earlier Q11 regular → IsValid net earlier Q11 regular → on later Q11 ≡ tight regular.verdict
     → IsFormed net later Q12 confluence → IsValid net later Q12 confluence → GiveSides net confluence.verdict regular.proof
 gives_sides net earlier later regular confluence n strong l f h is f12 h12 = both_given net earlier later regular confluence.verdict confluence.proof n strong l f h is f12 h12

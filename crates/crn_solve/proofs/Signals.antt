@@ -18,14 +18,15 @@ use Rattle.crn_cert.specs.Valid.{IsValid}
 use Rattle.crn_cert.specs.Law.{IsTrueOrOpen}
 use Rattle.crn_cert.specs.Licensed.{IsLicensedBudget, PassForSignals}
 use Rattle.crn_cert.specs.Answered.{IsAnswer}
-use Rattle.crn_cert.proofs.CallerLemmas.{valid_answers_are_true}
+use Rattle.crn_cert.specs.Verdicts.{tight}
+use Rattle.crn_cert.proofs.CallerLemmas.{valid_answers_are_true, open_tight, vector_tight, yes_tight}
 use Rattle.crn_shelf.specs.Given.{GiveVector}
 use Rattle.crn_solve.specs.Inner.Given.{inapplicable_answer, rests_answer}
 use Rattle.crn_solve.specs.Inner.Sides.{GiveSides}
 
 -- an open verdict on confluence vectors leaves signals open
-pub signal_rests : (net : Net) (budget : ℕ) (earlier : Earlier) (v : Verdict) → IsOpen v → on earlier Q12 ≡ v → IsAnswer net budget earlier Q13 (rests_answer 12)
-signal_rests net budget earlier v o is = record { formed = (refl, refl); valid = tt; answered = (refl, subst IsOpen (sym is) o, tt) }
+pub signal_rests : (net : Net) (budget : ℕ) (earlier : Earlier) (v : Verdict) → IsOpen v → on earlier Q12 ≡ tight v → IsAnswer net budget earlier Q13 (rests_answer 12)
+signal_rests net budget earlier v o is = record { formed = (refl, refl); valid = tt; answered = (refl, subst IsOpen (sym is) (subst (λ (A : Type 0). A) (sym (open_tight v)) o), tt) }
 
 -- without a vector there is nothing to look for
 no_signals : (net : Net) (weak v : Verdict) → IsNetwork net → IsTrueOf net Q4 weak → IsTrueOrOpen net Q12 v → (IsOpen v → ⊥) → (IsSome (vector_given v) → ⊥) → IsTrueOf net Q13 inapplicable_answer.verdict
@@ -34,9 +35,9 @@ no_signals net weak v n w h not_open no_vector =
     let valid : IsValid net own Q13 inapplicable_answer = ((no_vector, not_open), tt) in
     valid_answers_are_true Q13 net own inapplicable_answer n (w, tt) (h, tt) (tt, tt) valid
 
-pub inapplicable_given : (net : Net) (budget : ℕ) (earlier : Earlier) (weak v : Verdict) → IsNetwork net → IsTrueOf net Q4 weak → IsTrueOrOpen net Q12 v → (IsOpen v → ⊥) → (IsSome (vector_given v) → ⊥) → on earlier Q12 ≡ v → IsAnswer net budget earlier Q13 inapplicable_answer
+pub inapplicable_given : (net : Net) (budget : ℕ) (earlier : Earlier) (weak v : Verdict) → IsNetwork net → IsTrueOf net Q4 weak → IsTrueOrOpen net Q12 v → (IsOpen v → ⊥) → (IsSome (vector_given v) → ⊥) → on earlier Q12 ≡ tight v → IsAnswer net budget earlier Q13 inapplicable_answer
 inapplicable_given net budget earlier weak v n w h not_open no_vector is =
-    record { formed = (tt, tt); valid = ((λ s. no_vector (subst (λ x. IsSome (vector_given x)) is s), λ o. not_open (subst IsOpen is o)), tt); answered = no_signals net weak v n w h not_open no_vector }
+    record { formed = (tt, tt); valid = ((λ s. no_vector (subst (λ x. IsSome x) (ap vector_given is ∙ vector_tight v) s), λ o. not_open (subst (λ (A : Type 0). A) (ap IsOpen is ∙ open_tight v) o)), tt); answered = no_signals net weak v n w h not_open no_vector }
 
 -- a verdict that is no vector gives none
 pub none_given : (v : Verdict) → ((vector : KeptInts) → v ≡ YesVec vector → ⊥) → IsSome (vector_given v) → ⊥
@@ -49,8 +50,8 @@ sides_are_there net vector (Sides sides) given other = other sides refl
 sides_are_there net vector p given other = absurd given
 
 -- what earlier verdicts give to the question on signals
-pub vector_is_given : (net : Net) (earlier : Earlier) (weak : Verdict) (vector : KeptInts) (is_weak : Bool) → IsTrueOf net Q2 (on earlier Q2) → on earlier Q4 ≡ weak → on earlier Q12 ≡ YesVec vector → (IsTrue is_weak ↔ IsYes weak) → GiveVector net earlier vector.list is_weak
-vector_is_given net earlier weak vector is_weak strong four twelve same = record { strong_is = strong; vector_is = ap vector_given twelve; weak_is = subst (λ v. IsYes v ↔ IsTrue is_weak) (sym four) (same.1, same.0) }
+pub vector_is_given : (net : Net) (earlier : Earlier) (weak : Verdict) (vector : KeptInts) (is_weak : Bool) → IsTrueOf net Q2 (on earlier Q2) → on earlier Q4 ≡ tight weak → on earlier Q12 ≡ tight (YesVec vector) → (IsTrue is_weak ↔ IsYes weak) → GiveVector net earlier vector.list is_weak
+vector_is_given net earlier weak vector is_weak strong four twelve same = record { strong_is = strong; vector_is = ap vector_given twelve; weak_is = subst (λ (A : Type 0). A ↔ IsTrue is_weak) (sym (yes_tight weak) ∙ ap IsYes (sym four)) (same.1, same.0) }
 
 -- two facts of a value that is there
 pub if_both : {T E : Type 0} (P Q R : T → Type 0) (r : Result T E) → ((x : T) → P x → Q x → R x) → IfOk r P → IfOk r Q → IfOk r R

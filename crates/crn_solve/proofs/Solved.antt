@@ -13,6 +13,7 @@ use Rattle.crn_cert.specs.Questions.{Earlier, IsOpen, Question, Q13, Q14, Q15}
 use Rattle.crn_cert.specs.TreeSizes.{HasFewNodes, HaveFewNodes}
 use Rattle.crn_cert.specs.Valid.{AreValid}
 use Rattle.crn_solve.specs.Spent.{AreOpenIfSpent}
+use Rattle.crn_cert.specs.Verdicts.{tight}
 use Rattle.crn_solve.specs.Inner.Solved.{AreAnswers, AreFirstAnswers, FirstAreDecided, IsVectorFirst, first_questions}
 use Rattle.crn_solve.proofs.AllAnswers.{are_formed, are_valid, are_answered}
 
@@ -21,7 +22,7 @@ pub answers_counted : (net : Net) (budget : ℕ) (earlier : Earlier) (qs : List 
 answers_counted net budget earlier [] [] h = refl
 answers_counted net budget earlier [] (a ∷ more) h = absurd h
 answers_counted net budget earlier (q ∷ qs) [] h = absurd h
-answers_counted net budget earlier (q ∷ qs) (a ∷ more) h = omega (arith, answers_counted net budget (earlier ++ (q, a.verdict) ∷ []) qs more h.1)
+answers_counted net budget earlier (q ∷ qs) (a ∷ more) h = omega (arith, answers_counted net budget (earlier ++ (q, tight a.verdict) ∷ []) qs more h.1)
 
 pub verdicts_counted : (net : Net) (budget : ℕ) (answers : List Answer) (vs : List Verdict) → AreAnswers net budget [] first_questions answers → vs ≡ verdicts_of answers → length vs ≡ 13
 verdicts_counted net budget answers vs h e = ap length e ∙ length-map answers (λ (x : Answer). x.verdict) ∙ answers_counted net budget [] first_questions answers h
@@ -34,7 +35,7 @@ answers_then : (net : Net) (budget : ℕ) (earlier : Earlier) (qs : List Questio
 answers_then net budget earlier [] [] rest ys h k = k earlier
 answers_then net budget earlier [] (a ∷ xs) rest ys h k = absurd h
 answers_then net budget earlier (q ∷ qs) [] rest ys h k = absurd h
-answers_then net budget earlier (q ∷ qs) (a ∷ xs) rest ys h k = (h.0, answers_then net budget (earlier ++ (q, a.verdict) ∷ []) qs xs rest ys h.1 k)
+answers_then net budget earlier (q ∷ qs) (a ∷ xs) rest ys h k = (h.0, answers_then net budget (earlier ++ (q, tight a.verdict) ∷ []) qs xs rest ys h.1 k)
 
 few_then : (budget : ℕ) (xs ys : List Answer) → HaveFewNodes budget xs → HaveFewNodes budget ys → HaveFewNodes budget (xs ++ ys)
 few_then budget [] ys h k = k
@@ -73,7 +74,7 @@ solved_after net budget answers a b f l =
     let decided = f.decided in
     let first = f.first in
     let last = a ∷ b ∷ [] in
-    let all : AreAnswers net budget [] built (answers ++ last) = answers_then net budget [] first_questions answers (Q14 ∷ Q15 ∷ []) last f.all (λ e. (h14 e, (h15 (e ++ (Q14, a.verdict) ∷ []), tt))) in
+    let all : AreAnswers net budget [] built (answers ++ last) = answers_then net budget [] first_questions answers (Q14 ∷ Q15 ∷ []) last f.all (λ e. (h14 e, (h15 (e ++ (Q14, tight a.verdict) ∷ []), tt))) in
     let verdicts : verdicts_of (answers ++ last) ≡ verdicts_of answers ++ verdicts_of last = map-append (λ (x : Answer). x.verdict) answers last in
     record {
       formed = are_formed net budget [] built (answers ++ last) all;

@@ -1,13 +1,14 @@
 -- The answer on the Deficiency Zero Theorem is one of the crate of deficiencies, or rests on the rank; what the answer on the Deficiency One Theorem rests on.
-use Rattle.std.proofs.Common.{◌≡◌, ◌↔◌, ℕ, sym, subst}
+use Rattle.std.proofs.Common.{◌≡◌, ◌↔◌, ◌∙◌, ℕ, ap, sym, subst}
 use Rattle.std.specs.Prelude.{IsTrue, Bool}
 use Rattle.crn_vec.specs.Network.{Net}
 use Rattle.crn_vec.specs.Strong.{IsWeaklyReversible}
-use Rattle.crn_cert.proofs.CallerLemmas.{weak_yes, weak_no}
+use Rattle.crn_cert.proofs.CallerLemmas.{weak_yes, weak_no, open_tight, yes_tight}
 use Rattle.crn_cert.specs.declared.answer.Verdict.{Verdict}
 use Rattle.crn_cert.specs.Questions.{Earlier, Q4, Q5, Q9, IsOpen, IsYes, on}
 use Rattle.crn_cert.specs.Says.{IsTrueOf}
 use Rattle.crn_cert.specs.Answered.{IsAnswer}
+use Rattle.crn_cert.specs.Verdicts.{tight}
 use Rattle.crn_defi.proofs.CallerLemmas.{zero_rests}
 use Rattle.crn_solve.specs.Inner.Given.{rests_answer}
 
@@ -16,5 +17,9 @@ pub weak_is : (net : Net) (v : Verdict) (weak : Bool) → IsTrueOf net Q4 v → 
 weak_is net v weak h is = ((λ w. weak_yes net v h (is.0 w)), (λ w. is.1 (weak_no net v h w)))
 
 -- an open rank leaves the Deficiency Zero Theorem open
-pub zero_rests_given : (net : Net) (budget : ℕ) (earlier : Earlier) (v : Verdict) → IsOpen v → on earlier Q5 ≡ v → IsAnswer net budget earlier Q9 (rests_answer 5)
-zero_rests_given net budget earlier v o is = zero_rests net budget earlier (subst IsOpen (sym is) o)
+pub zero_rests_given : (net : Net) (budget : ℕ) (earlier : Earlier) (v : Verdict) → IsOpen v → on earlier Q5 ≡ tight v → IsAnswer net budget earlier Q9 (rests_answer 5)
+zero_rests_given net budget earlier v o is = zero_rests net budget earlier (subst IsOpen (sym is) (subst (λ (A : Type 0). A) (sym (open_tight v)) o))
+
+-- so is the one that is known
+pub weak_known : (earlier : Earlier) (v : Verdict) (weak : Bool) → on earlier Q4 ≡ tight v → (IsTrue weak ↔ IsYes v) → (IsTrue weak ↔ IsYes (on earlier Q4))
+weak_known earlier v weak four is = subst (λ (A : Type 0). IsTrue weak ↔ A) (sym (yes_tight v) ∙ ap IsYes (sym four)) is

@@ -1,4 +1,5 @@
 ghost use Rattle.std.specs.Prelude.{◌≡◌, ℕ, IfOk};
+ghost use Rattle.crn_cert.specs.Verdicts.{tight};
 ghost use Rattle.crn_cert.specs.Questions.{Earlier, Q4, Q11, Q12, on};
 ghost use Rattle.crn_cert.specs.Says.{AreLinkageClasses, AreStrongClasses, IsTrueOf};
 ghost use Rattle.crn_cert.specs.Law.{IsTrueOrOpen};
@@ -42,7 +43,7 @@ pub(crate) fn confluence_answer(
     ensures { IfOk result (λ answer. (budget : ℕ) (earlier : Earlier) →
         GiveClasses earlier linkage.now.label.list linkage.now.count strong.now.label.list
         strong.now.exit.list →
-        on earlier Q4 ≡ weak.now → on earlier Q11 ≡ regular.now →
+        on earlier Q4 ≡ tight weak.now → on earlier Q11 ≡ tight regular.now →
         IsAnswer net.now budget earlier Q12 answer) }
 {
     net.meets_definition();

@@ -1,4 +1,5 @@
 ghost use Rattle.std.specs.Prelude.{◌≡◌, ℕ, IfOk};
+ghost use Rattle.crn_cert.specs.Verdicts.{tight};
 ghost use Rattle.crn_cert.specs.Questions.{Earlier, Q5, Q6, on};
 ghost use Rattle.crn_cert.specs.Says.{AreLinkageClasses};
 ghost use Rattle.crn_cert.specs.Valid.{linkage, linkage_count};
@@ -25,7 +26,7 @@ pub(crate) fn deficiency_answer(
     requires rank { IsRankOrOpen net.now rank.now }
     ensures { IfOk result (λ answer. (budget : ℕ) (earlier : Earlier) →
         linkage earlier ≡ classes.now.label.list → linkage_count earlier ≡ classes.now.count →
-        on earlier Q5 ≡ rank.now → IsAnswer net.now budget earlier Q6 answer) }
+        on earlier Q5 ≡ tight rank.now → IsAnswer net.now budget earlier Q6 answer) }
 {
     match rank_of(rank) {
         Some(rank) => deficiencies(alloc, net, classes, rank),

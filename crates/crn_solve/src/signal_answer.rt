@@ -1,6 +1,7 @@
 ghost use Rattle.std.specs.Prelude.{◌≡◌, ◌≤◌, IfOk, IsSomeAnd};
 ghost use Rattle.crn_vec.specs.declared.limits.TheConstants.{MAX_BUDGET};
 ghost use Rattle.crn_vec.specs.NetSignals.{HasNoSignal};
+ghost use Rattle.crn_cert.specs.Verdicts.{tight};
 ghost use Rattle.crn_cert.specs.Questions.{Earlier, IsOpen, Q2, Q4, Q12, Q13, on, vector_given};
 ghost use Rattle.crn_cert.specs.Says.{AreStrongClasses, IsTrueOf};
 ghost use Rattle.crn_cert.specs.Law.{IsTrueOrOpen};
@@ -49,8 +50,8 @@ pub(crate) fn signal_answer(
     requires sides { GiveSides net.now confluence.now regular.now }
     requires confluence { IsTrueOrOpen net.now Q12 confluence.now }
     ensures answer { IfOk result (λ answer. (earlier : Earlier) →
-        IsTrueOf net.now Q2 (on earlier Q2) → on earlier Q4 ≡ weak.now →
-        on earlier Q12 ≡ confluence.now → IsAnswer net.now budget earlier Q13 answer) }
+        IsTrueOf net.now Q2 (on earlier Q2) → on earlier Q4 ≡ tight weak.now →
+        on earlier Q12 ≡ tight confluence.now → IsAnswer net.now budget earlier Q13 answer) }
     ensures nodes { IfOk result (λ answer. HasFewNodes budget answer.proof) }
     ensures spent { IfOk result (λ answer. (earlier : Earlier) →
         on earlier Q12 ≡ confluence.now → IsLicensedBudget net.now earlier Q13 budget →

@@ -1,4 +1,5 @@
 ghost use Rattle.std.specs.Prelude.{◌≡◌, ℕ};
+ghost use Rattle.crn_cert.specs.Verdicts.{tight};
 ghost use Rattle.crn_cert.specs.Questions.{Earlier, Q4, Q5, Q9, on};
 ghost use Rattle.crn_cert.specs.Says.{AreLinkageClasses, IsTrueOf};
 ghost use Rattle.crn_cert.specs.Valid.{linkage, linkage_count};
@@ -24,7 +25,7 @@ pub(crate) fn zero_answer(
     requires rank { IsRankOrOpen net.now rank.now }
     ensures { (budget : ℕ) (earlier : Earlier) →
         linkage earlier ≡ classes.now.label.list → linkage_count earlier ≡ classes.now.count →
-        on earlier Q4 ≡ weak.now → on earlier Q5 ≡ rank.now →
+        on earlier Q4 ≡ tight weak.now → on earlier Q5 ≡ tight rank.now →
         IsAnswer net.now budget earlier Q9 result }
 {
     match rank_of(rank) {

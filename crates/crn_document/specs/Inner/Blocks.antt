@@ -17,7 +17,6 @@ use Rattle.crn_ctext.specs.Meaning.{Known, lists, meaning}
 use Rattle.crn_ctext.specs.Meaning as said
 use Rattle.crn_check.specs.Facts.{asked}
 use Rattle.crn_check.specs.Check.{IsBuilt}
-use Rattle.crn_check.specs.Verdicts.{tight}
 use Rattle.crn_document.specs.declared.parts.Part.{Part}
 use Rattle.crn_document.specs.declared.rows.Row.{Row}
 use Rattle.crn_document.specs.Inner.Answer.{verdict_of_head}
@@ -144,8 +143,7 @@ pub record KeepSides (net : Net) (earlier : Earlier) (sides : List (List ℤ)) :
   pub are_sides : on earlier Q11 ≡ Yes → AreSides net sides
   pub with_vector : HasVector earlier → on earlier Q11 ≡ Yes
 
--- the verdicts on these questions are known, and kept in order, and so are the sides of question 11
+-- the verdicts on these questions are known, and so are the sides of question 11
 pub record IsReady (net : Net) (qs : List Question) (checked : Checked) : Type 0 where
   pub known : IsKnown net qs checked.facts
-  pub kept : map tight checked.verdicts ≡ map (λ e. e.1) checked.facts.earlier
   pub sides : KeepSides net checked.facts.earlier checked.sides

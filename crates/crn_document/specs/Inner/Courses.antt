@@ -1,7 +1,7 @@
 -- For the contracts of private functions alone. The parts of the course of a document, and what is
 -- said of its end.
 -- Source: this project's own format. Shapes: lines of a document count from 1.
-use Rattle.std.specs.Prelude.{◌≡◌, ◌≤◌, ◌+◌, ℕ, true, List, [], ◌∷◌, length, map}
+use Rattle.std.specs.Prelude.{◌≡◌, ◌≤◌, ◌+◌, ℕ, true, List, [], ◌∷◌, length}
 use Rattle.crn_vec.specs.Network.{Net}
 use Rattle.crn_io.specs.declared.lines.TheConstants.{MAX_NUMBERS}
 use Rattle.crn_cert.specs.Built.{built}
@@ -11,7 +11,6 @@ use Rattle.crn_ctext.specs.Kinds.{end_form}
 use Rattle.crn_ctext.specs.Course.{Course, ◌>>=◌}
 use Rattle.crn_ctext.specs.Blocks.{AfterBlocks, ReadOf, asks, asks_blocks, asks_table, course, lists_of}
 use Rattle.crn_ctext.specs.Meaning.{Known, meaning, verdicts_said, versions}
-use Rattle.crn_check.specs.Verdicts.{tight}
 use Rattle.crn_document.specs.declared.check.Accepted.{Accepted}
 use Rattle.crn_document.specs.declared.reading.Reading.{Reading}
 use Rattle.crn_document.specs.Inner.Blocks.{after_at}
@@ -42,12 +41,11 @@ rest_course version line net = asks_table version line >>= (λ table.
 abbrev pub whole_course : Course ReadOf
 whole_course = course meaning versions built
 
--- the document is of this network, and its blocks say these verdicts, but for the memory of their
--- lists
+-- the document is of this network, and its blocks say these verdicts
 abbrev pub IsSaidIn : Net → List Verdict → ReadOf → Type 0
 IsSaidIn net verdicts read = (blocks : List (List Record))
     × (read ≡ record { net = net; blocks = blocks })
-    × (map tight verdicts ≡ verdicts_said built (meaning.start net) blocks)
+    × (verdicts ≡ verdicts_said built (meaning.start net) blocks)
 
 -- this network, and these verdicts
 abbrev pub IsWhole : Accepted → ReadOf → Type 0

@@ -12,14 +12,16 @@ use Rattle.crn_cert.specs.Answered.{IsAnswer}
 use Rattle.crn_cert.specs.Built.{built}
 use Rattle.crn_cert.specs.Licensed.{IsLicensedBudget}
 use Rattle.crn_cert.specs.Questions.{Earlier, Question, IsOpen, on, vector_given, Q1, Q2, Q3, Q4, Q5, Q6, Q7, Q8, Q9, Q10, Q11, Q12, Q13, Q14, Q15}
+use Rattle.crn_cert.specs.Verdicts.{tight}
 use Rattle.crn_cert.specs.TreeSizes.{HaveFewNodes}
 use Rattle.crn_shelf.specs.Order.{IsForNegative}
 
--- an answer to each question, after the earlier verdicts and those of the answers before
+-- an answer to each question, after the earlier verdicts and those of the answers before, whose
+-- lists count without their spares
 abbrev pub AreAnswers : Net → ℕ → Earlier → List Question → List Answer → Type 0
 AreAnswers net budget earlier [] [] = Unit {0}
 AreAnswers net budget earlier (q ∷ qs) (answer ∷ answers) = IsAnswer net budget earlier q answer
-    × AreAnswers net budget (earlier ++ (q, answer.verdict) ∷ []) qs answers
+    × AreAnswers net budget (earlier ++ (q, tight answer.verdict) ∷ []) qs answers
 AreAnswers net budget earlier qs answers = ⊥
 
 -- the first four verdicts are not open

@@ -9,7 +9,7 @@ use Rattle.crn_document.specs.Inner.Blocks.{tests_course}
 use Rattle.crn_document.specs.Inner.Parts.{before}
 use Rattle.crn_document.proofs.Heads.{said_facts}
 use Rattle.crn_document.proofs.Steps.{step_exits, stops_here, tests_give, tests_fail}
-use Rattle.crn_document.proofs.Blocks.{answer_formed, answer_heads, answer_part, answer_tight, block_fails, block_learns, block_fits, kept_next, said_answer, shown_first, so_far_next}
+use Rattle.crn_document.proofs.Blocks.{answer_formed, answer_heads, answer_part, answer_tight, block_fails, block_learns, block_fits, said_answer, shown_first, so_far_next}
 use Rattle.crn_document.proofs.Kept.{sides_after, sides_shown, vector_after}
 use Rattle.std.proofs.Common.{◌≡◌, ◌++◌, ◌∷◌, [], ap, Result, OnOk}
 use Rattle.std.specs.Option.{IsSome}
@@ -19,7 +19,7 @@ use Rattle.crn_cert.specs.Tests.{AllHold, FailsFirst}
 use Rattle.crn_cert.specs.Valid.{tests_of}
 use Rattle.crn_check.specs.Check.{Judges}
 use Rattle.crn_check.specs.Facts.{AreFactsOf, KeptFacts}
-use Rattle.crn_check.specs.Verdicts.{tight}
+use Rattle.crn_cert.specs.Verdicts.{tight}
 use Rattle.crn_check.specs.declared.fault.CheckFault.{CheckFault}
 use Rattle.crn_document.proofs.block.accept.Goals as goal
 
@@ -120,8 +120,6 @@ returns-in-Ok-clause-ready c =
         facts_of = subst (λ (f : KeptFacts). AreFactsOf net f) (sym c.keep_sides.ensures.facts) c.check_records.ensures.facts;
         so_far = so_far_next (before n) (asked n) facts.earlier c.keep_sides.new.checked.facts.earlier _ known.so_far new;
       };
-      kept = kept_next (asked n) facts.earlier c.keep_sides.new.checked.facts.earlier c.args.checked.now.verdicts c.keep_sides.new.checked.verdicts a.verdict c.requires.ready.kept new
-          (c.keep_sides.ensures.verdicts ∙ c.push.ensures ∙ ap (λ (vs : List Verdict). vs ++ a.verdict ∷ []) c.check_records.ensures.verdicts);
       sides = sides_after net n facts c.keep_sides.new.checked.facts.earlier (tight a.verdict) c.args.checked.now.sides c.keep_sides.new.checked.sides c.requires.ready.sides c.requires.built known new
           (λ eleven said. sides_shown net n facts a c.keep_sides.new.checked.sides c.requires.built known eleven formed judged (c.keep_sides.ensures.sides eleven) (sym tight_is ∙ said))
           (λ other. c.keep_sides.ensures.same other ∙ c.check_records.ensures.sides)

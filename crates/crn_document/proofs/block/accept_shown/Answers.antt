@@ -1,12 +1,9 @@
 use Rattle.std.proofs.lemmas.Result.{err_from_is_err_and}
-use Rattle.std.proofs.Common.{◌++◌, ◌∷◌, ◌∙◌, [], ap, sym}
-use Rattle.crn_cert.specs.declared.answer.Verdict.{Verdict}
 use Rattle.crn_check.specs.Check.{shown_by_tree}
 use Rattle.crn_check.specs.Facts.{asked}
-use Rattle.crn_check.proofs.CallerLemmas.{shown_tight}
 use Rattle.crn_document.proofs.Kept.{sides_after_trees}
 use Rattle.crn_document.specs.Inner.Parts.{before}
-use Rattle.crn_document.proofs.Blocks.{kept_next, so_far_next}
+use Rattle.crn_document.proofs.Blocks.{so_far_next}
 use Rattle.crn_document.proofs.Places.{none_later}
 use Rattle.crn_document.proofs.Steps.{step_exits}
 use Rattle.crn_document.proofs.block.accept_shown.Goals as goal
@@ -25,10 +22,5 @@ returns-clause-ready g c = record {
     facts_of = c.accept_tree.ensures.facts;
     so_far = so_far_next (before c.args.question) (asked c.args.question) c.args.checked.now.facts.earlier c.accept_tree.new.facts.earlier (shown_by_tree (asked c.args.question)) c.requires.ready.known.so_far c.accept_tree.ensures.accepted;
   };
-  kept =
-      let q = asked c.args.question in
-      kept_next q c.args.checked.now.facts.earlier c.accept_tree.new.facts.earlier c.args.checked.now.verdicts c.push.new.self (shown_by_tree q) c.requires.ready.kept
-      (c.accept_tree.ensures.accepted ∙ ap (λ (v : Verdict). c.args.checked.now.facts.earlier ++ (q, v) ∷ []) (sym (shown_tight c.args.question c.requires.tree)))
-      (c.push.ensures ∙ ap (λ (v : Verdict). c.args.checked.now.verdicts ++ v ∷ []) c.shown_verdict.ensures);
   sides = sides_after_trees c.args.net.now c.args.question c.args.checked.now.facts c.accept_tree.new.facts.earlier c.args.checked.now.sides c.requires.ready.sides c.requires.built c.requires.ready.known c.requires.tree c.accept_tree.ensures.accepted;
 }

@@ -1,7 +1,9 @@
-use Rattle.std.proofs.Common.{◌+◌, ◌∙◌, List, [], length, subst}
+use Rattle.std.proofs.Common.{◌+◌, ◌∙◌, List, [], length, map, refl, subst}
 use Rattle.std.specs.Prelude.{ℤ}
 use Rattle.std.proofs.lemmas.Result.{err_from_is_err_and}
 use Rattle.crn_cert.specs.Built.{built}
+use Rattle.crn_cert.specs.declared.answer.Verdict.{Verdict}
+use Rattle.crn_cert.specs.Questions.{Question}
 use Rattle.crn_ctext.specs.Blocks.{asks_blocks, asks_table, lists_of}
 use Rattle.crn_ctext.specs.Meaning.{meaning}
 use Rattle.crn_ctext.specs.Steps.{StepGives}
@@ -53,8 +55,8 @@ returns g c = record {
       let b = (let h = c.in_ok-next_blocks.ensures.step in h []) in
       let given : StepGives (asks_blocks meaning mid.version (lists_of s.0) built (after_by net c.args.checked.now.facts.earlier c.args.checked.now.by_tree mid.line [])) b.0 mid.line last.line mid.lines last.lines between.left more.left =
       subst (λ (t : List (List ℤ)). StepGives (asks_blocks meaning mid.version t built (after_by net c.args.checked.now.facts.earlier c.args.checked.now.by_tree mid.line [])) b.0 mid.line last.line mid.lines last.lines between.left more.left) s.1.1 b.2 in
-      parts_end net c.next_blocks.new.checked.facts.earlier c.next_blocks.new.checked.by_tree c.next_blocks.new.checked.verdicts s.0 b.0 c.next_end.result at mid last before between more _
-      (c.next_blocks.ensures.version ∙ c.next_table.ensures.version) c.in_ok-next_blocks.ensures.ready.kept s.2 s.3 b.1
+      parts_end net c.next_blocks.new.checked.facts.earlier c.next_blocks.new.checked.by_tree (map (λ (e : Question × Verdict). e.1) c.next_blocks.new.checked.facts.earlier) s.0 b.0 c.next_end.result at mid last before between more _
+      (c.next_blocks.ensures.version ∙ c.next_table.ensures.version) refl s.2 s.3 b.1
       (blocks_begin (λ d. StepGives d b.0 mid.line last.line mid.lines last.lines between.left more.left) at.version mid.version (at.line + length s.0) mid.line (lists_of s.0) net c.args.checked.now.facts.earlier c.args.checked.now.by_tree c.next_table.ensures.version s.1.0 c.requires.empty c.requires.first given)
       b.3 c.next_end.ensures.step;
 }

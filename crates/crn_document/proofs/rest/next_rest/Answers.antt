@@ -1,6 +1,10 @@
-use Rattle.std.proofs.Common.{refl}
+use Rattle.std.proofs.Common.{List, Ok, refl, subst, sym}
 use Rattle.std.proofs.lemmas.Result.{err_from_is_err_and}
 use Rattle.crn_document.specs.declared.fault.CheckStop.TheVariants as stop
+use Rattle.crn_cert.specs.declared.answer.Verdict.{Verdict}
+use Rattle.crn_ctext.specs.Blocks.{ReadOf}
+use Rattle.crn_document.specs.Inner.Courses.{IsSaidIn, rest_course}
+use Rattle.crn_document.specs.Inner.Ending.{LastIs}
 use Rattle.crn_document.proofs.Bodies.{last_exits}
 use Rattle.crn_document.proofs.Steps.{stops_here}
 use Rattle.crn_document.proofs.rest.next_rest.Goals as goal
@@ -19,4 +23,6 @@ returns-in_err-next_parts g c = record {
 }
 
 pub returns : goal.returns
-returns g c = record { step = c.in_ok-next_parts.ensures.step }
+returns g c = record {
+  step = subst (λ (vs : List Verdict). LastIs (rest_course c.args.at.now.version c.args.at.now.line c.args.net.now) (λ (vs : List Verdict) (read : ReadOf). IsSaidIn c.args.net.now vs read) (Ok vs) c.args.at.now (g.S.Source.seen c.args.source.now) (g.S.Source.seen c.next_parts.new.source)) (sym c.into_verdicts.ensures) c.in_ok-next_parts.ensures.step;
+}

@@ -1,11 +1,10 @@
-use Rattle.crn_run.proofs.Checked.{accept_ends, reject_ends, read_formed}
-use Rattle.crn_run.proofs.CheckedForms.{accepted_formed}
+use Rattle.crn_run.proofs.Checked.{accept_ends, accepted_formed, reject_ends, read_formed}
 use Rattle.crn_run.proofs.runner.check.Goals as goal
 
 pub accept-requires : goal.accept-requires
 accept-requires g c =
     let a = c.in-Ok.ensures.gives in
-    accepted_formed c.formed_answers_have_formed_verdicts.ensures c.answers_are_as_their_records.ensures.given c.in-Ok.accepted.net a.blocks c.in-Ok.accepted.verdicts
+    accepted_formed c.answers_are_as_their_records.ensures.given c.in-Ok.accepted.net a.blocks c.in-Ok.accepted.verdicts
     (read_formed c.good_documents_are_read.ensures.same a.text c.in-Ok.accepted.net a.blocks a.gives) a.verdicts
 
 pub returns-in-Ok : goal.returns-in-Ok

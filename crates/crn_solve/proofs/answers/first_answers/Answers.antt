@@ -6,6 +6,8 @@ use Rattle.crn_cert.specs.declared.answer.Answer.{Answer}
 use Rattle.crn_cert.specs.Questions.{Earlier, Q1, Q2, Q3, Q4, Q5, Q6, Q7, Q8, Q9, Q10, Q11, Q12, Q13}
 use Rattle.crn_cert.specs.declared.answer.Verdict.TheVariants.{Classes, Strong}
 use Rattle.crn_cert.specs.Given.{GiveClasses}
+use Rattle.crn_cert.specs.Verdicts.{tight}
+use Rattle.crn_cert.proofs.CallerLemmas.{labels_tight, count_tight, exits_tight, is_true_tight}
 use Rattle.crn_defi.proofs.CallerLemmas.{true_or_open, strong_right}
 use Rattle.crn_solve.specs.Inner.ClassData.{AreLinkageData, AreStrongData}
 use Rattle.crn_solve.specs.Inner.Solved.{AreAnswers, first_questions}
@@ -46,7 +48,7 @@ one_hypotheses-one-requires-clause-q6 c =
     let l = c.in_ok-linkage.linkage in
     let a5 = c.in_ok-on_species.on_species.rank in
     let a6 = c.in_ok-deficiency.deficiency in
-    let earlier : Earlier = (Q1, Classes l.count l.label) ∷ (Q5, a5.verdict) ∷ [] in
+    let earlier : Earlier = (Q1, Classes l.count l.label) ∷ (Q5, tight a5.verdict) ∷ [] in
     true_or_open c.args.net.now c.args.budget earlier Q6 a6.verdict (c.in_ok-deficiency.ensures c.args.budget earlier refl refl refl).answered
 
 pub zero_answer-zero-requires-clause-rank : goal.zero_answer-zero-requires-clause-rank
@@ -101,7 +103,7 @@ confluence_answer-requires-clause-regular c =
     let s = c.in_ok-strong.strong in
     let a7 = c.in_ok-decided.decided.answer in
     let a11 = c.in_ok-regular.regular in
-    let earlier : Earlier = (Q1, Classes l.count l.label) ∷ (Q2, Strong s.count s.terminal s.label s.exit) ∷ (Q7, a7.verdict) ∷ [] in
+    let earlier : Earlier = (Q1, Classes l.count l.label) ∷ (Q2, Strong s.count s.terminal s.label s.exit) ∷ (Q7, tight a7.verdict) ∷ [] in
     let gives : GiveClasses earlier l.label.list l.count s.label.list s.exit.list = record { labels_are = refl; count_is = refl; strong_are = refl; exits_are = refl; strong_count = sym c.in_ok-strong.ensures.exit_numbers.long } in
     true_or_open c.args.net.now c.args.budget earlier Q11 a11.verdict (c.in_ok-regular.ensures c.args.budget earlier gives refl).answered
 
@@ -131,8 +133,8 @@ signal_answer-requires-clause-sides c =
     let a11 = c.in_ok-regular.regular in
     let a12 = c.in_ok-confluence.confluence in
     let right = strong_right net s n e.count e.terminal_number e.labels e.numbered e.from_forest e.from_trees e.to_forest e.to_trees e.levels e.falls e.exit_numbers e.exits e.terminal in
-    let earlier : Earlier = (Q1, Classes l.count l.label) ∷ (Q2, Strong s.count s.terminal s.label s.exit) ∷ (Q4, a4.verdict) ∷ (Q7, a7.verdict) ∷ [] in
-    let later : Earlier = (Q1, Classes l.count l.label) ∷ (Q2, Strong s.count s.terminal s.label s.exit) ∷ (Q4, a4.verdict) ∷ (Q7, a7.verdict) ∷ (Q11, a11.verdict) ∷ [] in
+    let earlier : Earlier = (Q1, Classes l.count l.label) ∷ (Q2, Strong s.count s.terminal s.label s.exit) ∷ (Q4, tight a4.verdict) ∷ (Q7, tight a7.verdict) ∷ [] in
+    let later : Earlier = (Q1, Classes l.count l.label) ∷ (Q2, Strong s.count s.terminal s.label s.exit) ∷ (Q4, tight a4.verdict) ∷ (Q7, tight a7.verdict) ∷ (Q11, tight a11.verdict) ∷ [] in
     let gives : GiveClasses earlier l.label.list l.count s.label.list s.exit.list = record { labels_are = refl; count_is = refl; strong_are = refl; exits_are = refl; strong_count = sym e.exit_numbers.long } in
     let given : GiveClasses later l.label.list l.count s.label.list s.exit.list = record { labels_are = refl; count_is = refl; strong_are = refl; exits_are = refl; strong_count = sym e.exit_numbers.long } in
     let d11 = c.in_ok-regular.ensures c.args.budget earlier gives refl in
@@ -146,7 +148,7 @@ signal_answer-requires-clause-confluence c =
     let a4 = c.weakly_reversible-weakly_reversible.result in
     let a11 = c.in_ok-regular.regular in
     let a12 = c.in_ok-confluence.confluence in
-    let earlier : Earlier = (Q1, Classes l.count l.label) ∷ (Q2, Strong s.count s.terminal s.label s.exit) ∷ (Q4, a4.verdict) ∷ (Q11, a11.verdict) ∷ [] in
+    let earlier : Earlier = (Q1, Classes l.count l.label) ∷ (Q2, Strong s.count s.terminal s.label s.exit) ∷ (Q4, tight a4.verdict) ∷ (Q11, tight a11.verdict) ∷ [] in
     let gives : GiveClasses earlier l.label.list l.count s.label.list s.exit.list = record { labels_are = refl; count_is = refl; strong_are = refl; exits_are = refl; strong_count = sym c.in_ok-strong.ensures.exit_numbers.long } in
     true_or_open c.args.net.now c.args.budget earlier Q12 a12.verdict (c.in_ok-confluence.ensures c.args.budget earlier gives refl refl).answered
 
@@ -168,18 +170,18 @@ returns-clause-answers c =
     let a11 = c.in_ok-regular.regular in
     let a12 = c.in_ok-confluence.confluence in
     let a13 = c.in_ok-signal.signal in
-    let after1 : Earlier = (Q1, a1.verdict) ∷ [] in
-    let after2 : Earlier = (Q1, a1.verdict) ∷ (Q2, a2.verdict) ∷ [] in
-    let after3 : Earlier = (Q1, a1.verdict) ∷ (Q2, a2.verdict) ∷ (Q3, a3.verdict) ∷ [] in
-    let after4 : Earlier = (Q1, a1.verdict) ∷ (Q2, a2.verdict) ∷ (Q3, a3.verdict) ∷ (Q4, a4.verdict) ∷ [] in
-    let after5 : Earlier = (Q1, a1.verdict) ∷ (Q2, a2.verdict) ∷ (Q3, a3.verdict) ∷ (Q4, a4.verdict) ∷ (Q5, a5.verdict) ∷ [] in
-    let after6 : Earlier = (Q1, a1.verdict) ∷ (Q2, a2.verdict) ∷ (Q3, a3.verdict) ∷ (Q4, a4.verdict) ∷ (Q5, a5.verdict) ∷ (Q6, a6.verdict) ∷ [] in
-    let after7 : Earlier = (Q1, a1.verdict) ∷ (Q2, a2.verdict) ∷ (Q3, a3.verdict) ∷ (Q4, a4.verdict) ∷ (Q5, a5.verdict) ∷ (Q6, a6.verdict) ∷ (Q7, a7.verdict) ∷ [] in
-    let after8 : Earlier = (Q1, a1.verdict) ∷ (Q2, a2.verdict) ∷ (Q3, a3.verdict) ∷ (Q4, a4.verdict) ∷ (Q5, a5.verdict) ∷ (Q6, a6.verdict) ∷ (Q7, a7.verdict) ∷ (Q8, a8.verdict) ∷ [] in
-    let after9 : Earlier = (Q1, a1.verdict) ∷ (Q2, a2.verdict) ∷ (Q3, a3.verdict) ∷ (Q4, a4.verdict) ∷ (Q5, a5.verdict) ∷ (Q6, a6.verdict) ∷ (Q7, a7.verdict) ∷ (Q8, a8.verdict) ∷ (Q9, a9.verdict) ∷ [] in
-    let after10 : Earlier = (Q1, a1.verdict) ∷ (Q2, a2.verdict) ∷ (Q3, a3.verdict) ∷ (Q4, a4.verdict) ∷ (Q5, a5.verdict) ∷ (Q6, a6.verdict) ∷ (Q7, a7.verdict) ∷ (Q8, a8.verdict) ∷ (Q9, a9.verdict) ∷ (Q10, a10.verdict) ∷ [] in
-    let after11 : Earlier = (Q1, a1.verdict) ∷ (Q2, a2.verdict) ∷ (Q3, a3.verdict) ∷ (Q4, a4.verdict) ∷ (Q5, a5.verdict) ∷ (Q6, a6.verdict) ∷ (Q7, a7.verdict) ∷ (Q8, a8.verdict) ∷ (Q9, a9.verdict) ∷ (Q10, a10.verdict) ∷ (Q11, a11.verdict) ∷ [] in
-    let after12 : Earlier = (Q1, a1.verdict) ∷ (Q2, a2.verdict) ∷ (Q3, a3.verdict) ∷ (Q4, a4.verdict) ∷ (Q5, a5.verdict) ∷ (Q6, a6.verdict) ∷ (Q7, a7.verdict) ∷ (Q8, a8.verdict) ∷ (Q9, a9.verdict) ∷ (Q10, a10.verdict) ∷ (Q11, a11.verdict) ∷ (Q12, a12.verdict) ∷ [] in
+    let after1 : Earlier = (Q1, tight a1.verdict) ∷ [] in
+    let after2 : Earlier = (Q1, tight a1.verdict) ∷ (Q2, tight a2.verdict) ∷ [] in
+    let after3 : Earlier = (Q1, tight a1.verdict) ∷ (Q2, tight a2.verdict) ∷ (Q3, tight a3.verdict) ∷ [] in
+    let after4 : Earlier = (Q1, tight a1.verdict) ∷ (Q2, tight a2.verdict) ∷ (Q3, tight a3.verdict) ∷ (Q4, tight a4.verdict) ∷ [] in
+    let after5 : Earlier = (Q1, tight a1.verdict) ∷ (Q2, tight a2.verdict) ∷ (Q3, tight a3.verdict) ∷ (Q4, tight a4.verdict) ∷ (Q5, tight a5.verdict) ∷ [] in
+    let after6 : Earlier = (Q1, tight a1.verdict) ∷ (Q2, tight a2.verdict) ∷ (Q3, tight a3.verdict) ∷ (Q4, tight a4.verdict) ∷ (Q5, tight a5.verdict) ∷ (Q6, tight a6.verdict) ∷ [] in
+    let after7 : Earlier = (Q1, tight a1.verdict) ∷ (Q2, tight a2.verdict) ∷ (Q3, tight a3.verdict) ∷ (Q4, tight a4.verdict) ∷ (Q5, tight a5.verdict) ∷ (Q6, tight a6.verdict) ∷ (Q7, tight a7.verdict) ∷ [] in
+    let after8 : Earlier = (Q1, tight a1.verdict) ∷ (Q2, tight a2.verdict) ∷ (Q3, tight a3.verdict) ∷ (Q4, tight a4.verdict) ∷ (Q5, tight a5.verdict) ∷ (Q6, tight a6.verdict) ∷ (Q7, tight a7.verdict) ∷ (Q8, tight a8.verdict) ∷ [] in
+    let after9 : Earlier = (Q1, tight a1.verdict) ∷ (Q2, tight a2.verdict) ∷ (Q3, tight a3.verdict) ∷ (Q4, tight a4.verdict) ∷ (Q5, tight a5.verdict) ∷ (Q6, tight a6.verdict) ∷ (Q7, tight a7.verdict) ∷ (Q8, tight a8.verdict) ∷ (Q9, tight a9.verdict) ∷ [] in
+    let after10 : Earlier = (Q1, tight a1.verdict) ∷ (Q2, tight a2.verdict) ∷ (Q3, tight a3.verdict) ∷ (Q4, tight a4.verdict) ∷ (Q5, tight a5.verdict) ∷ (Q6, tight a6.verdict) ∷ (Q7, tight a7.verdict) ∷ (Q8, tight a8.verdict) ∷ (Q9, tight a9.verdict) ∷ (Q10, tight a10.verdict) ∷ [] in
+    let after11 : Earlier = (Q1, tight a1.verdict) ∷ (Q2, tight a2.verdict) ∷ (Q3, tight a3.verdict) ∷ (Q4, tight a4.verdict) ∷ (Q5, tight a5.verdict) ∷ (Q6, tight a6.verdict) ∷ (Q7, tight a7.verdict) ∷ (Q8, tight a8.verdict) ∷ (Q9, tight a9.verdict) ∷ (Q10, tight a10.verdict) ∷ (Q11, tight a11.verdict) ∷ [] in
+    let after12 : Earlier = (Q1, tight a1.verdict) ∷ (Q2, tight a2.verdict) ∷ (Q3, tight a3.verdict) ∷ (Q4, tight a4.verdict) ∷ (Q5, tight a5.verdict) ∷ (Q6, tight a6.verdict) ∷ (Q7, tight a7.verdict) ∷ (Q8, tight a8.verdict) ∷ (Q9, tight a9.verdict) ∷ (Q10, tight a10.verdict) ∷ (Q11, tight a11.verdict) ∷ (Q12, tight a12.verdict) ∷ [] in
     let l = c.in_ok-linkage.ensures in
     let linkage : AreLinkageData net c.in_ok-linkage.linkage = record { count = l.count; labels = l.labels; numbered = l.numbered; even = l.even; forest = l.forest; trees = l.trees } in
     let s = c.in_ok-strong.ensures in
@@ -201,38 +203,44 @@ returns-clause-answers c =
     let d1 = c.linkage_answer.ensures.answer net [] n linkage in
     let d2 = c.strong_answer.ensures.answer net after1 n strong in
     let d3 = c.in_ok-reversible.ensures after2 in
-    let d4 = c.weakly_reversible-weakly_reversible.ensures after3 (c.strong_answer.ensures.labels ∙ sym c.as_slice.ensures) d2.true_of in
+    let linkage_labels = labels_tight a1.verdict ∙ c.linkage_answer.ensures.labels in
+    let linkage_count = count_tight a1.verdict ∙ c.linkage_answer.ensures.count in
+    let strong_labels = labels_tight a2.verdict ∙ c.strong_answer.ensures.labels in
+    let strong_exits = exits_tight a2.verdict ∙ c.strong_answer.ensures.exits in
+    let strong_count = count_tight a2.verdict ∙ c.strong_answer.ensures.count in
+    let strong_true = is_true_tight net Q2 a2.verdict d2.true_of in
+    let d4 = c.weakly_reversible-weakly_reversible.ensures after3 (strong_labels ∙ sym c.as_slice.ensures) strong_true in
     let d5 = c.in_ok-on_species.ensures.rank budget after4 in
-    let d6 = c.in_ok-deficiency.ensures budget after5 c.linkage_answer.ensures.labels c.linkage_answer.ensures.count refl in
+    let d6 = c.in_ok-deficiency.ensures budget after5 linkage_labels linkage_count refl in
     let d7 = c.in_ok-decided.ensures.answer budget after6 in
     let d8 = c.in_ok-on_species.ensures.conservation budget after7 in
-    let d9 = c.zero_answer-zero.ensures budget after8 c.linkage_answer.ensures.labels c.linkage_answer.ensures.count refl refl in
+    let d9 = c.zero_answer-zero.ensures budget after8 linkage_labels linkage_count refl refl in
     let exits_long = s.exit_numbers.long in
     let gives9 : GiveClasses after9 c.in_ok-linkage.linkage.label.list c.in_ok-linkage.linkage.count c.in_ok-strong.strong.label.list c.in_ok-strong.strong.exit.list = record {
-      labels_are = c.linkage_answer.ensures.labels;
-      count_is = c.linkage_answer.ensures.count;
-      strong_are = c.strong_answer.ensures.labels;
-      exits_are = c.strong_answer.ensures.exits;
-      strong_count = c.strong_answer.ensures.count ∙ sym exits_long;
+      labels_are = linkage_labels;
+      count_is = linkage_count;
+      strong_are = strong_labels;
+      exits_are = strong_exits;
+      strong_count = strong_count ∙ sym exits_long;
     } in
     let gives10 : GiveClasses after10 c.in_ok-linkage.linkage.label.list c.in_ok-linkage.linkage.count c.in_ok-strong.strong.label.list c.in_ok-strong.strong.exit.list = record {
-      labels_are = c.linkage_answer.ensures.labels;
-      count_is = c.linkage_answer.ensures.count;
-      strong_are = c.strong_answer.ensures.labels;
-      exits_are = c.strong_answer.ensures.exits;
-      strong_count = c.strong_answer.ensures.count ∙ sym exits_long;
+      labels_are = linkage_labels;
+      count_is = linkage_count;
+      strong_are = strong_labels;
+      exits_are = strong_exits;
+      strong_count = strong_count ∙ sym exits_long;
     } in
     let gives11 : GiveClasses after11 c.in_ok-linkage.linkage.label.list c.in_ok-linkage.linkage.count c.in_ok-strong.strong.label.list c.in_ok-strong.strong.exit.list = record {
-      labels_are = c.linkage_answer.ensures.labels;
-      count_is = c.linkage_answer.ensures.count;
-      strong_are = c.strong_answer.ensures.labels;
-      exits_are = c.strong_answer.ensures.exits;
-      strong_count = c.strong_answer.ensures.count ∙ sym exits_long;
+      labels_are = linkage_labels;
+      count_is = linkage_count;
+      strong_are = strong_labels;
+      exits_are = strong_exits;
+      strong_count = strong_count ∙ sym exits_long;
     } in
     let d10 = c.one_hypotheses-one.ensures budget after9 gives9 refl in
     let d11 = c.in_ok-regular.ensures budget after10 gives10 refl in
     let d12 = c.in_ok-confluence.ensures budget after11 gives11 refl refl in
-    let d13 = c.in_ok-signal.ensures.answer after12 d2.true_of refl refl in
+    let d13 = c.in_ok-signal.ensures.answer after12 strong_true refl refl in
     let answers : List Answer = a1 ∷ a2 ∷ a3 ∷ a4 ∷ a5 ∷ a6 ∷ a7 ∷ a8 ∷ a9 ∷ a10 ∷ a11 ∷ a12 ∷ a13 ∷ [] in
     let pushed : c.push-13.new.self ≡ answers =
     rw (c.push-13.ensures, c.push-12.ensures, c.push-11.ensures, c.push-10.ensures, c.push-9.ensures, c.push-8.ensures, c.push-7.ensures, c.push-6.ensures, c.push-5.ensures, c.push-4.ensures, c.push-3.ensures, c.push-2.ensures, c.push.ensures, c.in_ok-answers.ensures) refl in

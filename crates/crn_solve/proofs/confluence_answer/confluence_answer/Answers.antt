@@ -1,13 +1,14 @@
-use Rattle.std.proofs.Common.{◌≡◌, ◌∙◌, ℕ, sym, subst}
+use Rattle.std.proofs.Common.{◌≡◌, ◌∙◌, ℕ, ap, sym, subst}
 use Rattle.std.specs.Prelude.{◌↔◌, IsTrue}
 use Rattle.std.proofs.lemmas.Bool.{false≢true}
 use Rattle.crn_cert.specs.declared.answer.Answer.{Answer}
-use Rattle.crn_cert.specs.declared.answer.Verdict.{Verdict}
 use Rattle.crn_cert.specs.Questions.{Earlier, Q4, Q11, Q12, IsYes, on}
 use Rattle.crn_cert.specs.Given.{GiveClasses}
 use Rattle.crn_cert.specs.Answered.{IsAnswer}
+use Rattle.crn_cert.specs.Verdicts.{tight}
+use Rattle.crn_cert.proofs.CallerLemmas.{yes_tight}
 use Rattle.crn_conc.proofs.CallerLemmas.{if_ok}
-use Rattle.crn_solve.proofs.Theorems.{weak_is}
+use Rattle.crn_solve.proofs.Theorems.{weak_is, weak_known}
 use Rattle.crn_solve.proofs.Regularity.{regular_yes, irregular_given, confluence_rests}
 use Rattle.crn_solve.proofs.confluence_answer.confluence_answer.Goals as goal
 
@@ -24,9 +25,9 @@ returns-then-is_yes c =
     let s = c.args.strong.now in
     let is_yes = c.is_yes-then-is_yes.result in
     if_ok (λ (answer : Answer). (budget : ℕ) (earlier : Earlier) → GiveClasses earlier l.label.list l.count s.label.list s.exit.list → IsYes (on earlier Q11) → (IsTrue is_yes ↔ IsYes (on earlier Q4)) → IsAnswer net budget earlier Q12 answer)
-    (λ (answer : Answer). (budget : ℕ) (earlier : Earlier) → GiveClasses earlier l.label.list l.count s.label.list s.exit.list → on earlier Q4 ≡ c.args.weak.now → on earlier Q11 ≡ c.args.regular.now → IsAnswer net budget earlier Q12 answer) c.confluence.result
-    (λ answer h budget earlier gives weak is. h budget earlier gives (subst IsYes (sym is) (c.is_yes.ensures.0 c.if-is_yes.true))
-    (subst (λ (v : Verdict). IsTrue is_yes ↔ IsYes v) (sym weak) c.is_yes-then-is_yes.ensures)) c.confluence.ensures
+    (λ (answer : Answer). (budget : ℕ) (earlier : Earlier) → GiveClasses earlier l.label.list l.count s.label.list s.exit.list → on earlier Q4 ≡ tight c.args.weak.now → on earlier Q11 ≡ tight c.args.regular.now → IsAnswer net budget earlier Q12 answer) c.confluence.result
+    (λ answer h budget earlier gives weak is. h budget earlier gives (subst (λ (A : Type 0). A) (sym (yes_tight c.args.regular.now) ∙ ap IsYes (sym is)) (c.is_yes.ensures.0 c.if-is_yes.true))
+    (weak_known earlier c.args.weak.now is_yes weak c.is_yes-then-is_yes.ensures)) c.confluence.ensures
 
 pub returns-then-is_open : goal.returns-then-is_open
 returns-then-is_open c budget earlier gives weak is =

@@ -4,6 +4,7 @@ use Rattle.crn_cert.specs.Questions.{Earlier, Q5, Q6, on}
 use Rattle.crn_cert.specs.Valid.{linkage, linkage_count}
 use Rattle.crn_cert.specs.Given.{GiveRank}
 use Rattle.crn_cert.specs.Answered.{IsAnswer}
+use Rattle.crn_cert.specs.Verdicts.{tight}
 use Rattle.crn_conc.proofs.CallerLemmas.{if_ok}
 use Rattle.crn_solve.proofs.Deficiencies.{gives_rank, rests_given}
 use Rattle.crn_solve.proofs.deficiency_answer.deficiency_answer.Goals as goal
@@ -17,7 +18,7 @@ returns-in-Some c =
     let classes = c.args.classes.now in
     let rank = c.in-Some.rank in
     if_ok (λ (answer : Answer). (budget : ℕ) (earlier : Earlier) → GiveRank earlier classes.label.list classes.count rank → IsAnswer net budget earlier Q6 answer)
-    (λ (answer : Answer). (budget : ℕ) (earlier : Earlier) → linkage earlier ≡ classes.label.list → linkage_count earlier ≡ classes.count → on earlier Q5 ≡ c.args.rank.now → IsAnswer net budget earlier Q6 answer) c.deficiencies.result
+    (λ (answer : Answer). (budget : ℕ) (earlier : Earlier) → linkage earlier ≡ classes.label.list → linkage_count earlier ≡ classes.count → on earlier Q5 ≡ tight c.args.rank.now → IsAnswer net budget earlier Q6 answer) c.deficiencies.result
     (λ answer h budget earlier labels count is. h budget earlier (gives_rank earlier classes.label.list classes.count rank c.args.rank.now (sym c.in-Some.ensures) labels count is)) c.deficiencies.ensures
 
 pub returns-in-None : goal.returns-in-None

@@ -1,4 +1,4 @@
-use Rattle.std.proofs.Common.{◌≡◌, ◌∙◌, List, sym, subst}
+use Rattle.std.proofs.Common.{◌≡◌, ◌∙◌, List, ap, sym, subst}
 use Rattle.std.specs.Prelude.{ℤ, IsSomeAnd, IsTrue}
 use Rattle.crn_vec.specs.Confluence.{IsNormalVector, negative}
 use Rattle.crn_vec.specs.NetSignals.{HasNoSignal}
@@ -9,6 +9,7 @@ use Rattle.crn_cert.specs.Says.{IsTrueOf}
 use Rattle.crn_cert.specs.Law.{IsTrueOrOpen}
 use Rattle.crn_cert.specs.Answered.{IsAnswer}
 use Rattle.crn_cert.specs.Licensed.{IsLicensedBudget, PassForSignals}
+use Rattle.crn_cert.specs.Verdicts.{tight}
 use Rattle.crn_conc.proofs.CallerLemmas.{if_ok}
 use Rattle.crn_shelf.specs.Given.{GiveVector}
 use Rattle.crn_shelf.specs.Order.{IsForNegative}
@@ -41,8 +42,8 @@ returns-in-YesVec-Sides-clause-answer c =
     let g = c.as_slice-g.result.now in
     let b = c.is_yes.result in
     if_ok (λ (answer : Answer). (earlier : Earlier) → GiveVector net earlier g b → IsAnswer net c.args.budget earlier Q13 answer)
-    (λ (answer : Answer). (earlier : Earlier) → IsTrueOf net Q2 (on earlier Q2) → on earlier Q4 ≡ w → on earlier Q12 ≡ v → IsAnswer net c.args.budget earlier Q13 answer) c.signal.result
-    (λ answer h earlier strong four twelve. h earlier (subst (λ (l : List ℤ). GiveVector net earlier l b) (sym c.as_slice-g.ensures) (vector_is_given net earlier w c.in-YesVec-Sides.vector b strong four (twelve ∙ c.in-YesVec-Sides.is-0) c.is_yes.ensures))) c.signal.ensures.answer
+    (λ (answer : Answer). (earlier : Earlier) → IsTrueOf net Q2 (on earlier Q2) → on earlier Q4 ≡ tight w → on earlier Q12 ≡ tight v → IsAnswer net c.args.budget earlier Q13 answer) c.signal.result
+    (λ answer h earlier strong four twelve. h earlier (subst (λ (l : List ℤ). GiveVector net earlier l b) (sym c.as_slice-g.ensures) (vector_is_given net earlier w c.in-YesVec-Sides.vector b strong four (twelve ∙ ap tight c.in-YesVec-Sides.is-0) c.is_yes.ensures))) c.signal.ensures.answer
 
 pub returns-then-is_open-clause-spent : goal.returns-then-is_open-clause-spent
 returns-then-is_open-clause-spent c = λ earlier twelve pass. subst (λ (a : Answer). IsOpen a.verdict) (sym c.rests_answer.ensures) tt

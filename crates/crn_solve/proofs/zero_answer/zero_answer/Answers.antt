@@ -1,10 +1,8 @@
 use Rattle.std.proofs.Common.{sym, subst}
-use Rattle.std.specs.Prelude.{◌↔◌, IsTrue}
-use Rattle.crn_cert.specs.declared.answer.Verdict.{Verdict}
-use Rattle.crn_cert.specs.Questions.{IsYes, Q9}
+use Rattle.crn_cert.specs.Questions.{Q9}
 use Rattle.crn_cert.specs.Answered.{IsAnswer}
 use Rattle.crn_solve.proofs.Deficiencies.{gives_rank}
-use Rattle.crn_solve.proofs.Theorems.{weak_is, zero_rests_given}
+use Rattle.crn_solve.proofs.Theorems.{weak_is, weak_known, zero_rests_given}
 use Rattle.crn_solve.proofs.zero_answer.zero_answer.Goals as goal
 
 pub zero_hypotheses-requires-clause-rank : goal.zero_hypotheses-requires-clause-rank
@@ -17,7 +15,7 @@ pub returns-in-Some : goal.returns-in-Some
 returns-in-Some c budget earlier labels count weak is =
     let classes = c.args.classes.now in
     c.zero_hypotheses.ensures budget earlier (gives_rank earlier classes.label.list classes.count c.in-Some.rank c.args.rank.now (sym c.in-Some.ensures) labels count is)
-    (subst (λ (v : Verdict). IsTrue c.is_yes.result ↔ IsYes v) (sym weak) c.is_yes.ensures)
+    (weak_known earlier c.args.weak.now c.is_yes.result weak c.is_yes.ensures)
 
 pub returns-in-None : goal.returns-in-None
 returns-in-None c budget earlier labels count weak is =

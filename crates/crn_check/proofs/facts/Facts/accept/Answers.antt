@@ -31,6 +31,7 @@ invariant_of-self c =
       subst (λ (fs : List Fact). AreInOrder 0 (numbers_of fs)) (sym c.add.ensures.items) (order_push items 0 c.args.question fact c.self.invariant.1 later (omega (arith, c.requires.number.0)) c.requires.number.1 refl),
       all_from IsRoom new (λ room i. all_in IsRoom old room c.self.invariant.2 (subst (IsIn room) (sym parts) (in_left room new (c.in-Some.room ∷ []) i))),
       omega (arith, c.self.invariant.3, more, less, length-append items (fact ∷ []), length-append new (c.in-Some.room ∷ [])),
+      c.self.invariant.4,
     )
 
 pub returns-in_default : goal.returns-in_default

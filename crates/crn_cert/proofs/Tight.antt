@@ -1,0 +1,102 @@
+-- A verdict says the same without the spares of its lists.
+use Rattle.std.proofs.Common.{◌≡◌, ◌++◌, [], ◌∷◌, refl, ap}
+use Rattle.crn_vec.specs.Network.{Net}
+use Rattle.crn_cert.specs.declared.answer.Gap.{Gap}
+use Rattle.crn_cert.specs.declared.answer.Gap.TheVariants.{Wide, Budget, Rests}
+use Rattle.crn_cert.specs.declared.answer.Verdict.{Verdict}
+use Rattle.crn_cert.specs.declared.answer.Verdict.TheVariants.{Unknown}
+use Rattle.crn_cert.specs.Questions.{Earlier, Question, Q1, Q2, Q3, Q4, Q5, Q6, Q7, Q8, Q9, Q10, Q11, Q12, Q13, Q14, Q15, labels_of, count_of, exits_of, rank_of, deficiencies_of, vector_given, IsOpen, IsYes, IsNo}
+use Rattle.crn_cert.specs.Verdicts.{tight, all_tight}
+use Rattle.crn_cert.specs.Says.{IsTrueOf}
+use Rattle.crn_cert.specs.Law.{IsTrueOrOpen}
+
+pub labels_tight : (v : Verdict) → labels_of (tight v) ≡ labels_of v
+labels_tight (Unknown gap) = refl
+labels_tight v = refl
+
+pub count_tight : (v : Verdict) → count_of (tight v) ≡ count_of v
+count_tight (Unknown gap) = refl
+count_tight v = refl
+
+pub exits_tight : (v : Verdict) → exits_of (tight v) ≡ exits_of v
+exits_tight (Unknown gap) = refl
+exits_tight v = refl
+
+pub rank_tight : (v : Verdict) → rank_of (tight v) ≡ rank_of v
+rank_tight (Unknown gap) = refl
+rank_tight v = refl
+
+pub deficiencies_tight : (v : Verdict) → deficiencies_of (tight v) ≡ deficiencies_of v
+deficiencies_tight (Unknown gap) = refl
+deficiencies_tight v = refl
+
+pub vector_tight : (v : Verdict) → vector_given (tight v) ≡ vector_given v
+vector_tight (Unknown gap) = refl
+vector_tight v = refl
+
+pub open_tight : (v : Verdict) → IsOpen (tight v) ≡ IsOpen v
+open_tight (Unknown gap) = refl
+open_tight v = refl
+
+pub yes_tight : (v : Verdict) → IsYes (tight v) ≡ IsYes v
+yes_tight (Unknown gap) = refl
+yes_tight v = refl
+
+pub no_tight : (v : Verdict) → IsNo (tight v) ≡ IsNo v
+no_tight (Unknown gap) = refl
+no_tight v = refl
+
+-- once is enough
+pub tight_twice : (v : Verdict) → tight (tight v) ≡ tight v
+tight_twice (Unknown (Wide system class index basis)) = refl
+tight_twice (Unknown (Budget nodes)) = refl
+tight_twice (Unknown (Rests question)) = refl
+tight_twice v = refl
+
+pub all_tight_then : (earlier : Earlier) (q : Question) (v : Verdict) → all_tight (earlier ++ (q, v) ∷ []) ≡ all_tight earlier ++ (q, tight v) ∷ []
+all_tight_then [] q v = refl
+all_tight_then (e ∷ es) q v = ap (λ (x : Earlier). (e.0, tight e.1) ∷ x) (all_tight_then es q v)
+
+-- ---- truth
+
+-- a verdict stays true or open
+pub true_tight : (net : Net) (q : Question) (v : Verdict) → IsTrueOrOpen net q v → IsTrueOrOpen net q (tight v)
+true_tight net q (Unknown gap) h = tt
+true_tight net Q1 v h = h
+true_tight net Q2 v h = h
+true_tight net Q3 v h = h
+true_tight net Q4 v h = h
+true_tight net Q5 v h = h
+true_tight net Q6 v h = h
+true_tight net Q7 v h = h
+true_tight net Q8 v h = h
+true_tight net Q9 v h = h
+true_tight net Q10 v h = h
+true_tight net Q11 v h = h
+true_tight net Q12 v h = h
+true_tight net Q13 v h = h
+true_tight net Q14 v h = h
+true_tight net Q15 v h = h
+
+-- no open verdict is true
+never_open : (net : Net) (q : Question) (gap : Gap) → IsTrueOf net q (Unknown gap) → ⊥
+never_open net Q1 gap h = h
+never_open net Q2 gap h = h
+never_open net Q3 gap h = h
+never_open net Q4 gap h = h
+never_open net Q5 gap h = h
+never_open net Q6 gap h = h
+never_open net Q7 gap h = h
+never_open net Q8 gap h = h
+never_open net Q9 gap h = h
+never_open net Q10 gap h = h
+never_open net Q11 gap h = h
+never_open net Q12 gap h = h
+never_open net Q13 gap h = h
+never_open net Q14 gap h = h
+never_open net Q15 gap h = h
+
+-- and a true one true
+pub is_true_tight : (net : Net) (q : Question) (v : Verdict) → IsTrueOf net q v → IsTrueOf net q (tight v)
+is_true_tight net q (Unknown gap) h = absurd (never_open net q gap h)
+is_true_tight net q v h = true_tight net q v h
