@@ -20,6 +20,7 @@ use Rattle.crn_cert.specs.Formed.{MayRestOn, MayBeSpent}
 use Rattle.crn_cert.specs.Valid.{terminals_in, class_places, pair_places}
 use Rattle.crn_cert.proofs.Networks.{chain, enzyme}
 use Rattle.crn_cert.specs.Questions.{Earlier, Q1, Q2, Q6, Q7, Q12, Q13, on}
+use Rattle.crn_cert.specs.Faults.{fault_number}
 
 abbrev listed : List ℕ → KeptNums
 listed xs = record { list = xs; spare = 0 }
@@ -96,7 +97,7 @@ small = Both (RulesA (pos 1 ∷ pos 0 ∷ [])) Level
 -- the records of tests, and their codes
 abbrev where_tested : List Test → List (ℕ × ℕ)
 where_tested [] = []
-where_tested (t ∷ ts) = (t.part, t.code) ∷ where_tested ts
+where_tested (t ∷ ts) = (t.part, fault_number t.fault) ∷ where_tested ts
 
 small-tests : where_tested (tree_tests (λ p said. Unit {0}) 1 [] small) ≡ (1, 42) ∷ (2, 41) ∷ (3, 42) ∷ []
 small-tests = refl

@@ -10,6 +10,7 @@ use Rattle.crn_vec.specs.Rank.{combination_at}
 use Rattle.crn_vec.specs.Sums.{label_marks}
 use Rattle.crn_vec.specs.NetSystems.{confluence_system}
 use Rattle.crn_cert.specs.Tests.{Test, test}
+use Rattle.crn_cert.specs.Faults.{BadVector}
 
 -- the combination of the complexes with the entries of g is zero, and g sums to zero over each
 -- linkage class
@@ -47,7 +48,7 @@ others_than net c = filter (λ d. not (d == c)) (range_with_len 0 (length net.co
 -- fails
 abbrev pub tie_tests : Net → List ℕ → ℕ → (ℕ → Type 0) → ℕ → List ℕ → List (List ℤ) → List Test
 tie_tests net linkage count spared part (c ∷ cs) (tie ∷ ties) =
-    test part 35 (IsTie net linkage count spared c tie)
+    test part BadVector (IsTie net linkage count spared c tie)
     ∷ tie_tests net linkage count spared (suc part) cs ties
-tie_tests net linkage count spared part (c ∷ cs) [] = test part 35 ⊥ ∷ []
+tie_tests net linkage count spared part (c ∷ cs) [] = test part BadVector ⊥ ∷ []
 tie_tests net linkage count spared part [] ties = []

@@ -9,6 +9,7 @@ pub mod Questions
 pub mod Verdicts
 pub mod Built
 pub mod Says
+pub mod Faults
 pub mod Tests
 pub mod TreeTests
 pub mod ClassTests

@@ -9,6 +9,7 @@ use Rattle.crn_vec.specs.Network.{Net, reaction_vector}
 use Rattle.crn_vec.specs.Vectors.{entry, dot}
 use Rattle.crn_vec.specs.Rank.{combination_at}
 use Rattle.crn_cert.specs.Tests.{Test, test}
+use Rattle.crn_cert.specs.Faults.{NotIndependent, NotSpanned}
 
 -- the vector of reaction r
 abbrev pub vector_of : Net → ℕ → List ℤ
@@ -37,15 +38,15 @@ outside base members = filter (λ r. not (list_any (λ b. b == r) base)) members
 -- the tests of the duals from member i on; the first of them is record `part`
 abbrev pub dual_tests : List (List ℤ) → ℕ → ℕ → List (List ℤ) → List Test
 dual_tests vs part i [] = []
-dual_tests vs part i (dual ∷ duals) = test part 33 (IsDual vs i dual)
+dual_tests vs part i (dual ∷ duals) = test part NotIndependent (IsDual vs i dual)
     ∷ dual_tests vs (suc part) (suc i) duals
 
 -- the tests of the combinations of these members; the first of them is record `part`, and a missing
 -- one fails
 abbrev pub comb_tests : Net → List (List ℤ) → ℕ → List ℕ → List (List ℤ) → List Test
-comb_tests net vs part (r ∷ rs) (comb ∷ combs) = test part 34 (IsComb vs (vector_of net r) comb)
+comb_tests net vs part (r ∷ rs) (comb ∷ combs) = test part NotSpanned (IsComb vs (vector_of net r) comb)
     ∷ comb_tests net vs (suc part) rs combs
-comb_tests net vs part (r ∷ rs) [] = test part 34 ⊥ ∷ []
+comb_tests net vs part (r ∷ rs) [] = test part NotSpanned ⊥ ∷ []
 comb_tests net vs part [] combs = []
 
 -- the tests of a rank over these members: the duals and combinations after the base, which is

@@ -33,6 +33,7 @@ use Rattle.crn_cert.specs.Nodes.{Said, Fits}
 use Rattle.crn_cert.specs.TreeTests.{tree_tests}
 use Rattle.crn_cert.specs.RankTests.{rank_tests}
 use Rattle.crn_cert.specs.ConfluenceTests.{IsInSpace, DoTerminalsGather, least_from, others_than, tie_tests}
+use Rattle.crn_cert.specs.Faults.{BadEvidence, BadVector, WrongClasses, WrongNumber, WrongVerdict, WrongWalk}
 
 -- ---- what earlier verdicts give
 
@@ -133,8 +134,8 @@ pair_places net earlier =
 -- the labels, and then the trees
 abbrev pub linkage_rows : Net → Verdict → Proof → List Test
 linkage_rows net (Classes count label) (Forest up depth) =
-    test 1 31 (AreNumbered label.list count × AreEven net label.list)
-    ∷ test 3 31 (AreLinkTrees net label.list up.list depth.list) ∷ []
+    test 1 WrongClasses (AreNumbered label.list count × AreEven net label.list)
+    ∷ test 3 WrongClasses (AreLinkTrees net label.list up.list depth.list) ∷ []
 linkage_rows net verdict proof = []
 
 -- ---- strong classes: labels, the two trees, levels, exits and their count
@@ -142,24 +143,24 @@ linkage_rows net verdict proof = []
 -- the labels, the two trees, the levels, the exits, and the number of terminal classes
 abbrev pub strong_rows : Net → Verdict → Proof → List Test
 strong_rows net (Strong count terminal label exit) (StrongTrees from from_depth to to_depth level) =
-    test 1 31 (AreNumbered label.list count)
-    ∷ test 3 31 (AreFromTrees net label.list from.list from_depth.list)
-    ∷ test 5 31 (AreToTrees net label.list to.list to_depth.list)
-    ∷ test 6 31 (DoLevelsFall net label.list level.list)
-    ∷ test 7 31 (AreAllExits net label.list exit.list)
-    ∷ test 7 36 (zeros_in exit.list ≡ terminal) ∷ []
+    test 1 WrongClasses (AreNumbered label.list count)
+    ∷ test 3 WrongClasses (AreFromTrees net label.list from.list from_depth.list)
+    ∷ test 5 WrongClasses (AreToTrees net label.list to.list to_depth.list)
+    ∷ test 6 WrongClasses (DoLevelsFall net label.list level.list)
+    ∷ test 7 WrongClasses (AreAllExits net label.list exit.list)
+    ∷ test 7 WrongNumber (zeros_in exit.list ≡ terminal) ∷ []
 strong_rows net verdict proof = []
 
 -- ---- reversible
 
 -- the reaction that a no names has no reverse
 abbrev pub reversible_head : Net → Verdict → List Test
-reversible_head net (NoReaction r) = test 0 37 (HasNoReverse net r) ∷ []
+reversible_head net (NoReaction r) = test 0 WrongVerdict (HasNoReverse net r) ∷ []
 reversible_head net verdict = []
 
 -- each reaction has the reverse that the list names
 abbrev pub reversible_rows : Net → Verdict → Proof → List Test
-reversible_rows net Yes (Back back) = test 1 32 (AreReverses net back.list) ∷ []
+reversible_rows net Yes (Back back) = test 1 WrongWalk (AreReverses net back.list) ∷ []
 reversible_rows net verdict proof = []
 
 -- reaction r goes from one strong class to another
@@ -171,8 +172,8 @@ LeavesLabel net earlier r = (y : ℕ) × (z : ℕ) × IsReactionNumber net r y z
 
 -- every reaction stays within its strong class, or the one that a no names leaves it
 abbrev pub weak_head : Net → Earlier → Verdict → List Test
-weak_head net earlier Yes = test 0 37 (IsWeak net earlier) ∷ []
-weak_head net earlier (NoReaction r) = test 0 37 (LeavesLabel net earlier r) ∷ []
+weak_head net earlier Yes = test 0 WrongVerdict (IsWeak net earlier) ∷ []
+weak_head net earlier (NoReaction r) = test 0 WrongVerdict (LeavesLabel net earlier r) ∷ []
 weak_head net earlier verdict = []
 
 -- ---- rank: the duals, then the combinations
@@ -215,8 +216,8 @@ class_rank_tests net earlier part k (proof ∷ proofs) =
 -- the rank is known, and the deficiencies are what is left of the complexes
 abbrev pub deficiency_head : Net → Earlier → Verdict → List Test
 deficiency_head net earlier (Deficiency total classes) =
-    test 0 37 (IsSome (rank_of (on earlier Q5)))
-    ∷ test 0 36 (IsLeft net earlier total (rank_of (on earlier Q5))
+    test 0 WrongVerdict (IsSome (rank_of (on earlier Q5)))
+    ∷ test 0 WrongNumber (IsLeft net earlier total (rank_of (on earlier Q5))
     × AreClassNumbers net earlier 1 classes.list) ∷ []
 deficiency_head net earlier verdict = []
 
@@ -230,14 +231,14 @@ deficiency_rows net earlier verdict proof = []
 
 -- the positive dependence, or the multipliers that rule it out
 abbrev pub dependence_rows : Net → Verdict → List Test
-dependence_rows net (YesVec vector) = test 1 35 (IsPositiveDependence net vector.list) ∷ []
-dependence_rows net (NoVec multipliers) = test 1 35 (RuleOutDependence net multipliers.list) ∷ []
+dependence_rows net (YesVec vector) = test 1 BadVector (IsPositiveDependence net vector.list) ∷ []
+dependence_rows net (NoVec multipliers) = test 1 BadVector (RuleOutDependence net multipliers.list) ∷ []
 dependence_rows net verdict = []
 
 -- the conservation law, or the multipliers that rule it out
 abbrev pub conservation_rows : Net → Verdict → List Test
-conservation_rows net (YesVec vector) = test 1 35 (IsConservationLaw net vector.list) ∷ []
-conservation_rows net (NoVec multipliers) = test 1 35 (RuleOutConservation net multipliers.list)
+conservation_rows net (YesVec vector) = test 1 BadVector (IsConservationLaw net vector.list) ∷ []
+conservation_rows net (NoVec multipliers) = test 1 BadVector (RuleOutConservation net multipliers.list)
     ∷ []
 conservation_rows net verdict = []
 
@@ -246,12 +247,12 @@ conservation_rows net verdict = []
 -- the rank is known, and the deficiency is 0 with its case, or the one that a no names
 abbrev pub zero_head : Net → Earlier → Verdict → List Test
 zero_head net earlier (YesWeak weak) =
-    test 0 37 (IsSome (rank_of (on earlier Q5)))
-    ∷ test 0 37 (IsLeft net earlier 0 (rank_of (on earlier Q5))
+    test 0 WrongVerdict (IsSome (rank_of (on earlier Q5)))
+    ∷ test 0 WrongVerdict (IsLeft net earlier 0 (rank_of (on earlier Q5))
     × (IsTrue weak ↔ IsYes (on earlier Q4))) ∷ []
 zero_head net earlier (NoNumber d) =
-    test 0 37 (IsSome (rank_of (on earlier Q5)))
-    ∷ test 0 36 (IsLeft net earlier d (rank_of (on earlier Q5))) ∷ []
+    test 0 WrongVerdict (IsSome (rank_of (on earlier Q5)))
+    ∷ test 0 WrongNumber (IsLeft net earlier d (rank_of (on earlier Q5))) ∷ []
 zero_head net earlier verdict = []
 
 -- the deficiencies are known, and have the property
@@ -266,18 +267,18 @@ IsFirstLarge k d classes = (slice_index classes (k - 1) ≡ d) × (2 ≤ d)
 -- the three hypotheses, or the first that fails
 abbrev pub one_head : Earlier → Verdict → List Test
 one_head earlier Yes =
-    test 0 37
+    test 0 WrongVerdict
     (HaveOneEach earlier
     × WithDeficiencies (λ total classes. AreAtMostOne classes × (sum classes ≡ total))
     (deficiencies_of (on earlier Q6))) ∷ []
-one_head earlier (NoTerminal k count) = test 0 37 (IsFirstSplit earlier k count) ∷ []
+one_head earlier (NoTerminal k count) = test 0 WrongVerdict (IsFirstSplit earlier k count) ∷ []
 one_head earlier (NoClass k d) =
-    test 0 37
+    test 0 WrongVerdict
     (HaveOneEach earlier
     × WithDeficiencies (λ total classes. IsFirstLarge k d classes)
     (deficiencies_of (on earlier Q6))) ∷ []
 one_head earlier (NoSum x) =
-    test 0 37
+    test 0 WrongVerdict
     (HaveOneEach earlier
     × WithDeficiencies (λ total classes. AreAtMostOne classes × (sum classes ≡ x) × (x ≢ total))
     (deficiencies_of (on earlier Q6))) ∷ []
@@ -289,18 +290,18 @@ one_head earlier verdict = []
 -- fails
 abbrev pub side_tests : Net → Earlier → ℕ → List ℕ → List (List ℤ) → List Test
 side_tests net earlier part (r ∷ rs) (marks ∷ sides) =
-    test part 35 (AreSideMarks net (linkage earlier) r marks)
+    test part BadVector (AreSideMarks net (linkage earlier) r marks)
     ∷ side_tests net earlier (suc part) rs sides
-side_tests net earlier part (r ∷ rs) [] = test part 35 ⊥ ∷ []
+side_tests net earlier part (r ∷ rs) [] = test part BadVector ⊥ ∷ []
 side_tests net earlier part [] sides = []
 
 -- the three conditions, or the first that fails, as far as the head shows them
 abbrev pub regular_head : Net → Earlier → Verdict → List Test
-regular_head net earlier Yes = test 0 37 (HaveOneEach earlier × IsYes (on earlier Q7)) ∷ []
-regular_head net earlier (NoTerminal k count) = test 0 37 (IsFirstSplit earlier k count) ∷ []
-regular_head net earlier NoDependence = test 0 37 (HaveOneEach earlier × IsNo (on earlier Q7)) ∷ []
+regular_head net earlier Yes = test 0 WrongVerdict (HaveOneEach earlier × IsYes (on earlier Q7)) ∷ []
+regular_head net earlier (NoTerminal k count) = test 0 WrongVerdict (IsFirstSplit earlier k count) ∷ []
+regular_head net earlier NoDependence = test 0 WrongVerdict (HaveOneEach earlier × IsNo (on earlier Q7)) ∷ []
 regular_head net earlier (NoCycle r walk) =
-    test 0 37
+    test 0 WrongVerdict
     (HaveOneEach earlier × (IsYes (on earlier Q7) ⊎ IsOpen (on earlier Q7))
     × IsWithinTerminal net earlier r) ∷ []
 regular_head net earlier verdict = []
@@ -309,7 +310,7 @@ regular_head net earlier verdict = []
 abbrev pub regular_rows : Net → Earlier → Verdict → Proof → List Test
 regular_rows net earlier Yes (Sides sides) =
     side_tests net earlier 1 (pair_places net earlier) sides
-regular_rows net earlier (NoCycle r walk) proof = test 1 32 (IsWayRound net r walk.list) ∷ []
+regular_rows net earlier (NoCycle r walk) proof = test 1 WrongWalk (IsWayRound net r walk.list) ∷ []
 regular_rows net earlier verdict proof = []
 
 -- ---- confluence: the head, then the vectors and the ties
@@ -330,24 +331,24 @@ IsApartAt net earlier c d g = IsInSpace net (linkage earlier) (linkage_count ear
 
 -- the network is regular, or is not
 abbrev pub confluence_head : Earlier → Verdict → List Test
-confluence_head earlier (YesVec vector) = test 0 37 (IsYes (on earlier Q11)) ∷ []
-confluence_head earlier NotRegular = test 0 37 (IsNo (on earlier Q11)) ∷ []
-confluence_head earlier OnlyZero = test 0 37 (IsYes (on earlier Q11)) ∷ []
-confluence_head earlier (Plane first second one two) = test 0 37 (IsYes (on earlier Q11)) ∷ []
+confluence_head earlier (YesVec vector) = test 0 WrongVerdict (IsYes (on earlier Q11)) ∷ []
+confluence_head earlier NotRegular = test 0 WrongVerdict (IsNo (on earlier Q11)) ∷ []
+confluence_head earlier OnlyZero = test 0 WrongVerdict (IsYes (on earlier Q11)) ∷ []
+confluence_head earlier (Plane first second one two) = test 0 WrongVerdict (IsYes (on earlier Q11)) ∷ []
 confluence_head earlier verdict = []
 
 -- the vectors, and then the ties
 abbrev pub confluence_rows : Net → Earlier → Verdict → Proof → List Test
 confluence_rows net earlier (YesVec vector) (Ties ties) =
-    test 1 35 (IsNormal net earlier vector.list)
+    test 1 BadVector (IsNormal net earlier vector.list)
     ∷ tie_tests net (linkage earlier) (linkage_count earlier) (λ d. d
     ≡ least_from 0 vector.list) 2 (others_than net (least_from 0 vector.list)) ties
 confluence_rows net earlier OnlyZero (Ties ties) =
     tie_tests net (linkage earlier) (linkage_count earlier) (λ d. ⊥) 1
     (range_with_len 0 (length net.complexes)) ties
 confluence_rows net earlier (Plane first second one two) proof =
-    test 1 35 (IsApartAt net earlier first second one.list)
-    ∷ test 2 35 (IsApartAt net earlier second first two.list) ∷ []
+    test 1 BadVector (IsApartAt net earlier first second one.list)
+    ∷ test 2 BadVector (IsApartAt net earlier second first two.list) ∷ []
 confluence_rows net earlier verdict proof = []
 
 -- ---- signals: the head, then the signal or the trees
@@ -359,10 +360,10 @@ HasVector earlier = IsSome (vector_given (on earlier Q12))
 -- a confluence vector is known, or is known not to be there
 abbrev pub signal_head : Earlier → Verdict → List Test
 signal_head earlier (YesSignal turn shelves mu level weights) =
-    test 0 37 (HasVector earlier × (turn ≡ negsuc 0 → IsYes (on earlier Q4))) ∷ []
-signal_head earlier No = test 0 37 (HasVector earlier) ∷ []
+    test 0 WrongVerdict (HasVector earlier × (turn ≡ negsuc 0 → IsYes (on earlier Q4))) ∷ []
+signal_head earlier No = test 0 WrongVerdict (HasVector earlier) ∷ []
 signal_head earlier NotApplicable =
-    test 0 37 ((HasVector earlier → ⊥) × (IsOpen (on earlier Q12) → ⊥)) ∷ []
+    test 0 WrongVerdict ((HasVector earlier → ⊥) × (IsOpen (on earlier Q12) → ⊥)) ∷ []
 signal_head earlier verdict = []
 
 -- a node of a tree for g fits its prefix in the sign problem of a shape of the network
@@ -389,7 +390,7 @@ signal_tree_tests net earlier trees = []
 -- the signal, or the nodes of the trees
 abbrev pub signal_rows : Net → Earlier → Verdict → Proof → List Test
 signal_rows net earlier (YesSignal turn shelves mu level weights) proof =
-    test 4 45
+    test 4 BadEvidence
     (OfVector earlier turn
     (λ g. IsSignalOf net g (map sign shelves.list) mu.list level weights.list)) ∷ []
 signal_rows net earlier No (One tree) = signal_tree_tests net earlier (tree ∷ [])
@@ -404,7 +405,7 @@ abbrev pub table_rows : Net → List (List Sign) → Verdict → Proof → List 
 table_rows net table Yes (One tree) =
     tree_tests (Fits (concordance (reaction_system net) table)) 1 [] tree
 table_rows net table (NoPair alpha weights) proof =
-    test 2 45 (IsDiscordant (reaction_system net) table alpha.list weights.list) ∷ []
+    test 2 BadEvidence (IsDiscordant (reaction_system net) table alpha.list weights.list) ∷ []
 table_rows net table verdict proof = []
 
 -- ---- all questions

@@ -10,6 +10,7 @@ use Rattle.crn_cert.specs.ClassTests.{AreSideMarks}
 use Rattle.crn_cert.specs.ConfluenceTests.{IsTie, tie_tests}
 use Rattle.crn_cert.specs.Valid.{linkage, side_tests}
 use Rattle.crn_check.specs.Inner.Ordered.{AreEqualBut, AreZeroOutside, ordered_tests}
+use Rattle.crn_cert.specs.Faults.{BadVector}
 
 pub side_marks : (net : Net) (labels : List ℕ) (r y z : ℕ) (marks : List ℤ) → length labels ≡ length net.complexes → IsReaction net.reactions r y z → entry marks y ≡ pos 0 → entry marks z ≡ pos 1 → AreZeroOutside labels (get_or labels y 0) marks → AreEqualBut net y z marks → AreSideMarks net labels (r + 1) marks
 side_marks net labels r y z marks long goes from to outside equal =
@@ -44,9 +45,9 @@ marks_side net labels r y z marks long goes h =
 pub sides_ordered : (net : Net) (e : Earlier) (part : ℕ) (rs : List ℕ) (sides : List (List ℤ)) → side_tests net e part rs sides ≡ ordered_tests (AreSideMarks net (linkage e)) part rs sides
 sides_ordered net e part [] sides = refl
 sides_ordered net e part (r ∷ rs) [] = refl
-sides_ordered net e part (r ∷ rs) (marks ∷ sides) = ap (λ (ts : List Test). test part 35 (AreSideMarks net (linkage e) r marks) ∷ ts) (sides_ordered net e (suc part) rs sides)
+sides_ordered net e part (r ∷ rs) (marks ∷ sides) = ap (λ (ts : List Test). test part BadVector (AreSideMarks net (linkage e) r marks) ∷ ts) (sides_ordered net e (suc part) rs sides)
 
 pub ties_ordered : (net : Net) (labels : List ℕ) (count : ℕ) (spared : ℕ → Type 0) (part : ℕ) (cs : List ℕ) (ties : List (List ℤ)) → tie_tests net labels count spared part cs ties ≡ ordered_tests (IsTie net labels count spared) part cs ties
 ties_ordered net labels count spared part [] ties = refl
 ties_ordered net labels count spared part (c ∷ cs) [] = refl
-ties_ordered net labels count spared part (c ∷ cs) (tie ∷ ties) = ap (λ (ts : List Test). test part 35 (IsTie net labels count spared c tie) ∷ ts) (ties_ordered net labels count spared (suc part) cs ties)
+ties_ordered net labels count spared part (c ∷ cs) (tie ∷ ties) = ap (λ (ts : List Test). test part BadVector (IsTie net labels count spared c tie) ∷ ts) (ties_ordered net labels count spared (suc part) cs ties)

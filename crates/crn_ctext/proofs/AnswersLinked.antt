@@ -45,11 +45,12 @@ use Rattle.crn_ctext.proofs.SignalLinked.{signal_joined}
 use Rattle.crn_ctext.proofs.ConfluenceLinked.{regular_linked, confluence_linked}
 use Rattle.crn_ctext.proofs.MeaningShort.{lists_counted}
 use Rattle.crn_ctext.proofs.RanksLinked.{between, free_fits, rank_fits, rank_said, places_from, sizes_from, classes_fit, classes_said, said_again, tests_said, places_at, number_then, wide_fits}
+use Rattle.crn_cert.specs.Faults.{WrongClasses, WrongNumber, WrongVerdict, WrongWalk}
 
 -- ---- linkage classes
 
 linkage_tests : Net → ℕ → (label up depth : List ℕ) → List Test
-linkage_tests net count label up depth = test 1 31 (AreNumbered label count × AreEven net label) ∷ test 3 31 (AreLinkTrees net label up depth) ∷ []
+linkage_tests net count label up depth = test 1 WrongClasses (AreNumbered label count × AreEven net label) ∷ test 3 WrongClasses (AreLinkTrees net label up depth) ∷ []
 
 linkage_linked : (known : Known) (v : Verdict) (p : Proof) → IsFormedOf known.net known.earlier Q1 v p → IsLinked known Q1 (answer v p)
 unfolding linkage_tests
@@ -78,8 +79,8 @@ linkage_linked known v p f = absurd f.0
 
 strong_tests : Net → ℕ → ℕ → (label from from_depth to to_depth level exit : List ℕ) → List Test
 strong_tests net count terminal label from from_depth to to_depth level exit =
-    test 1 31 (AreNumbered label count) ∷ test 3 31 (AreFromTrees net label from from_depth) ∷ test 5 31 (AreToTrees net label to to_depth) ∷ test 6 31 (DoLevelsFall net label level)
-    ∷ test 7 31 (AreAllExits net label exit) ∷ test 7 36 (zeros_in exit ≡ terminal) ∷ []
+    test 1 WrongClasses (AreNumbered label count) ∷ test 3 WrongClasses (AreFromTrees net label from from_depth) ∷ test 5 WrongClasses (AreToTrees net label to to_depth) ∷ test 6 WrongClasses (DoLevelsFall net label level)
+    ∷ test 7 WrongClasses (AreAllExits net label exit) ∷ test 7 WrongNumber (zeros_in exit ≡ terminal) ∷ []
 
 -- the trees of strong classes without spare room
 trees_shown : (from from_depth to to_depth level : List ℕ) → Proof × List Plan
@@ -137,7 +138,7 @@ strong_linked known v p f = absurd f.0
 -- ---- reversible
 
 reverse_tests : Net → List ℕ → List Test
-reverse_tests net back = test 1 32 (AreReverses net back) ∷ []
+reverse_tests net back = test 1 WrongWalk (AreReverses net back) ∷ []
 
 reversible_linked : (known : Known) (v : Verdict) (p : Proof) → IsFormedOf known.net known.earlier Q3 v p → IsLinked known Q3 (answer v p)
 unfolding reverse_tests
@@ -233,7 +234,7 @@ rank_linked known v p f = absurd f.0
 
 -- the tests of a head, by what they rest on
 abbrev deficiency_tests : Net → ℕ → ℕ → Option ℕ → Type 0 → List {1} Test
-deficiency_tests net total count rank Numbers = test 0 37 (IsSome rank) ∷ test 0 36 (IsSomeAnd rank (λ s. total + count + s ≡ length net.complexes) × Numbers) ∷ []
+deficiency_tests net total count rank Numbers = test 0 WrongVerdict (IsSome rank) ∷ test 0 WrongNumber (IsSomeAnd rank (λ s. total + count + s ≡ length net.complexes) × Numbers) ∷ []
 
 deficiency_heads : (known : Known) (total : ℕ) (ds : List ℕ) → deficiency_tests known.net total (linkage_count known.earlier) (rank_of (on known.earlier Q5)) (AreClassNumbers known.net known.earlier 1 (map nat_abs (map pos ds)))
     ≡ deficiency_tests known.net total (linkage_count known.earlier) (rank_of (on known.earlier Q5)) (AreClassNumbers known.net known.earlier 1 ds)

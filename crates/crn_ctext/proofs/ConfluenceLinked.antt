@@ -31,6 +31,7 @@ use Rattle.crn_ctext.proofs.MeaningShort.{lists_counted}
 use Rattle.crn_ctext.proofs.RanksLinked.{between, free_fits, free_rows_fit, number_then, wide_fits}
 use Rattle.crn_ctext.proofs.Joined.{IsLinked, answer, open_as}
 use Rattle.crn_ctext.proofs.Linking.{number_fits, class_fits, without_proof}
+use Rattle.crn_cert.specs.Faults.{BadVector, WrongWalk}
 
 -- ---- sides
 
@@ -83,7 +84,7 @@ regular_sides known sides k f =
     }
 
 walk_tests : Net → ℕ → List ℕ → List Test
-walk_tests net r walk = test 1 32 (IsWayRound net r walk) ∷ []
+walk_tests net r walk = test 1 WrongWalk (IsWayRound net r walk) ∷ []
 
 regular_cycle : (known : Known) (r : ℕ) (walk : KeptNums) → IsFrom 1 (length known.net.reactions) r → IsWalkList known.net walk.list → IsLinked known Q11 (answer (NoCycle r walk) Nothing)
 unfolding walk_tests
@@ -186,7 +187,7 @@ confluence_vector known vector ties free rows =
         trees = refl;
       };
       heads = refl;
-      rows = ap (λ (t : List (List ℤ)). test 1 35 (IsNormal net known.earlier g) ∷ ties_of net known.earlier spared 2 cs t) (ties_alone ties);
+      rows = ap (λ (t : List (List ℤ)). test 1 BadVector (IsNormal net known.earlier g) ∷ ties_of net known.earlier spared 2 cs t) (ties_alone ties);
       says = refl;
       shows = ap (λ (t : List (List ℤ)). shown (Ties t)) (ties_alone ties);
     }

@@ -5,6 +5,7 @@ use Rattle.crn_io.specs.Lines.{Place, IsLineAt, BreaksLine, document_too_long, l
 use Rattle.crn_ctext.specs.Course.{Course, Give, Line, Test, End, ◌>>=◌, Gives, FailsFirst}
 use Rattle.crn_ctext.specs.Inner.Courses.{IsSettled}
 use Rattle.crn_io.proofs.CallerLemmas.{line_or_not, breaks_or_not, line_is_there, line_breaks_none, line_is_one, break_is_one}
+use Rattle.crn_cert.specs.Faults.{fault_number}
 
 -- whether something is left is decided
 more_or_not : (at : Place) → HasMore at ⊎ (HasMore at → ⊥)
@@ -32,7 +33,7 @@ each_is_judged (Test n c X P next) s at lt = elim s.0 [
     | inl gives ↦ inl (gives.0, gives.1, (x.0, x.1, gives.2))
     | inr fails ↦ inr (fails.0, fails.1, inr (x.0, x.1, fails.2))
   ]
-  | inr none ↦ inr (n, c, inl (refl, refl, none))
+  | inr none ↦ inr (n, fault_number c, inl (refl, refl, none))
 ]
 each_is_judged (End next) s at lt = elim (breaks_or_not at 28 (HasMore at) lt (more_or_not at)) [
   | inl breaks ↦ inr (at.line, breaks.0, inl (refl, breaks.1))

@@ -22,6 +22,7 @@ use Rattle.crn_ctext.proofs.Image.{HasNoEnd, AllShort, written_then, record_is_w
 use Rattle.crn_ctext.proofs.Shared.{IsVersion, IsTextFor}
 use Rattle.crn_ctext.proofs.BlocksWritten.{all_of, parted, table_part, lists_back, table_no_end, second_written, blocks_are_written, blocks_no_end}
 use Rattle.crn_ctext.proofs.BlocksRead.{last_lines}
+use Rattle.crn_cert.specs.Faults.{BadNetwork}
 
 -- ---- the lines of a network
 
@@ -126,7 +127,7 @@ document_is_written {Known} version table m versions built net answers ls i t n 
     after_table rs = asks_blocks m version (lists_of rs) built (record { known = m.start net; by_tree = false; line = 3 + count + length rs; blocks = [] }) >>= (λ after. last_lines version net after)
 
     after_lines : List (List ℕ) → Course ReadOf
-    after_lines lines = find (2 + count) 22 Net (IsNetworkOf lines) >>= (λ net. asks_table version (3 + count) >>= (λ table. asks_blocks m version (lists_of table) built (record { known = m.start net; by_tree = false; line = 3 + count + length table; blocks = [] }) >>= (λ after. last_lines version net after)))
+    after_lines lines = find (2 + count) BadNetwork Net (IsNetworkOf lines) >>= (λ net. asks_table version (3 + count) >>= (λ table. asks_blocks m version (lists_of table) built (record { known = m.start net; by_tree = false; line = 3 + count + length table; blocks = [] }) >>= (λ after. last_lines version net after)))
 
     rest : IsWrittenBy (after_table records) (ls ++ codes "end" ∷ []) read
     rest = written_then (asks_blocks m version (lists_of records) built start) (λ after. last_lines version net after) ls (codes "end" ∷ []) blocks.0 read (blocks_no_end version (lists_of records) m built start)

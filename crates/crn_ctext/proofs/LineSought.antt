@@ -25,6 +25,7 @@ use Rattle.crn_ctext.specs.declared.record_form.Form.{Form as GivenForm}
 use Rattle.crn_ctext.specs.declared.record_try.Tried.{Tried}
 use Rattle.crn_ctext.specs.declared.record_try.Tried.TheVariants as tried
 use Rattle.crn_ctext.proofs.Shared.{in_by_test}
+use Rattle.crn_cert.specs.Faults.{fault_number, WrongOrder}
 
 -- ---- members
 
@@ -286,7 +287,7 @@ refused_tree e line word x b known up tree = record {
 }
 
 pub refused_misplaced : (e : Expect) (line word : List ℕ) → IsExpectable e → BeginsWith line word → IsIn word (known_words e.version) → (is_after e.due e.after_tree ≡ true → IsIn word (tree_words e.version) → ⊥)
-    → AreTried tried.OtherWord (forms_of e) line → IsRefusedBy e line (misplaced e.due)
+    → AreTried tried.OtherWord (forms_of e) line → IsRefusedBy e line (fault_number (misplaced e.due))
 unfolding FailsFirst
 refused_misplaced e line word x b known none h = record {
   fails = λ n at. inr (word, (b, known), inr (tt, none, inl (refl, refl, λ u f. (h f.0 f.1).0 word b f.2)));
@@ -299,7 +300,7 @@ pub same_kept : (a b : KeptInts) → a.list ≡ b.list → a.spare ≡ b.spare �
 same_kept a b l s = ap₂ (λ (xs : List ℤ) (n : ℕ). kept xs n) l s
 
 -- what is no node
-pub no_node : (d : Due) → ((a b s : ℕ) → d ≡ due.Node a b s → ⊥) → (misplaced d ≡ 26) × ((b : Bool) → is_after d b ≡ b)
+pub no_node : (d : Due) → ((a b s : ℕ) → d ≡ due.Node a b s → ⊥) → (misplaced d ≡ WrongOrder) × ((b : Bool) → is_after d b ≡ b)
 no_node (due.Head k) none = (refl, λ b. refl)
 no_node (due.Base count members) none = (refl, λ b. refl)
 no_node (due.Side reaction) none = (refl, λ b. refl)

@@ -27,6 +27,7 @@ use Rattle.crn_ctext.proofs.Decided.{IsDecided, if_decided, nat_decided, bool_de
 use Rattle.crn_ctext.proofs.Courses.{settled_then, settled_with, GivesOnly, gives_only_then}
 use Rattle.crn_ctext.proofs.LinesRead.{HaveWords, reads_settled}
 use Rattle.crn_ctext.proofs.FormWords.{heads_have, below_have, nodes_have, sections_have, table_has, vectors_have, end_has}
+use Rattle.crn_cert.specs.Faults.{BadHeader, BadLeaf, BadNetwork, Fault, NodeNotAllowed, TreeEndsEarly, WrongOrder, WrongShape}
 
 -- ---- what is asked of the meaning
 
@@ -67,14 +68,14 @@ unless_problems false ps d = d
 
 -- ---- records
 
-test_settled : (n code : ℕ) (P : Type 0) → IsDecided P → IsSettled (test n code P)
+test_settled : (n : ℕ) (fault : Fault) (P : Type 0) → IsDecided P → IsSettled (test n fault P)
 unfolding IsSettled
-test_settled n code P (inl p) = (inl (tt, p), (λ x y p q. refl), (λ x p. tt))
-test_settled n code P (inr p) = (inr (λ x. p), (λ x y p q. refl), (λ x p. tt))
+test_settled n fault P (inl p) = (inl (tt, p), (λ x y p q. refl), (λ x p. tt))
+test_settled n fault P (inr p) = (inr (λ x. p), (λ x y p q. refl), (λ x p. tt))
 
-find_settled : (n code : ℕ) (X : Type 0) (P : X → Type 0) → (((x : X) × P x) ⊎ ((x : X) → P x → ⊥)) → ((x y : X) → P x → P y → x ≡ y) → IsSettled (find n code X P)
+find_settled : (n : ℕ) (fault : Fault) (X : Type 0) (P : X → Type 0) → (((x : X) × P x) ⊎ ((x : X) → P x → ⊥)) → ((x y : X) → P x → P y → x ≡ y) → IsSettled (find n fault X P)
 unfolding IsSettled
-find_settled n code X P decided one = (decided, one, (λ x p. tt))
+find_settled n fault X P decided one = (decided, one, (λ x p. tt))
 
 due_settled : (node : Bool) → IsSettled (due node)
 unfolding IsSettled
@@ -86,11 +87,11 @@ give_settled x = tt
 
 asks_settled : (version n : ℕ) (after : Bool) (forms : List Form) → HaveWords forms → IsSettled (asks version n after forms)
 unfolding IsSettled
-asks_settled version n after forms w = λ line. reads_settled version n after forms 26 line w
+asks_settled version n after forms w = λ line. reads_settled version n after forms WrongOrder line w
 
 node_settled : (version n : ℕ) (forms : List Form) → HaveWords forms → IsSettled (asks_node version n forms)
 unfolding IsSettled
-node_settled version n forms w = λ line. reads_settled version n false forms 43 line w
+node_settled version n forms w = λ line. reads_settled version n false forms TreeEndsEarly line w
 
 all_settled : (version n : ℕ) (after : Bool) (forms : List Form) → HaveWords forms → IsSettled (asks_all version n after forms)
 unfolding asks_all
@@ -102,17 +103,17 @@ all_settled version n after (form ∷ forms) w =
 claims_settled : (n : ℕ) (cs : List {1} Claim) → AllDecided cs → IsSettled (claims n cs)
 unfolding claims
 claims_settled n [] d = give_settled tt
-claims_settled n (c ∷ cs) d = settled_then (test (n + c.part) c.code c.holds) (λ x. claims n cs) (test_settled (n + c.part) c.code c.holds d.0) (λ x. claims_settled n cs d.1)
+claims_settled n (c ∷ cs) d = settled_then (test (n + c.part) c.fault c.holds) (λ x. claims n cs) (test_settled (n + c.part) c.fault c.holds d.0) (λ x. claims_settled n cs d.1)
 
 -- ---- trees
 
 leaf_settled : (p : Problem) (prefix : List Sign) (n : ℕ) (node : Node) → IsDecidedProblem p → IsSettled (leaf p prefix n node)
-leaf_settled p prefix n Split d = test_settled n 42 ⊥ (inr (λ h. h))
-leaf_settled p prefix n Flat d = test_settled n 42 (p.IsClosed prefix) (d.closed prefix)
-leaf_settled p prefix n (CutA shared u) d = settled_then (test n 46 (shared ≡ true → length u ≡ p.count_a)) (λ x. test n 41 (p.RulesOutA prefix u))
-    (test_settled n 46 (shared ≡ true → length u ≡ p.count_a) (if_decided (bool_decided shared true) (nat_decided (length u) p.count_a))) (λ x. test_settled n 41 (p.RulesOutA prefix u) (d.part_a prefix u))
-leaf_settled p prefix n (CutB shared u) d = settled_then (test n 46 (shared ≡ true → length u ≡ p.count_b)) (λ x. test n 41 (p.RulesOutB prefix u))
-    (test_settled n 46 (shared ≡ true → length u ≡ p.count_b) (if_decided (bool_decided shared true) (nat_decided (length u) p.count_b))) (λ x. test_settled n 41 (p.RulesOutB prefix u) (d.part_b prefix u))
+leaf_settled p prefix n Split d = test_settled n NodeNotAllowed ⊥ (inr (λ h. h))
+leaf_settled p prefix n Flat d = test_settled n NodeNotAllowed (p.IsClosed prefix) (d.closed prefix)
+leaf_settled p prefix n (CutA shared u) d = settled_then (test n WrongShape (shared ≡ true → length u ≡ p.count_a)) (λ x. test n BadLeaf (p.RulesOutA prefix u))
+    (test_settled n WrongShape (shared ≡ true → length u ≡ p.count_a) (if_decided (bool_decided shared true) (nat_decided (length u) p.count_a))) (λ x. test_settled n BadLeaf (p.RulesOutA prefix u) (d.part_a prefix u))
+leaf_settled p prefix n (CutB shared u) d = settled_then (test n WrongShape (shared ≡ true → length u ≡ p.count_b)) (λ x. test n BadLeaf (p.RulesOutB prefix u))
+    (test_settled n WrongShape (shared ≡ true → length u ≡ p.count_b) (if_decided (bool_decided shared true) (nat_decided (length u) p.count_b))) (λ x. test_settled n BadLeaf (p.RulesOutB prefix u) (d.part_b prefix u))
 
 asks_leaf_settled : (version : ℕ) (table : List (List ℤ)) (p : Problem) (n : ℕ) → IsSettled (asks_leaf version table p n)
 asks_leaf_settled version table p n =
@@ -211,8 +212,8 @@ blocks_settled {Known} m Ok version table (q ∷ qs) at d ok =
 abbrev pub HaveTitles : List ℕ → Type 0
 HaveTitles versions = (v w : ℕ) → IsIn v versions → IsIn w versions → title v ≡ title w → v ≡ w
 
-version_settled : (versions : List ℕ) (first : List ℕ) → HaveTitles versions → IsSettled (find 1 21 ℕ (λ version. IsIn version versions × (first ≡ title version)))
-version_settled versions first t = find_settled 1 21 ℕ (λ version. IsIn version versions × (first ≡ title version))
+version_settled : (versions : List ℕ) (first : List ℕ) → HaveTitles versions → IsSettled (find 1 BadHeader ℕ (λ version. IsIn version versions × (first ≡ title version)))
+version_settled versions first t = find_settled 1 BadHeader ℕ (λ version. IsIn version versions × (first ≡ title version))
     (by (some_decided (λ version. first ≡ title version) (λ version. bytes_decided first (title version)) versions)) (λ x y p q. t x y p.0 q.0 (sym p.1 ∙ q.1))
   where
     by : IsDecided ((v : ℕ) × IsIn v versions × (first ≡ title v)) → ((v : ℕ) × (IsIn v versions × (first ≡ title v))) ⊎ ((v : ℕ) → IsIn v versions × (first ≡ title v) → ⊥)
@@ -229,8 +230,8 @@ bounded P each (suc most) = by (each (suc most)) (bounded P each most)
     by (inr h) (inl more) = inl (more.0, (more.1.0, omega (arith, more.1.1), more.1.2))
     by (inr h) (inr more) = inr (λ n p. elim (nat_decided n (suc most)) [ inl same ↦ h (subst P same p.2) | inr other ↦ more n (p.0, omega (arith, other, p.1), p.2) ])
 
-count_settled : (second : List ℕ) → IsSettled (find 2 22 ℕ (λ count. (1 ≤ count) × (count ≤ MAX_REACTIONS) × (second ≡ network_line count)))
-count_settled second = find_settled 2 22 ℕ (λ count. (1 ≤ count) × (count ≤ MAX_REACTIONS) × (second ≡ network_line count))
+count_settled : (second : List ℕ) → IsSettled (find 2 BadNetwork ℕ (λ count. (1 ≤ count) × (count ≤ MAX_REACTIONS) × (second ≡ network_line count)))
+count_settled second = find_settled 2 BadNetwork ℕ (λ count. (1 ≤ count) × (count ≤ MAX_REACTIONS) × (second ≡ network_line count))
     (bounded (λ count. second ≡ network_line count) (λ count. bytes_decided second (network_line count)) MAX_REACTIONS)
     (λ m n p q. decimal_injective m n (omega (arith, p.1)) (omega (arith, q.1)) (append_cancel_left (codes "network ") (decimal m) (decimal n) (sym p.2 ∙ q.2)))
 
@@ -238,8 +239,8 @@ count_settled second = find_settled 2 22 ℕ (λ count. (1 ≤ count) × (count 
 spelled_by : (lines : List (List ℕ)) (net : Net) → IsNetworkOf lines net → Spells (ended lines) net
 spelled_by lines net p = subst (λ t. Spells t net) p.1 (spells_its_network net p.0)
 
-network_settled : (n : ℕ) (lines : List (List ℕ)) → IsSettled (find n 22 Net (IsNetworkOf lines))
-network_settled n lines = find_settled n 22 Net (IsNetworkOf lines) decided (λ x y p q. spelling_unique (ended lines) x y (spelled_by lines x p) (spelled_by lines y q))
+network_settled : (n : ℕ) (lines : List (List ℕ)) → IsSettled (find n BadNetwork Net (IsNetworkOf lines))
+network_settled n lines = find_settled n BadNetwork Net (IsNetworkOf lines) decided (λ x y p q. spelling_unique (ended lines) x y (spelled_by lines x p) (spelled_by lines y q))
   where
     decided : ((net : Net) × IsNetworkOf lines net) ⊎ ((net : Net) → IsNetworkOf lines net → ⊥)
     decided = elim (judged (ended lines)) [
@@ -268,18 +269,18 @@ ends_settled = tt
 -- ---- the document
 
 -- the network of these lines is one
-network_found : (n : ℕ) (lines : List (List ℕ)) → GivesOnly IsNetwork (find n 22 Net (IsNetworkOf lines))
+network_found : (n : ℕ) (lines : List (List ℕ)) → GivesOnly IsNetwork (find n BadNetwork Net (IsNetworkOf lines))
 unfolding GivesOnly
 network_found n lines = λ net p. p.0
 
 pub course_settled : {Known : Type 0} (m : Meaning Known) (Ok : Known → Type 0) (versions : List ℕ) (built : List Question) → ((net : Net) → IsNetwork net → Ok (m.start net)) → IsDecidedMeaning m Ok built → HaveTitles versions → IsSettled (course m versions built)
 course_settled {Known} m Ok versions built starts d t =
     settled_then (due false) (λ first. c1 first) (due_settled false) (λ first.
-    settled_then (find 1 21 ℕ (λ version. IsIn version versions × (first ≡ title version))) (λ version. c2 version) (version_settled versions first t) (λ version.
+    settled_then (find 1 BadHeader ℕ (λ version. IsIn version versions × (first ≡ title version))) (λ version. c2 version) (version_settled versions first t) (λ version.
     settled_then (due false) (λ second. c3 version second) (due_settled false) (λ second.
-    settled_then (find 2 22 ℕ (λ count. (1 ≤ count) × (count ≤ MAX_REACTIONS) × (second ≡ network_line count))) (λ count. c4 version count) (count_settled second) (λ count.
+    settled_then (find 2 BadNetwork ℕ (λ count. (1 ≤ count) × (count ≤ MAX_REACTIONS) × (second ≡ network_line count))) (λ count. c4 version count) (count_settled second) (λ count.
     settled_then (asks_lines count) (λ lines. c5 version count lines) (lines_settled count) (λ lines.
-    settled_with IsNetwork (find (2 + count) 22 Net (IsNetworkOf lines)) (λ net. c6 version count net) (network_settled (2 + count) lines) (network_found (2 + count) lines) (λ net is.
+    settled_with IsNetwork (find (2 + count) BadNetwork Net (IsNetworkOf lines)) (λ net. c6 version count net) (network_settled (2 + count) lines) (network_found (2 + count) lines) (λ net is.
     settled_then (asks_table version (3 + count)) (λ table. c7 version count net table) (table_settled version (3 + count)) (λ table.
     settled_then (asks_blocks m version (lists_of table) built (start count net table)) (λ after. c8 version net after) (blocks_settled m Ok version (lists_of table) built (start count net table) d (starts net is)) (λ after.
     settled_then (asks version after.line after.by_tree (end_form ∷ [])) (λ last. c9 net after) (asks_settled version after.line after.by_tree (end_form ∷ []) end_has) (λ last.
@@ -304,16 +305,16 @@ course_settled {Known} m Ok versions built starts d t =
     c6 version count net = asks_table version (3 + count) >>= (λ table. c7 version count net table)
 
     c5 : ℕ → ℕ → List (List ℕ) → Course ReadOf
-    c5 version count lines = find (2 + count) 22 Net (IsNetworkOf lines) >>= (λ net. c6 version count net)
+    c5 version count lines = find (2 + count) BadNetwork Net (IsNetworkOf lines) >>= (λ net. c6 version count net)
 
     c4 : ℕ → ℕ → Course ReadOf
     c4 version count = asks_lines count >>= (λ lines. c5 version count lines)
 
     c3 : ℕ → List ℕ → Course ReadOf
-    c3 version second = find 2 22 ℕ (λ count. (1 ≤ count) × (count ≤ MAX_REACTIONS) × (second ≡ network_line count)) >>= (λ count. c4 version count)
+    c3 version second = find 2 BadNetwork ℕ (λ count. (1 ≤ count) × (count ≤ MAX_REACTIONS) × (second ≡ network_line count)) >>= (λ count. c4 version count)
 
     c2 : ℕ → Course ReadOf
     c2 version = due false >>= (λ second. c3 version second)
 
     c1 : List ℕ → Course ReadOf
-    c1 first = find 1 21 ℕ (λ version. IsIn version versions × (first ≡ title version)) >>= (λ version. c2 version)
+    c1 first = find 1 BadHeader ℕ (λ version. IsIn version versions × (first ≡ title version)) >>= (λ version. c2 version)

@@ -45,6 +45,7 @@ use Rattle.crn_ctext.proofs.TreesRead.{valid_tree_is_formed}
 use Rattle.crn_ctext.proofs.AnswersApart.{tree_apart}
 use Rattle.crn_ctext.proofs.TreeRecords.{FormedAt, AreLeafTests, tree_formed, tree_good, tree_true, tests_true, true_tests, from_some_leaf, plans_one}
 use Rattle.crn_ctext.proofs.TablesLinked.{at_root, some_nodes}
+use Rattle.crn_cert.specs.Faults.{BadEvidence}
 
 -- ---- yes and vectors
 
@@ -84,7 +85,7 @@ not_weak_known known n = no_is (on known.earlier Q4) n
 -- ---- a signal
 
 abbrev signal_tests : Net → ℤ → (shelves mu : List ℤ) → ℤ → List ℤ → Option (List ℤ) → List {1} Test
-signal_tests net turn shelves mu level weights given = test 4 45 (IsSomeAnd given (λ g. IsSignalOf net (by_turn turn g) (map sign shelves) mu level weights)) ∷ []
+signal_tests net turn shelves mu level weights given = test 4 BadEvidence (IsSomeAnd given (λ g. IsSignalOf net (by_turn turn g) (map sign shelves) mu level weights)) ∷ []
 
 turn_takes : (turn : ℤ) → IsTurn turn → Takes Turn (turn ∷ [])
 turn_takes turn (inl e) = inl (ap (λ (x : ℤ). x ∷ []) e)

@@ -12,6 +12,7 @@ use Rattle.crn_vec.specs.Problems.{all_zero}
 use Rattle.crn_ctext.specs.Blocks.{Node, Split, Flat, CutA, CutB, leaf, asks_leaf, goes_on, if_signed, either, asks_tree}
 use Rattle.crn_ctext.specs.Meaning.{problem_with}
 use Rattle.crn_ctext.proofs.Courses.{gives_then, fails_before, fails_then}
+use Rattle.crn_cert.specs.Faults.{BadLeaf, Fault, NodeNotAllowed, WrongShape}
 
 -- what the first gives the second gives, and it fails first where the first does
 pub record IsLike {A : Type 0} (c d : Course A) : Type 0 where
@@ -75,9 +76,9 @@ like_then c d f g first second = record {
 }
 
 -- two tests that hold together
-pub like_test : (n code : ℕ) (P Q : Type 0) → P ↔ Q → IsLike (test n code P) (test n code Q)
+pub like_test : (n : ℕ) (fault : Fault) (P Q : Type 0) → P ↔ Q → IsLike (test n fault P) (test n fault Q)
 unfolding Gives FailsFirst
-like_test n code P Q same = record {
+like_test n fault P Q same = record {
   gives = λ at after y p. (p.0, same.0 p.1, p.2);
   fails = λ at m d p. elim p [
     | inl none ↦ inl (none.0, none.1, λ x q. none.2 x (same.1 q))
@@ -98,14 +99,14 @@ HoldTogether H K = (prefix : List Sign) (said : Said) → H prefix said ↔ K pr
 
 leaf_like : (c a b : ℕ) (H K : List Sign → Said → Type 0) → HoldTogether H K → (prefix : List Sign) (n : ℕ) (node : Node)
     → IsLike (leaf (problem_with c a b H) prefix n node) (leaf (problem_with c a b K) prefix n node)
-leaf_like c a b H K same prefix n Split = like_itself (test n 42 ⊥)
-leaf_like c a b H K same prefix n Flat = like_test n 42 (H prefix Flats) (K prefix Flats) (same prefix Flats)
+leaf_like c a b H K same prefix n Split = like_itself (test n NodeNotAllowed ⊥)
+leaf_like c a b H K same prefix n Flat = like_test n NodeNotAllowed (H prefix Flats) (K prefix Flats) (same prefix Flats)
 leaf_like c a b H K same prefix n (CutA shared u) =
-    like_then (test n 46 (shared ≡ true → length u ≡ a)) (test n 46 (shared ≡ true → length u ≡ a)) (λ x. test n 41 (H prefix (CutsA u))) (λ x. test n 41 (K prefix (CutsA u)))
-    (like_itself (test n 46 (shared ≡ true → length u ≡ a))) (λ x. like_test n 41 (H prefix (CutsA u)) (K prefix (CutsA u)) (same prefix (CutsA u)))
+    like_then (test n WrongShape (shared ≡ true → length u ≡ a)) (test n WrongShape (shared ≡ true → length u ≡ a)) (λ x. test n BadLeaf (H prefix (CutsA u))) (λ x. test n BadLeaf (K prefix (CutsA u)))
+    (like_itself (test n WrongShape (shared ≡ true → length u ≡ a))) (λ x. like_test n BadLeaf (H prefix (CutsA u)) (K prefix (CutsA u)) (same prefix (CutsA u)))
 leaf_like c a b H K same prefix n (CutB shared u) =
-    like_then (test n 46 (shared ≡ true → length u ≡ b)) (test n 46 (shared ≡ true → length u ≡ b)) (λ x. test n 41 (H prefix (CutsB u))) (λ x. test n 41 (K prefix (CutsB u)))
-    (like_itself (test n 46 (shared ≡ true → length u ≡ b))) (λ x. like_test n 41 (H prefix (CutsB u)) (K prefix (CutsB u)) (same prefix (CutsB u)))
+    like_then (test n WrongShape (shared ≡ true → length u ≡ b)) (test n WrongShape (shared ≡ true → length u ≡ b)) (λ x. test n BadLeaf (H prefix (CutsB u))) (λ x. test n BadLeaf (K prefix (CutsB u)))
+    (like_itself (test n WrongShape (shared ≡ true → length u ≡ b))) (λ x. like_test n BadLeaf (H prefix (CutsB u)) (K prefix (CutsB u)) (same prefix (CutsB u)))
 
 -- a leaf, and then the line after it
 leaf_then : (c a b : ℕ) (H K : List Sign → Said → Type 0) → HoldTogether H K → (prefix : List Sign) (n : ℕ) (node : Node)

@@ -22,6 +22,7 @@ use Rattle.crn_ctext.specs.declared.expect.Sizes.{Sizes as GivenSizes}
 use Rattle.crn_ctext.specs.declared.expect.Due.{Due}
 use Rattle.crn_ctext.specs.declared.expect.Due.TheVariants as due
 use Rattle.crn_ctext.specs.declared.expect.Expect.{Expect}
+use Rattle.crn_cert.specs.Faults.{Fault, WrongOrder, TreeEndsEarly}
 
 -- the word that begins a record of this kind
 abbrev pub text_of : Word → List ℕ
@@ -139,10 +140,10 @@ due_forms (due.Section i) version z = section_form (slice_index_or section_names
 abbrev pub forms_of : Expect → List Form
 forms_of e = due_forms e.due e.version (sizes_of e.sizes)
 
--- the code of a known word that is not due: of a node of a tree, or of another record
-abbrev pub misplaced : Due → ℕ
-misplaced (due.Node count_a count_b shared) = 43
-misplaced other = 26
+-- the fault of a known word that is not due: of a node of a tree, or of another record
+abbrev pub misplaced : Due → Fault
+misplaced (due.Node count_a count_b shared) = TreeEndsEarly
+misplaced other = WrongOrder
 
 -- a word of a tree would go on with the tree of the line before: never if a node is due
 abbrev pub is_after : Due → Bool → Bool

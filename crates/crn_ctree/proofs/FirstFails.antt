@@ -12,6 +12,7 @@ use Rattle.crn_cert.proofs.CallerLemmas.{hold_append}
 use Rattle.crn_ctree.specs.Due.{first}
 use Rattle.crn_ctree.specs.Laws.{code_at, FirstFaultsAreThoseOfTests}
 use Rattle.crn_ctree.proofs.NodeLaws.{children_zero, children_some}
+use Rattle.crn_cert.specs.Faults.{NodeNotAllowed}
 
 -- ---- lists of tests
 
@@ -78,7 +79,7 @@ ends w ra rb part (Both z q) p rest start tail after due f h g =
     let zs = tree_tests (Fits w) (part + 1) (p ++ Zero ∷ []) z in
     let qs = tree_tests (Fits w) (part + 1 + node_count z) (p ++ Plus ∷ []) q in
     recount w (tree_tests (Fits w) part p (Both z q)) part (1 + (node_count z + node_count q)) (node_count (Both z q)) rest start tail after due (omega arith)
-    (then_ends w (test part 42 (Fits w p Splits) ∷ []) (zs ++ qs) part 1 (node_count z + node_count q) (rest_after p rest Splits) rest start tail ((nodes z ++ nodes q) ++ after) after due (one_node w part p rest Splits start tail ((nodes z ++ nodes q) ++ after) due h g)
+    (then_ends w (test part NodeNotAllowed (Fits w p Splits) ∷ []) (zs ++ qs) part 1 (node_count z + node_count q) (rest_after p rest Splits) rest start tail ((nodes z ++ nodes q) ++ after) after due (one_node w part p rest Splits start tail ((nodes z ++ nodes q) ++ after) due h g)
     (λ others go e. then_ends w zs qs (part + 1) (node_count z) (node_count q) ((p ++ Plus ∷ []) ∷ rest) rest others tail (nodes q ++ after) after due
     (ends w ra rb (part + 1) z (p ++ Zero ∷ []) ((p ++ Plus ∷ []) ∷ rest) others tail (nodes q ++ after) due f.2 (sym (append_assoc (nodes z) (nodes q) after) ∙ e) (subst (λ (d : List (List Sign)). Passing w d others due) (children_zero p rest f.1) go))
     (λ others' go' e'. ends w ra rb (part + 1 + node_count z) q (p ++ Plus ∷ []) rest others' tail after due f.3 e' go')))
@@ -89,7 +90,7 @@ ends w ra rb part (Three z q m) p rest start tail after due f h g =
     let two = node_count z + node_count q in
     let between = (nodes z ++ nodes q ++ nodes m) ++ after in
     recount w (tree_tests (Fits w) part p (Three z q m)) part (1 + (two + node_count m)) (node_count (Three z q m)) rest start tail after due (omega arith)
-    (then_ends w (test part 42 (Fits w p Splits) ∷ []) ((zs ++ qs) ++ ms) part 1 (two + node_count m) (rest_after p rest Splits) rest start tail between after due (one_node w part p rest Splits start tail between due h g)
+    (then_ends w (test part NodeNotAllowed (Fits w p Splits) ∷ []) ((zs ++ qs) ++ ms) part 1 (two + node_count m) (rest_after p rest Splits) rest start tail between after due (one_node w part p rest Splits start tail between due h g)
     (λ others go e. then_ends w (zs ++ qs) ms (part + 1) two (node_count m) ((p ++ Minus ∷ []) ∷ rest) rest others tail (nodes m ++ after) after due
     (then_ends w zs qs (part + 1) (node_count z) (node_count q) ((p ++ Plus ∷ []) ∷ (p ++ Minus ∷ []) ∷ rest) ((p ++ Minus ∷ []) ∷ rest) others tail (nodes q ++ (nodes m ++ after)) (nodes m ++ after) due
     (ends w ra rb (part + 1) z (p ++ Zero ∷ []) ((p ++ Plus ∷ []) ∷ (p ++ Minus ∷ []) ∷ rest) others tail (nodes q ++ (nodes m ++ after)) due f.2

@@ -1,5 +1,5 @@
 -- The tests of the trees of question 13 are those by the shape of the network and of the vector of question 12.
-use Rattle.std.proofs.Common.{◌≡◌, ℕ, ◌+◌, inl, inr, List, [], ◌∷◌, ◌++◌, refl, sym, subst, ◌∙◌}
+use Rattle.std.proofs.Common.{◌≡◌, ℕ, ◌+◌, inl, inr, List, [], ◌∷◌, ◌++◌, refl, sym, ap, subst, ◌∙◌}
 use Rattle.std.specs.Prelude.{ℤ, Option, ◌↔◌}
 use Rattle.std.specs.Option.{IsSomeAnd}
 use Rattle.crn_vec.specs.declared.signs.Sign.{Sign}
@@ -17,6 +17,7 @@ use Rattle.crn_cert.specs.TreeTests.{tree_tests}
 use Rattle.crn_cert.specs.Valid.{IsSignalNode, IsNodeOf}
 use Rattle.crn_ctree.specs.Laws.{SignalNodesAreOfShape, FirstSignalFaultsAreThoseOfTests, code_at}
 use Rattle.crn_ctree.proofs.FirstFails.{first_faults}
+use Rattle.crn_cert.specs.Faults.{fault_number}
 
 -- ---- the test of a node
 
@@ -36,7 +37,7 @@ signal_nodes net earlier turn g s p said known sh =
 record AreAlike (t u : Test) : Type 0 where
   holds : t.holds ↔ u.holds
   part : t.part ≡ u.part
-  code : t.code ≡ u.code
+  fault : t.fault ≡ u.fault
 
 abbrev Alike : List Test → List Test → Type 0
 Alike [] [] = Unit {0}
@@ -54,7 +55,7 @@ alike_fails : (ts us : List Test) (part code : ℕ) → Alike ts us → FailsFir
 alike_fails [] [] part code h f = absurd f
 alike_fails [] (u ∷ us) part code h f = absurd h
 alike_fails (t ∷ ts) [] part code h f = absurd h
-alike_fails (t ∷ ts) (u ∷ us) part code h (inl f) = inl ((λ u_holds. f.0 (h.0.holds.1 u_holds)), sym h.0.part ∙ f.1, sym h.0.code ∙ f.2)
+alike_fails (t ∷ ts) (u ∷ us) part code h (inl f) = inl ((λ u_holds. f.0 (h.0.holds.1 u_holds)), sym h.0.part ∙ f.1, ap fault_number (sym h.0.fault) ∙ f.2)
 alike_fails (t ∷ ts) (u ∷ us) part code h (inr f) = inr (h.0.holds.0 f.0, alike_fails ts us part code h.1 f.1)
 
 -- tests of nodes that agree give tests of trees that agree

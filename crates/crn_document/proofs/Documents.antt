@@ -22,6 +22,7 @@ use Rattle.crn_document.specs.Inner.Opening.{count_course, network_course, title
 use Rattle.crn_document.proofs.Bodies.{last_all, last_then}
 use Rattle.crn_io.proofs.CallerLemmas.{Consumes-none}
 use Rattle.crn_document.proofs.Texts.{text_fails, text_gives, text_stops}
+use Rattle.crn_cert.specs.Faults.{BadNetwork}
 
 -- ---- the parts of a document
 
@@ -31,7 +32,7 @@ after_network version count net = rest_course version (3 + count) net
 
 -- what follows the number of its lines
 abbrev pub after_count : (version count : ℕ) → Course ReadOf
-after_count version count = asks_lines count >>= (λ lines. find (2 + count) 22 Net (IsNetworkOf lines) >>= (λ net. after_network version count net))
+after_count version count = asks_lines count >>= (λ lines. find (2 + count) BadNetwork Net (IsNetworkOf lines) >>= (λ net. after_network version count net))
 
 -- what follows the title
 abbrev pub after_title : (version : ℕ) → Course ReadOf
@@ -53,7 +54,7 @@ count_then version count result old mid before between now p same q = last_then 
 pub network_all : (version count : ℕ) (result : Result Accepted CheckStop) (old : Reading) (before now : SourceSeen)
     → LastIs (network_course count >>= after_network version count) IsWhole result old before now → LastIs (after_count version count) IsWhole result old before now
 network_all version count result old before now p =
-    last_all (asks_lines count) (λ lines. find (2 + count) 22 Net (IsNetworkOf lines)) (after_network version count) IsWhole result old before now p
+    last_all (asks_lines count) (λ lines. find (2 + count) BadNetwork Net (IsNetworkOf lines)) (after_network version count) IsWhole result old before now p
 
 -- what follows a network that was read
 pub network_then : (version count : ℕ) (net : Net) (result : Result Accepted CheckStop) (old mid : Reading) (before between now : SourceSeen)

@@ -17,6 +17,7 @@ use Rattle.crn_document.specs.Inner.Steps.{StopIs, StepIs}
 use Rattle.crn_document.specs.Inner.Trees.{after_node, asks_due, asks_one, node_test}
 use Rattle.crn_document.proofs.Steps.{step_gives, step_then_is, stop_first}
 use Rattle.crn_document.proofs.CoursesFollowed.{Follows, follows_on, follows_after, to_right, to_left, none_after, test_holds, test_breaks, step_follows, stop_follows}
+use Rattle.crn_cert.specs.Faults.{NodeNotAllowed}
 
 -- ---- prefixes
 
@@ -91,7 +92,7 @@ inner_node : (version : ℕ) (table : List (List ℤ)) (p : Problem) (more : ℕ
     → Follows (node_test p prefix n node >>= (λ x. asks_due version table p (after_node prefix due node) (n + 1))) (goes_on p prefix n node (split_course version table p more more more (all_zero prefix) prefix n) >>= (λ m. asks_due version table p due m))
 inner_node version table p more prefix due n e Split =
     let c = asks_due version table p (children prefix ++ due) (n + 1) in
-    follows_on (test n 42 (length prefix < p.choices) >>= (λ x. c)) c (split_course version table p more more more (all_zero prefix) prefix n >>= (λ m. asks_due version table p due m))
+    follows_on (test n NodeNotAllowed (length prefix < p.choices) >>= (λ x. c)) c (split_course version table p more more more (all_zero prefix) prefix n >>= (λ m. asks_due version table p due m))
     (test_holds n 42 (length prefix < p.choices) c (omega (arith, e))) (children_follow version table p more prefix due n e)
 inner_node version table p more prefix due n e Flat = to_left (leaf p prefix n Flat) (λ x. Give (n + 1)) (λ m. asks_due version table p due m)
 inner_node version table p more prefix due n e (CutA shared u) = to_left (leaf p prefix n (CutA shared u)) (λ x. Give (n + 1)) (λ m. asks_due version table p due m)

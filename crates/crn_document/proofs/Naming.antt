@@ -16,6 +16,7 @@ use Rattle.crn_ctext.specs.declared.expect.Expect.{Expect}
 use Rattle.crn_ctext.specs.declared.word.Word.TheVariants as words
 use Rattle.crn_ctext.proofs.CallerLemmas.{AreShort, split_known, text_says}
 use Rattle.crn_document.specs.Inner.Trees.{HasNodeDue, NamesTo}
+use Rattle.crn_cert.specs.Faults.{TreeEndsEarly}
 
 -- ---- the record
 
@@ -71,10 +72,10 @@ gives_b n a b k place at low high lt =
     (codes "refb", (begins, known_b), (tt, (λ e. absurd cc), (tt, (form, is, refl), (tt, (form, r, is, says, shaped), (r, (says, (form, is, fits)), (refl, refl))))))
 
 -- what is read at a node of version 2
-at_node : (e : Expect) (n a b k : ℕ) (line : List ℕ) (r : Record) (at : Place) → e.version ≡ 2 → e.due ≡ due_kinds.Node a b k → Gives (reads 2 n false (node_forms 2 a b k) 43 line) at r at → Gives (tests_of e n line) at r at
+at_node : (e : Expect) (n a b k : ℕ) (line : List ℕ) (r : Record) (at : Place) → e.version ≡ 2 → e.due ≡ due_kinds.Node a b k → Gives (reads 2 n false (node_forms 2 a b k) TreeEndsEarly line) at r at → Gives (tests_of e n line) at r at
 at_node e n a b k line r at v d g =
     subst (λ (x : Due). Gives (reads e.version n (is_after x e.after_tree) (due_forms x e.version (sizes_of e.sizes)) (misplaced x) line) at r at) (sym d)
-    (subst (λ (m : ℕ). Gives (reads m n false (node_forms m a b k) 43 line) at r at) (sym v) g)
+    (subst (λ (m : ℕ). Gives (reads m n false (node_forms m a b k) TreeEndsEarly line) at r at) (sym v) g)
 
 pub reads_a : (e : Expect) (k place : ℕ) (line : List ℕ) → NamesTo e k → 1 ≤ place → place ≤ k → place < 2 ^ 32 → line ≡ codes "refa " ++ decimal place → IsReadAs e line words.RefA (pos place ∷ [])
 reads_a e k place line h low high lt same = record {

@@ -37,16 +37,17 @@ use Rattle.crn_document.specs.declared.fault.CheckStop.{CheckStop}
 use Rattle.crn_document.specs.Inner.Steps.{CanRead, StopIs}
 use Rattle.crn_document.specs.Inner.Trees.{ExpectsNode, IsNode, IsSaidAs, JudgeGives, Leaves, TakesSome, after_node, asks_node_for, asks_one, choices_in, count_a, node_test, problem_in}
 use Rattle.crn_document.proofs.Steps.{stop_first, tests_fail, tests_give}
+use Rattle.crn_cert.specs.Faults as kinds
 
 -- ---- the node that is due
 
-abbrev node_by : ℕ → ℕ → Bool → List Form → ℕ → Course Record
+abbrev node_by : ℕ → ℕ → Bool → List Form → kinds.Fault → Course Record
 node_by version n after forms mis = due true >>= (λ line. reads version n after forms mis line)
 
 -- what is said of the node that is due is said of the node of these forms
 pub as_node : (P : Course Record → Type 0) (e : Expect) (version n count species shared : ℕ) → ExpectsNode e version count species shared → P (asks_node_for e n) → P (asks_node version n (node_forms version count species shared))
 as_node P e version n count species shared x p =
-    subst (λ (v : ℕ). P (node_by v n false (node_forms v count species shared) 43)) x.of_version
+    subst (λ (v : ℕ). P (node_by v n false (node_forms v count species shared) kinds.TreeEndsEarly)) x.of_version
     (subst (λ (d : Due). P (node_by e.version n (is_after d e.after_tree) (due_forms d e.version (sizes_of e.sizes)) (misplaced d))) x.due p)
 
 -- a node that was read

@@ -22,14 +22,15 @@ use Rattle.crn_document.specs.declared.reading.Reading.{Reading}
 use Rattle.crn_document.specs.declared.fault.CheckStop.{CheckStop}
 use Rattle.crn_document.specs.Inner.Steps.{IsVersion, StepIs}
 use Rattle.crn_document.proofs.Steps.{step_gives, step_then_is, step_map}
+use Rattle.crn_cert.specs.Faults.{Fault, WrongOrder}
 
-abbrev course_by : ℕ → ℕ → Bool → List Form → ℕ → Course Record
+abbrev course_by : ℕ → ℕ → Bool → List Form → Fault → Course Record
 course_by version n after forms mis = due false >>= (λ line. reads version n after forms mis line)
 
 -- what is said of the record that is due is said of the record of these forms
 pub as_expected : (P : Course Record → Type 0) (e : Expect) (version n : ℕ) (after : Bool) (forms : List Form) → Expects e version after forms → P (asks_for e n) → P (asks version n after forms)
 as_expected P e version n after forms x p =
-    subst (λ (m : ℕ). P (course_by version n after forms m)) x.misplaced
+    subst (λ (m : Fault). P (course_by version n after forms m)) x.misplaced
     (subst (λ (fs : List Form). P (course_by version n after fs (misplaced e.due))) x.has
     (subst (λ (b : Bool). P (course_by version n b (forms_of e) (misplaced e.due))) x.by_tree
     (subst (λ (v : ℕ). P (course_by v n (is_after e.due e.after_tree) (forms_of e) (misplaced e.due))) x.of_version p)))
@@ -39,7 +40,7 @@ pub record DueFacts (complexes : ℕ) (form : Form) (d : Due) : Type 0 where
   pub has : (version : ℕ) (z : Sizes) → z.complexes ≡ complexes → due_forms d version z ≡ form ∷ []
   pub may : (version : ℕ) → MayBeDue d version
   pub after : (b : Bool) → b ≡ false → is_after d b ≡ false
-  pub misplaced : misplaced d ≡ 26
+  pub misplaced : misplaced d ≡ WrongOrder
   pub untagged : (z : Sizes) (r : Record) → tag_of d z r ≡ []
 
 own_facts : (c : ℕ) (form : Form) (d : Due) → IsOwnDue c form d → DueFacts c form d

@@ -9,13 +9,14 @@ use Rattle.crn_vec.specs.Vectors.{entry}
 use Rattle.crn_vec.specs.Strong.{ReactsTo}
 use Rattle.crn_vec.specs.CutPairs.{IsBetween}
 use Rattle.crn_cert.specs.Tests.{Test, test}
+use Rattle.crn_cert.specs.Faults.{BadVector}
 
 -- the tests of the rows of these members; the first of them is record `part`, and a missing row
 -- fails
 abbrev pub ordered_tests : (ℕ → List ℤ → Type 0) → ℕ → List ℕ → List (List ℤ) → List Test
-ordered_tests Holds part (r ∷ rs) (row ∷ rows) = test part 35 (Holds r row)
+ordered_tests Holds part (r ∷ rs) (row ∷ rows) = test part BadVector (Holds r row)
     ∷ ordered_tests Holds (suc part) rs rows
-ordered_tests Holds part (r ∷ rs) [] = test part 35 ⊥ ∷ []
+ordered_tests Holds part (r ∷ rs) [] = test part BadVector ⊥ ∷ []
 ordered_tests Holds part [] rows = []
 
 -- ---- sides

@@ -10,6 +10,7 @@ use Rattle.crn_ctext.specs.Course.{Course, due, find, ◌>>=◌}
 use Rattle.crn_ctext.specs.Blocks.{title, network_line, asks_lines, ended, IsNetworkOf}
 use Rattle.crn_ctext.specs.Meaning.{versions}
 use Rattle.crn_document.specs.declared.opening.TheConstants.{NETWORK_LINE}
+use Rattle.crn_cert.specs.Faults.{BadHeader, BadNetwork}
 
 -- the line is the title of this version
 abbrev pub IsTitleOf : List ℕ → ℕ → Type 0
@@ -31,15 +32,15 @@ IsCountOf line None = (count : ℕ) → SaysCount line count → ⊥
 
 -- the first line and its test
 abbrev pub title_course : Course ℕ
-title_course = due false >>= (λ line. find 1 21 ℕ (IsTitleOf line))
+title_course = due false >>= (λ line. find 1 BadHeader ℕ (IsTitleOf line))
 
 -- the second line and its test
 abbrev pub count_course : Course ℕ
-count_course = due false >>= (λ line. find 2 22 ℕ (SaysCount line))
+count_course = due false >>= (λ line. find 2 BadNetwork ℕ (SaysCount line))
 
 -- this many lines, and the network that they write
 abbrev pub network_course : ℕ → Course Net
-network_course count = asks_lines count >>= (λ lines. find (2 + count) 22 Net (IsNetworkOf lines))
+network_course count = asks_lines count >>= (λ lines. find (2 + count) BadNetwork Net (IsNetworkOf lines))
 
 -- a line that is longer than a line of a canonical text
 abbrev pub IsLongLine : List ℕ → Type 0

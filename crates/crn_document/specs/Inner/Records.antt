@@ -21,6 +21,7 @@ use Rattle.crn_document.specs.declared.parts.Part.{Part as RankPart}
 use Rattle.crn_document.specs.Inner.Parts.{members_of}
 use Rattle.crn_document.specs.declared.rows.Row.{Row}
 use Rattle.crn_document.specs.declared.rows.Row.TheVariants.{Label, Up, Depth, From, FromDepth, To, ToDepth, Level, Exit, Back, Base, Dual, Comb, VecOfReactions, VecOfSpecies, CutOfReactions, CutOfSpecies, VecOfComplexes, Side, Walk, Tie, Shelves, Mu, M, Alpha, Weights}
+use Rattle.crn_cert.specs.Faults.{WrongOrder}
 
 -- the record that is due at a line
 abbrev pub asks_for : Expect → (line : ℕ) → Course Record
@@ -33,7 +34,7 @@ pub record Expects (e : Expect) (version : ℕ) (after : Bool) (forms : List For
   pub of_version : e.version ≡ version
   pub by_tree : is_after e.due e.after_tree ≡ after
   pub has : forms_of e ≡ forms
-  pub misplaced : misplaced e.due ≡ 26
+  pub misplaced : misplaced e.due ≡ WrongOrder
 
 -- the record is one that was due, and these are its numbers, those of a head after the place of its
 -- form

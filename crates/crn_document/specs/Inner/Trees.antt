@@ -25,6 +25,7 @@ use Rattle.crn_ctree.specs.declared.node.Step.{Step}
 use Rattle.crn_ctree.specs.declared.node.Step.TheVariants.{More, Complete}
 use Rattle.crn_ctree.specs.declared.fault.TreeFault.{TreeFault}
 use Rattle.crn_document.specs.Inner.Records.{IsSaid}
+use Rattle.crn_cert.specs.Faults.{NodeNotAllowed}
 
 -- ---- the line of a node
 
@@ -104,7 +105,7 @@ problem_in net problem =
 
 -- the test of a node at a prefix: one that is full is not split
 abbrev pub node_test : Problem → List Sign → (line : ℕ) → Node → Course (Unit {0})
-node_test p prefix n Split = test n 42 (length prefix < p.choices)
+node_test p prefix n Split = test n NodeNotAllowed (length prefix < p.choices)
 node_test p prefix n Flat = leaf p prefix n Flat
 node_test p prefix n (CutA shared u) = leaf p prefix n (CutA shared u)
 node_test p prefix n (CutB shared u) = leaf p prefix n (CutB shared u)
