@@ -12,7 +12,7 @@ use Rattle.crn_cert.proofs.CallerLemmas.{hold_append}
 use Rattle.crn_ctree.specs.Due.{first}
 use Rattle.crn_ctree.specs.Laws.{code_at, FirstFaultsAreThoseOfTests}
 use Rattle.crn_ctree.proofs.NodeLaws.{children_zero, children_some}
-use Rattle.crn_cert.specs.Faults.{NodeNotAllowed}
+use Rattle.crn_cert.specs.Faults.{Fault, BadLeaf, NodeNotAllowed, fault_number}
 
 -- ---- lists of tests
 
@@ -48,12 +48,25 @@ recount w tests part a b rest start tail after due e h = subst (λ (n : ℕ). En
 repart : (w : Signed) (tests : List Test) (a b count : ℕ) (rest : List (List Sign)) (start tail after : List Said) (due : List (List Sign)) → a ≡ b → Ends w tests a count rest start tail after due → Ends w tests b count rest start tail after due
 repart w tests a b count rest start tail after due e h = subst (λ (n : ℕ). Ends w tests n count rest start tail after due) e h
 
+-- the kind of fault of a node that does not fit
+abbrev fault_at : Said → Fault
+fault_at Splits = NodeNotAllowed
+fault_at Flats = NodeNotAllowed
+fault_at (CutsA u) = BadLeaf
+fault_at (CutsB u) = BadLeaf
+
+number_at : (node : Said) → fault_number (fault_at node) ≡ code_at node
+number_at Splits = refl
+number_at Flats = refl
+number_at (CutsA u) = refl
+number_at (CutsB u) = refl
+
 -- one node
 one_node : (w : Signed) (part : ℕ) (p : List Sign) (rest : List (List Sign)) (node : Said) (start tail after : List Said) (due : List (List Sign)) → node ∷ after ≡ start ++ tail → Passing w (p ∷ rest) start due
-    → Ends w (test part (code_at node) (Fits w p node) ∷ []) part 1 (rest_after p rest node) start tail after due
+    → Ends w (test part (fault_at node) (Fits w p node) ∷ []) part 1 (rest_after p rest node) start tail after due
 one_node w part p rest node [] tail after due h done = inl (λ n more g bad.
     let e : node ≡ n = cc in
-    inl ((λ t. bad (subst (λ (s : Said). Fits w p s) e t)), omega arith, ap code_at e))
+    inl ((λ t. bad (subst (λ (s : Said). Fits w p s) e t)), omega arith, number_at node ∙ ap code_at e))
 one_node w part p rest node (x ∷ start) tail after due h (then fits g) =
     let e : x ≡ node = cc in
     let t : after ≡ start ++ tail = cc in

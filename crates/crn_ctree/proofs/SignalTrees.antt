@@ -61,22 +61,22 @@ alike_fails (t ∷ ts) (u ∷ us) part code h (inr f) = inr (h.0.holds.0 f.0, al
 -- tests of nodes that agree give tests of trees that agree
 alike_trees : (H K : List Sign → Said → Type 0) → ((p : List Sign) (said : Said) → H p said ↔ K p said) → (part : ℕ) (p : List Sign) (t : Plan) → Alike (tree_tests H part p t) (tree_tests K part p t)
 alike_trees H K f part p (Both z q) = (
-  record { holds = f p _; part = refl; code = refl },
+  record { holds = f p _; part = refl; fault = refl },
   alike_append (tree_tests H (part + 1) (p ++ Zero ∷ []) z) (tree_tests K (part + 1) (p ++ Zero ∷ []) z) (tree_tests H (part + 1 + node_count z) (p ++ Plus ∷ []) q) (tree_tests K (part + 1 + node_count z) (p ++ Plus ∷ []) q)
       (alike_trees H K f (part + 1) (p ++ Zero ∷ []) z) (alike_trees H K f (part + 1 + node_count z) (p ++ Plus ∷ []) q),
 )
 alike_trees H K f part p (Three z q m) =
     let last = part + 1 + node_count z + node_count q in (
-      record { holds = f p _; part = refl; code = refl },
+      record { holds = f p _; part = refl; fault = refl },
       alike_append (tree_tests H (part + 1) (p ++ Zero ∷ []) z ++ tree_tests H (part + 1 + node_count z) (p ++ Plus ∷ []) q) (tree_tests K (part + 1) (p ++ Zero ∷ []) z ++ tree_tests K (part + 1 + node_count z) (p ++ Plus ∷ []) q)
           (tree_tests H last (p ++ Minus ∷ []) m) (tree_tests K last (p ++ Minus ∷ []) m)
           (alike_append (tree_tests H (part + 1) (p ++ Zero ∷ []) z) (tree_tests K (part + 1) (p ++ Zero ∷ []) z) (tree_tests H (part + 1 + node_count z) (p ++ Plus ∷ []) q) (tree_tests K (part + 1 + node_count z) (p ++ Plus ∷ []) q)
           (alike_trees H K f (part + 1) (p ++ Zero ∷ []) z) (alike_trees H K f (part + 1 + node_count z) (p ++ Plus ∷ []) q))
           (alike_trees H K f last (p ++ Minus ∷ []) m),
     )
-alike_trees H K f part p (RulesA u) = (record { holds = f p _; part = refl; code = refl }, tt)
-alike_trees H K f part p (RulesB u) = (record { holds = f p _; part = refl; code = refl }, tt)
-alike_trees H K f part p Level = (record { holds = f p _; part = refl; code = refl }, tt)
+alike_trees H K f part p (RulesA u) = (record { holds = f p _; part = refl; fault = refl }, tt)
+alike_trees H K f part p (RulesB u) = (record { holds = f p _; part = refl; fault = refl }, tt)
+alike_trees H K f part p Level = (record { holds = f p _; part = refl; fault = refl }, tt)
 
 pub first_signal_faults : FirstSignalFaultsAreThoseOfTests
 first_signal_faults net known turn g s ra rb part tree start more node due vector sh formed are passes bad =
