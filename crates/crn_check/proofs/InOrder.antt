@@ -3,6 +3,8 @@ use Rattle.std.proofs.Common.{◌≡◌, inl, Bool, true, false, ℕ, suc, ◌+�
 use Rattle.std.specs.Prelude.{ℤ, filter}
 use Rattle.std.specs.List.{range_with_len}
 use Rattle.std.proofs.lemmas.List.{drop_more}
+use Rattle.crn_cert.specs.Tests.{test}
+use Rattle.crn_cert.specs.Faults.{BadVector}
 use Rattle.crn_check.specs.declared.fault.CheckFault.{CheckFault}
 use Rattle.crn_check.specs.Check.{Judges}
 use Rattle.crn_check.specs.Inner.Ordered.{ordered_tests}
@@ -71,7 +73,7 @@ pub done_next : (Holds : ℕ → List ℤ → Type 0) (p : ℕ → Bool) (a n fi
 done_next Holds p a n first rows i done m h lt is hit holds = record {
   few = omega (arith, h.few);
   count = let e = ap (λ (l : List ℕ). length l) (rest_yes p a n i m lt is hit) in omega (arith, e, h.count);
-  judged = λ said j. tests_here Holds p a n first rows i done m h lt is hit said (judges_pass _ _ said holds (subst (λ (k : ℕ). Judges (ordered_tests Holds k (rest p a n (i + 1)) (drop (done + 1) rows)) said) (let e : first + (done + 1) ≡ suc (first + done) = omega arith in e) j));
+  judged = λ said j. tests_here Holds p a n first rows i done m h lt is hit said (judges_pass (test (first + done) BadVector (Holds m (get_or rows done []))) (ordered_tests Holds (suc (first + done)) (rest p a n (i + 1)) (drop (done + 1) rows)) said holds (subst (λ (k : ℕ). Judges (ordered_tests Holds k (rest p a n (i + 1)) (drop (done + 1) rows)) said) (let e : first + (done + 1) ≡ suc (first + done) = omega arith in e) j));
 }
 
 pub done_fails : (Holds : ℕ → List ℤ → Type 0) (p : ℕ → Bool) (a n first : ℕ) (rows : List (List ℤ)) (i done m part : ℕ) → AreDone Holds p a n first rows i done → i < n → m ≡ a + i → p m ≡ true → (Holds m (get_or rows done []) → ⊥) → part ≡ first + done → Judges (ordered_tests Holds first (filter p (range_with_len a n)) rows) (Err (record { code = 35; part = part }))

@@ -54,9 +54,10 @@ none_given given items rest earlier none same all order =
     (none, ap (λ (fs : List Fact). earlier_of fs) same ∙ all, omega (arith, ap (λ (fs : List Fact). length fs) same, length-map items (λ (f : Fact). f.question), order_few 0 (numbers_of items) order))
 
 -- and all at the end
-pub all_given : (given : List Verdict) (items rest : List Fact) (earlier : Earlier) → given ≡ map (λ (f : Fact). f.verdict) items → earlier_of (items ++ rest) ≡ earlier → rest ≡ [] → given ≡ map (λ (e : Question × Verdict). e.1) earlier
-all_given given items rest earlier is all none =
-    is ∙ verdicts_in_order items ∙ ap (λ (es : Earlier). map (λ (e : Question × Verdict). e.1) es) (sym (ap (λ (fs : List Fact). earlier_of (items ++ fs)) none ∙ ap (λ (fs : List Fact). earlier_of fs) (append-nil items)) ∙ all)
+pub all_given : (given : List Verdict) (items rest : List Fact) (earlier : Earlier) → given ≡ map (λ (f : Fact). f.verdict) items → earlier_of (items ++ rest) ≡ earlier → length rest ≡ 0 → given ≡ map (λ (e : Question × Verdict). e.1) earlier
+all_given given items [] earlier is all none =
+    is ∙ verdicts_in_order items ∙ ap (λ (es : Earlier). map (λ (e : Question × Verdict). e.1) es) (sym (ap (λ (fs : List Fact). earlier_of fs) (append-nil items)) ∙ all)
+all_given given items (f ∷ rest) earlier is all none = absurd (omega (arith, none))
 
 -- facts from a place on hold the verdict on a question, and it is that of all facts
 pub record IsAhead (facts : List Fact) (earlier : Earlier) (n : ℕ) : Type 0 where

@@ -9,6 +9,8 @@ use Rattle.crn_vec.specs.Lists.{IsIn, IsAbove, IsAscending}
 use Rattle.crn_vec.specs.Network.{Net}
 use Rattle.crn_vec.proofs.CallerLemmas.{any_is, above_ascending, above_lower, above_in}
 use Rattle.crn_cert.specs.RankTests.{IsComb, comb_tests, outside, vector_of}
+use Rattle.crn_cert.specs.Tests.{test}
+use Rattle.crn_cert.specs.Faults.{NotSpanned}
 use Rattle.crn_check.specs.declared.fault.CheckFault.{CheckFault}
 use Rattle.crn_check.specs.declared.members.Members.{Members}
 use Rattle.crn_check.specs.Check.{Judges}
@@ -146,7 +148,7 @@ pub passed_out : (net : Net) (vs : List (List ℤ)) (first : ℕ) (base : List �
 passed_out net vs first base m combs r done h lt has miss holds = record {
   few = omega (arith, h.few);
   count = let e = ap (λ (l : List ℕ). length l) (out_next net base m r lt has miss) in omega (arith, e, h.count);
-  judged = λ said j. tests_next net vs first base m combs r done h lt has miss said (judges_pass _ _ said holds (subst (λ (n : ℕ). Judges (comb_tests net vs n (outside base (left net m (r + 1))) (drop (done + 1) combs)) said) (let e : first + (done + 1) ≡ suc (first + done) = omega arith in e) j));
+  judged = λ said j. tests_next net vs first base m combs r done h lt has miss said (judges_pass (test (first + done) NotSpanned (IsComb vs (vector_of net (r + 1)) (get_or combs done []))) (comb_tests net vs (suc (first + done)) (outside base (left net m (r + 1))) (drop (done + 1) combs)) said holds (subst (λ (n : ℕ). Judges (comb_tests net vs n (outside base (left net m (r + 1))) (drop (done + 1) combs)) said) (let e : first + (done + 1) ≡ suc (first + done) = omega arith in e) j));
 }
 
 pub passed_fails : (net : Net) (vs : List (List ℤ)) (first : ℕ) (base : List ℕ) (m : Members) (combs : List (List ℤ)) (r done part : ℕ) → ArePassed net vs first base m combs r done → r < length net.reactions → is_member net m (r + 1) ≡ true → list_any (λ b. b == r + 1) base ≡ false → (IsComb vs (vector_of net (r + 1)) (get_or combs done []) → ⊥) → part ≡ first + done → Judges (comb_tests net vs first (outside base (members_of net m)) combs) (Err (record { code = 34; part = part }))

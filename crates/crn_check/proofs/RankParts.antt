@@ -9,6 +9,8 @@ use Rattle.crn_check.specs.Inner.Bases.{IsBase}
 use Rattle.crn_check.proofs.Widths.{vector_width}
 use Rattle.std.proofs.lemmas.List.{drop_more}
 use Rattle.crn_cert.specs.RankTests.{IsDual, dual_tests, vector_of, vectors_of}
+use Rattle.crn_cert.specs.Tests.{test}
+use Rattle.crn_cert.specs.Faults.{NotIndependent}
 use Rattle.crn_check.specs.declared.fault.CheckFault.{CheckFault}
 use Rattle.crn_check.specs.Check.{Judges}
 use Rattle.crn_check.proofs.Judging.{judges_pass}
@@ -38,7 +40,7 @@ dual_here vs first duals i h lt said j = h.judged said (subst (λ (ds : List (Li
 
 pub duals_next : (vs : List (List ℤ)) (first : ℕ) (duals : List (List ℤ)) (i : ℕ) → AreDuals vs first duals i → i < length duals → IsDual vs i (get_or duals i []) → AreDuals vs first duals (i + 1)
 duals_next vs first duals i h lt holds = record {
-  judged = λ said j. dual_here vs first duals i h lt said (judges_pass _ _ said holds (go said j));
+  judged = λ said j. dual_here vs first duals i h lt said (judges_pass (test (first + i) NotIndependent (IsDual vs i (get_or duals i []))) (dual_tests vs (suc (first + i)) (suc i) (drop (i + 1) duals)) said holds (go said j));
 }
   where
     go : (said : Result Unit CheckFault) → Judges (dual_tests vs (first + (i + 1)) (i + 1) (drop (i + 1) duals)) said → Judges (dual_tests vs (suc (first + i)) (suc i) (drop (i + 1) duals)) said

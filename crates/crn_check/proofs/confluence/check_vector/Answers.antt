@@ -2,8 +2,9 @@ use Rattle.std.proofs.Common.{◌≡◌, ◌-◌, ◌<◌, ◌∙◌, ℕ, List,
 use Rattle.std.specs.Prelude.{Some}
 use Rattle.crn_cert.specs.declared.answer.Verdict.{Verdict}
 use Rattle.crn_cert.specs.Questions.{labels_of, count_of}
-use Rattle.crn_cert.specs.Tests.{Test}
-use Rattle.crn_cert.specs.ConfluenceTests.{IsTie, least_from, others_than}
+use Rattle.crn_cert.specs.Faults.{BadVector}
+use Rattle.crn_cert.specs.Tests.{Test, test}
+use Rattle.crn_cert.specs.ConfluenceTests.{IsTie, least_from, others_than, tie_tests}
 use Rattle.crn_cert.specs.Valid.{linkage, linkage_count, IsNormal}
 use Rattle.crn_check.specs.Check.{Judges}
 use Rattle.crn_check.specs.Inner.Ordered.{IsSpared, ordered_tests, tied}
@@ -45,4 +46,4 @@ returns c =
     let same = ap₂ (λ (l : List ℕ) (n : ℕ). ordered_tests (IsTie net l n (IsSpared (Some c.least.result))) 2 (tied net (Some c.least.result)) ties) labels count in
     let place = ap (λ (p : ℕ). ordered_tests (IsTie net (linkage earlier) (linkage_count earlier) (IsSpared (Some p))) 2 (tied net (Some p)) ties) c.least.ensures in
     let back = sym (ties_ordered net (linkage earlier) (linkage_count earlier) (λ d. d ≡ least_from 0 g) 2 (others_than net (least_from 0 g)) ties) in
-    judges_pass _ _ c.check_ties.result normal (subst (λ (ts : List Test). Judges ts c.check_ties.result) (same ∙ place ∙ back) c.check_ties.ensures)
+    judges_pass (test 1 BadVector (IsNormal net earlier g)) (tie_tests net (linkage earlier) (linkage_count earlier) (λ d. d ≡ least_from 0 g) 2 (others_than net (least_from 0 g)) ties) c.check_ties.result normal (subst (λ (ts : List Test). Judges ts c.check_ties.result) (same ∙ place ∙ back) c.check_ties.ensures)

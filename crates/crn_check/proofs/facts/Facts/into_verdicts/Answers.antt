@@ -1,4 +1,4 @@
-use Rattle.std.proofs.Common.{ap, rules}
+use Rattle.std.proofs.Common.{◌∙◌, ap, sym, rules}
 use Rattle.crn_check.specs.Facts.{KeptFacts}
 use Rattle.crn_check.proofs.Kept.{none_given, all_given}
 use Rattle.crn_check.proofs.facts.Facts.into_verdicts.Goals as goal
@@ -9,4 +9,5 @@ loop-fact-init c =
 
 pub returns : goal.returns
 returns c =
-    all_given c.loop-fact.verdicts c.loop-fact.yielded c.loop-fact.fact-iterator.rest.items c.args.self.earlier c.loop-fact.invariant.0 c.loop-fact.invariant.1 (search rules)
+    let none = rw c.in-None.is at c.next.ensures.steps in
+    all_given c.loop-fact.verdicts c.loop-fact.yielded c.loop-fact.fact-iterator.rest.items c.args.self.earlier c.loop-fact.invariant.0 c.loop-fact.invariant.1 (sym c.loop-fact.fact-iterator.rest.ok.0 ∙ none.0)
