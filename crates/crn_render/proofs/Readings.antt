@@ -8,6 +8,7 @@ use Rattle.crn_io.proofs.CallerLemmas.{flat_map_step, flat_map_whole}
 use Rattle.crn_vec.specs.Kept.{KeptInts, KeptNums}
 use Rattle.crn_vec.specs.Network.{Net}
 use Rattle.crn_cert.specs.Built.{built}
+use Rattle.crn_cert.specs.Verdicts.{tight}
 use Rattle.crn_cert.specs.FormedVerdicts.{IsFormedVerdict, AreFormedVerdicts}
 use Rattle.crn_cert.proofs.CallerLemmas.{numbered}
 use Rattle.crn_cert.specs.Questions.{Earlier, Question, number, Q1, Q2, Q3, Q4, Q11, Q14, Q15}

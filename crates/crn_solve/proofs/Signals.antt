@@ -1,5 +1,5 @@
 -- The answer on signals is one of the crate of signals, rests on an open verdict, or says that there is no vector.
-use Rattle.std.proofs.Common.{◌≡◌, ◌⊎◌, ℕ, inl, inr, List, [], ◌∷◌, refl, ap, sym, subst}
+use Rattle.std.proofs.Common.{◌≡◌, ◌∙◌, ◌⊎◌, ℕ, inl, inr, List, [], ◌∷◌, refl, ap, sym, subst}
 use Rattle.std.specs.Prelude.{◌↔◌, IsTrue, Bool, ℤ, Result, Ok, Err, IfOk}
 use Rattle.std.specs.Option.{IsSome, IsSomeAnd}
 use Rattle.std.proofs.lemmas.Bool.{false≢true}
