@@ -9,3 +9,7 @@ mod SharedWalks
 mod SharedClasses
 mod SharedRank
 mod SharedConcordance
+mod Primitive
+mod SharedConfluence
+mod FirstNumbers
+mod SharedSignals

@@ -7,8 +7,7 @@ use Rattle.crn_vec.specs.Vectors.{entry, column}
 use Rattle.crn_vec.specs.Strong.{IsReaction, ReactsTo}
 use Rattle.crn_vec.specs.Deficiency.{vectors}
 use Rattle.crn_vec.proofs.CallerLemmas.{entry-column, entry-listed, entry-minus, inside_at, length-column, length-listed, listed, place_of, reaction_in, vector_at, vector_long, vector_width, vectors_count}
-use Rattle.crn_laws.specs.Renumbered.{Renumbering, IsRenumbered}
-use Rattle.crn_laws.proofs.Totals.{IsMoved}
+use Rattle.crn_laws.specs.Renumbered.{IsMoved, Renumbering, IsRenumbered}
 
 abbrev pub turned : (n m : ℕ) → Renumbering n m → Renumbering m n
 turned n m p = record { to = p.back; back = p.to; to_below = p.back_below; back_below = p.to_below; back_to = p.to_back; to_back = p.back_to }

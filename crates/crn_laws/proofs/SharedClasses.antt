@@ -12,7 +12,7 @@ use Rattle.crn_laws.proofs.Renumberings.{turned_net}
 use Rattle.crn_laws.proofs.SharedDependence.{both_ways, dependent_anew}
 use Rattle.crn_laws.proofs.SharedWalks.{class_anew, leads_anew, linked_anew, number_anew, reaches_anew, reversible_anew, strong_anew, weakly_anew}
 
-linked_inside : (net : Net) → IsNetwork net → (y z : ℕ) → IsLinked net.reactions y z → IsComplex net y × IsComplex net z
+pub linked_inside : (net : Net) → IsNetwork net → (y z : ℕ) → IsLinked net.reactions y z → IsComplex net y × IsComplex net z
 linked_inside net n y z (inl i) = inside_at (length net.complexes) net.reactions n.partial.apart y z i
 linked_inside net n y z (inr i) = let b = inside_at (length net.complexes) net.reactions n.partial.apart z y i in (b.1, b.0)
 
@@ -20,7 +20,7 @@ linked_inside net n y z (inr i) = let b = inside_at (length net.complexes) net.r
 reached_inside : (net : Net) → IsNetwork net → (y z : ℕ) → IsComplex net y → Reaches net.reactions y z → IsComplex net z
 reached_inside net n y z inside walk = leads_keeps (ReactsTo net.reactions) (IsComplex net) (λ v w i h. (inside_at (length net.complexes) net.reactions n.partial.apart v w i).1) y z walk inside
 
-terminal_anew : (net other : Net) → IsNetwork net → IsNetwork other → (h : IsRenumbered net other) (y : ℕ) → IsComplex net y → IsTerminal net.reactions y → IsTerminal other.reactions (h.complexes.to y)
+pub terminal_anew : (net other : Net) → IsNetwork net → IsNetwork other → (h : IsRenumbered net other) (y : ℕ) → IsComplex net y → IsTerminal net.reactions y → IsTerminal other.reactions (h.complexes.to y)
 terminal_anew net other n o h y inside term z walk =
     let to = h.complexes.to in
     let back = h.complexes.back in
@@ -49,7 +49,7 @@ one_terminal_anew net other n o h one z inside =
 
 -- ---- cut pairs
 
-between_anew : (net other : Net) (h : IsRenumbered net other) (a b y z : ℕ) → IsComplex other a → IsComplex other b → IsComplex other y → IsComplex other z
+pub between_anew : (net other : Net) (h : IsRenumbered net other) (a b y z : ℕ) → IsComplex other a → IsComplex other b → IsComplex other y → IsComplex other z
     → IsBetween (h.complexes.back a) (h.complexes.back b) (h.complexes.back y) (h.complexes.back z) → IsBetween a b y z
 between_anew net other h a b y z la lb ly lz is =
     let same : (c d : ℕ) → IsComplex other c → IsComplex other d → h.complexes.back c ≡ h.complexes.back d → c ≡ d = λ c d lc ld e.
@@ -59,7 +59,7 @@ between_anew net other h a b y z la lb ly lz is =
       | inr e ↦ inr (same y b ly lb e.0, same z a lz la e.1)
     ]
 
-cut_anew : (net other : Net) → IsNetwork net → IsNetwork other → (h : IsRenumbered net other) (a b : ℕ) → IsLinked other.reactions a b → IsCutPair net.reactions (h.complexes.back a) (h.complexes.back b) → IsCutPair other.reactions a b
+pub cut_anew : (net other : Net) → IsNetwork net → IsNetwork other → (h : IsRenumbered net other) (a b : ℕ) → IsLinked other.reactions a b → IsCutPair net.reactions (h.complexes.back a) (h.complexes.back b) → IsCutPair other.reactions a b
 cut_anew net other n o h a b link cut =
     let ends = linked_inside other o a b link in
     let back = h.complexes.back in
@@ -70,7 +70,7 @@ cut_anew net other n o h a b link cut =
           (linked_anew other net (turned_net net other n h) y z free.0, λ is. free.1 (between_anew net other h a b y z ends.0 ends.1 at.0 at.1 is))) a b round);
     }
 
-regular_anew : (net other : Net) → IsNetwork net → IsNetwork other → IsRenumbered net other → IsRegular net → IsRegular other
+pub regular_anew : (net other : Net) → IsNetwork net → IsNetwork other → IsRenumbered net other → IsRegular net → IsRegular other
 regular_anew net other n o h regular =
     let back = h.complexes.back in
     let turned = turned_net net other n h in

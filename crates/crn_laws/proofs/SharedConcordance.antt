@@ -14,10 +14,9 @@ use Rattle.crn_vec.specs.NetSystems.{reaction_system}
 use Rattle.crn_vec.specs.Concordance.{sign, image, signed_by, shares, HasPositive, HasNegative, IsNought, GoesWith, IsDiscordant}
 use Rattle.crn_vec.specs.Influence.{plain_table, strong_table, IsConcordantNet, IsStronglyConcordantNet}
 use Rattle.crn_vec.proofs.CallerLemmas.{all_at, all_given, entry-minus, length-minus, networks_have_tables, rows_count, vector_long, zip_at, zip_from}
-use Rattle.crn_laws.specs.Renumbered.{Renumbering, IsRenumbered, RenumberedShareConcordance}
+use Rattle.crn_laws.specs.Renumbered.{IsMoved, Renumbering, IsRenumbered, RenumberedShareConcordance}
 use Rattle.crn_laws.proofs.SharedDependence.{combination_moved}
 use Rattle.crn_laws.proofs.Renumberings.{anew, end_at, ends_inside, entry_back, moved_anew, reaction_here, turned_net}
-use Rattle.crn_laws.proofs.Totals.{IsMoved}
 
 -- ---- signs of the entries of lists in another order
 

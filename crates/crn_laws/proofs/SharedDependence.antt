@@ -6,8 +6,8 @@ use Rattle.crn_vec.specs.Vectors.{dot, column}
 use Rattle.crn_vec.specs.Rank.{combination_at}
 use Rattle.crn_vec.specs.Deficiency.{IsPositive, IsPositivelyDependent, IsConservative, vectors}
 use Rattle.crn_vec.proofs.CallerLemmas.{all_at, all_given, combined_past, lt_or, vectors_count}
-use Rattle.crn_laws.specs.Renumbered.{Renumbering, IsRenumbered, IsShared, RenumberedShareDependence}
-use Rattle.crn_laws.proofs.Totals.{IsMoved, dot_moved}
+use Rattle.crn_laws.specs.Renumbered.{IsMoved, Renumbering, IsRenumbered, IsShared, RenumberedShareDependence}
+use Rattle.crn_laws.proofs.Totals.{dot_moved}
 use Rattle.crn_laws.proofs.Renumberings.{anew, column_moved, entry_back, moved_anew, turned_net, vector_moved}
 
 positive_moved : (n m : ℕ) (p : Renumbering n m) (xs ys : List ℤ) → IsMoved n m p xs ys → IsPositive xs → IsPositive ys

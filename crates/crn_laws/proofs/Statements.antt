@@ -3,14 +3,15 @@ use Rattle.std.proofs.Common.{◌≡◌, ◌⊎◌, ℕ, ◌<◌, ◌≤◌, inl
 use Rattle.std.specs.Prelude.{ℤ, pos}
 use Rattle.std.specs.List.{flat_map}
 use Rattle.std.specs.Str.{bytes_eq}
+use Rattle.std.proofs.lemmas.Int.{ints}
 use Rattle.std.proofs.lemmas.List.{ext_get_or, get_or-map}
 use Rattle.crn_vec.specs.Lists.{IsIn, firsts}
-use Rattle.crn_vec.specs.Network.{Net, IsNetwork, Statement, amount_at, amount_in, amounts_in, ends, names_in, said_by, sides_eq, sides_of}
-use Rattle.crn_vec.proofs.CallerLemmas.{at_in, firsts_from, firsts_has, in_at, in_flat_map, in_map, inside_at, lt_or, map_in, name_decides, of_flat_map, pair, place_of, same_place, sides_decide, vector_long}
+use Rattle.crn_vec.specs.Network.{Holds, Net, IsNetwork, Statement, amount_at, amount_in, amounts_in, ends, names_in, said_by, sides_eq, sides_of}
+use Rattle.crn_vec.proofs.CallerLemmas.{at_in, firsts_from, firsts_has, has_name, in_at, in_flat_map, in_left, in_map, in_right, inside_at, lt_or, map_in, name_decides, none_said, pair, place_of, same_place, sides_decide, vector_long}
 use Rattle.crn_text.specs.Sides.{all_statements}
 use Rattle.crn_text.specs.Spells.{Spells}
 use Rattle.crn_text.specs.Tokens.{lines}
-use Rattle.crn_laws.specs.Renumbered.{Renumbering, IsRenumbered, StatementsInAnyOrder}
+use Rattle.crn_laws.specs.Renumbered.{AreAlike, Renumbering, IsRenumbered, StatementsInAnyOrder}
 use Rattle.crn_laws.proofs.Renumberings.{end_at, ends_inside, reaction_here}
 
 -- ---- numbers that a relation matches one to one
@@ -57,14 +58,62 @@ record IsSaidBy (ss : List Statement) (net : Net) : Type 0 where
   reactions : map (sides_of net) net.reactions ≡ firsts sides_eq (map (said_by net.names) ss)
   network : IsNetwork net
 
+-- each statement is like one of the others
 abbrev Within : List Statement → List Statement → Type 0
-Within ss ts = (s : Statement) → IsIn s ss → IsIn s ts
+Within ss ts = (s : Statement) → IsIn s ss → (t : Statement) × IsIn t ts × AreAlike s t
+
+-- the statement that says a reaction
+record Says (ss : List Statement) (net : Net) (r : ℕ × ℕ) : Type 0 where
+  by : Statement
+  member : IsIn by ss
+  is : sides_of net r ≡ said_by net.names by
+
+says : (ss : List Statement) (net : Net) → IsSaidBy ss net → (r : ℕ × ℕ) → IsIn r net.reactions → Says ss net r
+says ss net p r i =
+    let S = List ℤ × List ℤ in
+    let mine = subst (λ (rs : List S). IsIn (sides_of net r) rs) p.reactions (map_in (sides_of net) net.reactions r i) in
+    let said = in_map (said_by net.names) ss (sides_of net r) (firsts_from sides_eq (map (said_by net.names) ss) (sides_of net r) mine) in
+    record { by = said.0; member = said.1; is = said.2 }
+
+-- a name of which a side says some is on it
+named : (side : List (List ℕ × ℕ)) (name : List ℕ) → 1 ≤ amount_in side name → IsIn name (map (λ t. t.0) side)
+named side name some = elim (has_name side name) as (λ _. IsIn name (map (λ t. t.0) side)) [
+  | inl i ↦ i
+  | inr none ↦ absurd (omega (arith, some, none_said side name none))
+]
+
+-- what holds of both complexes of each reaction holds of each complex that is in one
+in_reactions : (P : ℕ → Type 0) (rs : List (ℕ × ℕ)) (c : ℕ) → IsIn c (ends rs) → ((r : ℕ × ℕ) → IsIn r rs → P r.0 × P r.1) → P c
+in_reactions P [] c i h = absurd i
+in_reactions P (r ∷ rs) c (inl e) h = subst P (sym e) (h r (inl refl)).0
+in_reactions P (r ∷ rs) c (inr (inl e)) h = subst P (sym e) (h r (inl refl)).1
+in_reactions P (r ∷ rs) c (inr (inr i)) h = in_reactions P rs c i (λ q j. h q (inr j))
+
+-- the amount of a species in a complex is what a side says of its name
+amount_is : (net : Net) (side : List (List ℕ × ℕ)) (c s : ℕ) → s < length net.names → get_or net.complexes c [] ≡ amounts_in net.names side → amount_at net c s ≡ pos (amount_in side (get_or net.names s []))
+amount_is net side c s lt e = ap (λ (v : List ℤ). get_or v s (pos 0)) e ∙ get_or-map (λ name. pos (amount_in side name)) net.names s [] (pos 0) lt
 
 name_there : (ss ts : List Statement) (net other : Net) → IsSaidBy ss net → IsSaidBy ts other → Within ss ts → (name : List ℕ) → IsIn name net.names → IsIn name other.names
 name_there ss ts net other p q within name i =
-    let said = of_flat_map names_in ss name (firsts_from bytes_eq (flat_map names_in ss) name (subst (λ (ns : List (List ℕ)). IsIn name ns) p.names i)) in
-    subst (λ (ns : List (List ℕ)). IsIn name ns) (sym q.names)
-    (firsts_has bytes_eq (λ a b. name_decides b a) (flat_map names_in ts) name (in_flat_map names_in ts said.0 name (within said.0 said.1) said.2))
+    let at = in_at name net.names [] i in
+    let s = at.0 in
+    let held = p.network.partial.each_in_a_complex s at.1 in
+    let listed : (t : Statement) → IsIn t ts → IsIn name (names_in t) → IsIn name other.names = λ t j k.
+    subst (λ (ns : List (List ℕ)). IsIn name ns) (sym q.names) (firsts_has bytes_eq (λ a b. name_decides b a) (flat_map names_in ts) name (in_flat_map names_in ts t name j k)) in
+    let some : (side : List (List ℕ × ℕ)) (c : ℕ) → get_or net.complexes c [] ≡ amounts_in net.names side → Holds net c s → 1 ≤ amount_in side name = λ side c e holds.
+    let a = amount_is net side c s at.1 e in
+    let b : amount_in side (get_or net.names s []) ≡ amount_in side name = ap (amount_in side) at.2 in
+    omega (arith, ints, a, b, holds) in
+    in_reactions (λ c. Holds net c s → IsIn name other.names) net.reactions held.0 (p.network.partial.each_in_a_reaction held.0 held.1) (λ r j.
+    let said = says ss net p r j in
+    let x = said.by.0 in
+    let y = said.by.1 in
+    let t = within said.by said.member in
+    let left : get_or net.complexes r.0 [] ≡ amounts_in net.names x = ap (λ (w : List ℤ × List ℤ). w.0) said.is in
+    let right : get_or net.complexes r.1 [] ≡ amounts_in net.names y = ap (λ (w : List ℤ × List ℤ). w.1) said.is in (
+      λ holds. listed t.0 t.1 (in_left name (map (λ t. t.0) t.0.0) (map (λ t. t.0) t.0.1) (named t.0.0 name (omega (arith, some x r.0 left holds, (t.2 name).0)))),
+      λ holds. listed t.0 t.1 (in_right name (map (λ t. t.0) t.0.0) (map (λ t. t.0) t.0.1) (named t.0.1 name (omega (arith, some y r.1 right holds, (t.2 name).1)))),
+    )) held.2
 
 -- a complex of each network with the same amount of each name
 abbrev SameAmounts : Net → Net → ℕ → ℕ → Type 0
@@ -76,36 +125,29 @@ record SameReaction (net other : Net) (r : ℕ × ℕ) : Type 0 where
   reactant : SameAmounts net other r.0 there.0
   product : SameAmounts net other r.1 there.1
 
--- complexes that one side gives the amounts of
-same_side : (net other : Net) (side : List (List ℕ × ℕ)) (c d : ℕ) → get_or net.complexes c [] ≡ amounts_in net.names side → get_or other.complexes d [] ≡ amounts_in other.names side → SameAmounts net other c d
-same_side net other side c d e f s t ls lt same =
-    ap (λ (v : List ℤ). get_or v s (pos 0)) e
-    ∙ get_or-map (λ name. pos (amount_in side name)) net.names s [] (pos 0) ls
-    ∙ ap (λ (name : List ℕ). pos (amount_in side name)) same
-    ∙ sym (get_or-map (λ name. pos (amount_in side name)) other.names t [] (pos 0) lt)
-    ∙ ap (λ (v : List ℤ). get_or v t (pos 0)) (sym f)
+-- complexes that sides with the same amounts give
+same_side : (net other : Net) (x y : List (List ℕ × ℕ)) → ((name : List ℕ) → amount_in x name ≡ amount_in y name) → (c d : ℕ) → get_or net.complexes c [] ≡ amounts_in net.names x → get_or other.complexes d [] ≡ amounts_in other.names y → SameAmounts net other c d
+same_side net other x y alike c d e f s t ls lt same =
+    amount_is net x c s ls e
+    ∙ ap (λ (name : List ℕ). pos (amount_in x name)) same
+    ∙ ap pos (alike (get_or other.names t []))
+    ∙ sym (amount_is other y d t lt f)
 
 reaction_there : (ss ts : List Statement) (net other : Net) → IsSaidBy ss net → IsSaidBy ts other → Within ss ts → (r : ℕ × ℕ) → IsIn r net.reactions → SameReaction net other r
 reaction_there ss ts net other p q within r i =
     let S = List ℤ × List ℤ in
-    let mine = subst (λ (rs : List S). IsIn (sides_of net r) rs) p.reactions (map_in (sides_of net) net.reactions r i) in
-    let said = in_map (said_by net.names) ss (sides_of net r) (firsts_from sides_eq (map (said_by net.names) ss) (sides_of net r) mine) in
-    let s = said.0 in
-    let there = firsts_has sides_eq sides_decide (map (said_by other.names) ts) (said_by other.names s) (map_in (said_by other.names) ts s (within s said.1)) in
-    let of = in_map (sides_of other) other.reactions (said_by other.names s) (subst (λ (rs : List S). IsIn (said_by other.names s) rs) (sym q.reactions) there) in
+    let said = says ss net p r i in
+    let s = said.by in
+    let like = within s said.member in
+    let t = like.0 in
+    let there = firsts_has sides_eq sides_decide (map (said_by other.names) ts) (said_by other.names t) (map_in (said_by other.names) ts t like.1) in
+    let of = in_map (sides_of other) other.reactions (said_by other.names t) (subst (λ (rs : List S). IsIn (said_by other.names t) rs) (sym q.reactions) there) in
     record {
       there = of.0;
       member = of.1;
-      reactant = same_side net other s.0 r.0 of.0.0 (ap (λ (w : S). w.0) said.2) (sym (ap (λ (w : S). w.0) of.2));
-      product = same_side net other s.1 r.1 of.0.1 (ap (λ (w : S). w.1) said.2) (sym (ap (λ (w : S). w.1) of.2));
+      reactant = same_side net other s.0 t.0 (λ name. (like.2 name).0) r.0 of.0.0 (ap (λ (w : S). w.0) said.is) (sym (ap (λ (w : S). w.0) of.2));
+      product = same_side net other s.1 t.1 (λ name. (like.2 name).1) r.1 of.0.1 (ap (λ (w : S). w.1) said.is) (sym (ap (λ (w : S). w.1) of.2));
     }
-
--- what holds of both complexes of each reaction holds of each complex that is in one
-in_reactions : (P : ℕ → Type 0) (rs : List (ℕ × ℕ)) (c : ℕ) → IsIn c (ends rs) → ((r : ℕ × ℕ) → IsIn r rs → P r.0 × P r.1) → P c
-in_reactions P [] c i h = absurd i
-in_reactions P (r ∷ rs) c (inl e) h = subst P (sym e) (h r (inl refl)).0
-in_reactions P (r ∷ rs) c (inr (inl e)) h = subst P (sym e) (h r (inl refl)).1
-in_reactions P (r ∷ rs) c (inr (inr i)) h = in_reactions P rs c i (λ q j. h q (inr j))
 
 complex_there : (ss ts : List Statement) (net other : Net) → IsSaidBy ss net → IsSaidBy ts other → Within ss ts → (c : ℕ) → c < length net.complexes → (d : ℕ) × (d < length other.complexes) × SameAmounts net other c d
 complex_there ss ts net other p q within c lt =
@@ -193,4 +235,4 @@ said text net h = record { names = h.names; reactions = h.reactions; network = h
 
 pub statements_in_any_order : StatementsInAnyOrder
 statements_in_any_order text another net other p q same =
-    renumbered (all_statements (lines text)) (all_statements (lines another)) net other (said text net p) (said another other q) (λ s. (same s).0) (λ s. (same s).1)
+    renumbered (all_statements (lines text)) (all_statements (lines another)) net other (said text net p) (said another other q) same.0 same.1

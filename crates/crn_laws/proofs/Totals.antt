@@ -4,7 +4,7 @@ use Rattle.std.specs.Prelude.{ℤ, pos, ◌+ℤ◌, ◌*ℤ◌}
 use Rattle.std.proofs.lemmas.Int.{ints}
 use Rattle.crn_vec.specs.Vectors.{entry, dot}
 use Rattle.crn_vec.proofs.CallerLemmas.{eq_or}
-use Rattle.crn_laws.specs.Renumbered.{Renumbering}
+use Rattle.crn_laws.specs.Renumbered.{IsMoved, Renumbering}
 
 -- f 0 + f 1 + .. , n terms
 abbrev pub total : ℕ → (ℕ → ℤ) → ℤ
@@ -77,12 +77,6 @@ dot_total : (xs ys : List ℤ) → length xs ≡ length ys → dot xs ys ≡ tot
 dot_total [] ys e = refl
 dot_total (x ∷ xs) [] e = absurd (omega (arith, e))
 dot_total (x ∷ xs) (y ∷ ys) e = omega (arith, ints, dot_total xs ys (omega (arith, e)))
-
--- the second list is the first with its places numbered anew
-pub record IsMoved (n m : ℕ) (p : Renumbering n m) (xs ys : List ℤ) : Type 0 where
-  pub long : length xs ≡ n
-  pub long_too : length ys ≡ m
-  pub same : (k : ℕ) → k < n → entry ys (p.to k) ≡ entry xs k
 
 pub dot_moved : (n m : ℕ) (p : Renumbering n m) (xs ys us vs : List ℤ) → IsMoved n m p xs ys → IsMoved n m p us vs → dot ys vs ≡ dot xs us
 dot_moved n m p xs ys us vs a b =

@@ -2,13 +2,16 @@
 -- they are if the lines of its text are put in another order.
 -- Source: this project's own.
 -- Shapes: species, complexes and reactions count from 0.
-use Rattle.std.specs.Prelude.{◌≡◌, ◌<◌, ◌↔◌, ℕ, List, length}
+use Rattle.std.specs.Prelude.{◌≡◌, ◌<◌, ◌⊎◌, ◌↔◌, ℕ, ℤ, List, length}
 use Rattle.crn_vec.specs.Lists.{IsIn}
-use Rattle.crn_vec.specs.Network.{Net, IsNetwork, Statement, amount_at}
+use Rattle.crn_vec.specs.Network.{Net, IsNetwork, Statement, amount_at, amount_in}
+use Rattle.crn_vec.specs.Vectors.{entry}
 use Rattle.crn_vec.specs.Rank.{IsRank}
 use Rattle.crn_vec.specs.Strong.{IsReaction, IsReversible, IsWeaklyReversible}
 use Rattle.crn_vec.specs.Deficiency.{vectors, IsDeficiency, IsPositivelyDependent, IsConservative, HasOneTerminalEach}
-use Rattle.crn_vec.specs.Confluence.{IsRegular}
+use Rattle.crn_vec.specs.Confluence.{HasConfluenceLine, IsNormalVector, IsRegular, negative}
+use Rattle.crn_vec.specs.NetSignals.{IsSignalOf}
+use Rattle.crn_vec.specs.declared.signs.Sign.{Sign}
 use Rattle.crn_vec.specs.Influence.{IsConcordantNet, IsStronglyConcordantNet}
 use Rattle.crn_text.specs.Tokens.{lines}
 use Rattle.crn_text.specs.Sides.{all_statements}
@@ -23,6 +26,12 @@ pub record Renumbering (n m : ℕ) : Type 0 where
   pub back_to : (k : ℕ) → k < n → back (to k) ≡ k
   pub to_back : (k : ℕ) → k < m → to (back k) ≡ k
 
+-- the second list is the first with its places numbered anew
+pub record IsMoved (n m : ℕ) (p : Renumbering n m) (xs ys : List ℤ) : Type 0 where
+  pub long : length xs ≡ n
+  pub long_too : length ys ≡ m
+  pub same : (k : ℕ) → k < n → entry ys (p.to k) ≡ entry xs k
+
 -- the other network is this one with its species, complexes and reactions numbered anew: each
 -- complex has the same amounts, and each reaction the same two complexes
 pub record IsRenumbered (net other : Net) : Type 0 where
@@ -34,12 +43,21 @@ pub record IsRenumbered (net other : Net) : Type 0 where
   pub ends : (r y z : ℕ) → IsReaction net.reactions r y z
       → IsReaction other.reactions (reactions.to r) (complexes.to y) (complexes.to z)
 
--- each statement of one text is a statement of the other
-abbrev pub SayTheSame : List ℕ → List ℕ → Type 0
-SayTheSame text another = (s : Statement)
-    → IsIn s (all_statements (lines text)) ↔ IsIn s (all_statements (lines another))
+-- the two statements say the same amount of each name on either side
+abbrev pub AreAlike : Statement → Statement → Type 0
+AreAlike s t = (name : List ℕ) → (amount_in s.0 name ≡ amount_in t.0 name)
+    × (amount_in s.1 name ≡ amount_in t.1 name)
 
--- texts with the same statements, in any order, spell the same network in another order
+-- each statement of the text is like one of the other
+abbrev pub IsSaidIn : List ℕ → List ℕ → Type 0
+IsSaidIn text another = (s : Statement) → IsIn s (all_statements (lines text))
+    → (t : Statement) × IsIn t (all_statements (lines another)) × AreAlike s t
+
+-- each of two texts says all that the other does, in any order of lines and of terms
+abbrev pub SayTheSame : List ℕ → List ℕ → Type 0
+SayTheSame text another = IsSaidIn text another × IsSaidIn another text
+
+-- texts that say the same spell the same network in another order
 abbrev pub StatementsInAnyOrder : Type 0
 StatementsInAnyOrder = (text another : List ℕ) (net other : Net) → Spells text net
     → Spells another other → SayTheSame text another → IsRenumbered net other
@@ -70,3 +88,29 @@ pub record RenumberedShareDependence : Type 0 where
 pub record RenumberedShareConcordance : Type 0 where
   pub concordant : IsShared IsConcordantNet
   pub strongly_concordant : IsShared IsStronglyConcordantNet
+
+-- the second vector over the complexes is the first, numbered anew
+abbrev pub IsVectorAnew : (net other : Net) → IsRenumbered net other → List ℤ → List ℤ → Type 0
+IsVectorAnew net other h g k =
+    IsMoved (length net.complexes) (length other.complexes) h.complexes g k
+
+-- the normal confluence vector of a regular network is that of each renumbered one, numbered anew,
+-- or the negative of that, and then the network is weakly reversible
+pub record RenumberedShareConfluence : Type 0 where
+  pub line : IsShared HasConfluenceLine
+  pub vector : (net other : Net) (h : IsRenumbered net other) (g k : List ℤ) → IsNetwork net
+      → IsNetwork other → IsRegular net → HasConfluenceLine net
+      → IsNormalVector net g → IsNormalVector other k → IsVectorAnew net other h g k
+      ⊎ (IsVectorAnew net other h (negative g) k × IsWeaklyReversible net.reactions)
+
+-- there is a signal for g
+abbrev pub HasSignal : Net → List ℤ → Type 0
+HasSignal net g = (shelves : List Sign) × (mu : List ℤ) × (level : ℤ) × (weights : List ℤ)
+    × IsSignalOf net g shelves mu level weights
+
+-- there is a signal for a vector if and only if there is one, in a renumbered network, for the
+-- vector numbered anew
+abbrev pub RenumberedShareSignals : Type 0
+RenumberedShareSignals = (net other : Net) (h : IsRenumbered net other) (g k : List ℤ)
+    → IsNetwork net → IsNetwork other → IsVectorAnew net other h g k
+    → HasSignal net g ↔ HasSignal other k

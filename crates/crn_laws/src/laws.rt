@@ -7,8 +7,10 @@ ghost use Rattle.crn_laws.specs.Implied.{
 ghost use Rattle.crn_laws.specs.Renumbered.{
   RenumberedShareClasses,
   RenumberedShareConcordance,
+  RenumberedShareConfluence,
   RenumberedShareDependence,
   RenumberedShareNumbers,
+  RenumberedShareSignals,
   StatementsInAnyOrder,
 };
 ghost use Rattle.crn_laws.specs.Systems.{NetworksHaveFullRows};
@@ -39,7 +41,8 @@ pub fn systems_have_rows_of_one_length()
     ensures { NetworksHaveFullRows }
 {}
 
-/// Texts with the same statements, in any order and each once or more often, spell the same network in another order.
+/// Texts that say the same amounts on both sides of their statements, in any order of lines and of terms and each once or
+/// more often, spell the same network in another order.
 pub fn statements_in_any_order_spell_renumbered_networks()
     ensures { StatementsInAnyOrder }
 {}
@@ -62,4 +65,15 @@ pub fn renumbered_networks_share_dependence_and_conservation()
 /// All or none of them are concordant, or strongly concordant.
 pub fn renumbered_networks_share_concordance()
     ensures { RenumberedShareConcordance }
+{}
+
+/// Their normal confluence vectors are the same, numbered anew, or negatives of one another, and then both are weakly
+/// reversible.
+pub fn renumbered_networks_share_the_confluence_vector()
+    ensures { RenumberedShareConfluence }
+{}
+
+/// They have signals for the same vectors, numbered anew.
+pub fn renumbered_networks_share_signals()
+    ensures { RenumberedShareSignals }
 {}
