@@ -12,10 +12,11 @@ from pathlib import Path
 import support
 
 HERE = Path(__file__).resolve().parent
-#: The Debian packages by what they bring: a command, or a file. Servers are not among them (openssh-server, slurmctld,
-#: slurmd, munge): tests use those that are there.
+#: The Debian packages by what they bring: a command, or a file.
 PACKAGES = {
     "dot": "graphviz", "parallel": "parallel", "rsync": "rsync", "gcc": "gcc", "Rscript": "r-base-core", "mypy": "mypy",
+    "node": "nodejs", "jq": "jq", "sbatch": "slurm-client", "/usr/sbin/slurmctld": "slurmctld", "/usr/sbin/slurmd": "slurmd",
+    "/usr/sbin/munged": "munge",
     "/usr/lib/python3/dist-packages/libsbml": "python3-sbml5",
     "/usr/lib/python3/dist-packages/jsonschema": "python3-jsonschema",
     "/usr/share/doc/libsbml5-examples/examples": "libsbml5-examples",

@@ -4,6 +4,7 @@ import contextlib
 import io
 import json
 import os
+import pty
 import re
 import subprocess
 import sys
@@ -116,10 +117,31 @@ def test_streams():
         yield f"{verb} reads standard input", by_stream[0] == 0 and by_stream == by_dash
         yield f"{verb} names the file", by_name[0] == 0 and (verb == "json" or "edelstein.crn" in by_name[1])
     full = subprocess.run(f"{sys.executable} -m crnt_tools explain {EDELSTEIN} > /dev/full", shell=True, capture_output=True)
+    for verb, way, said in (("json", "<&-", 5), ("table", "<&-", 5), ("json", ">&-", 6), ("table", ">&-", 6), ("json", "2>&-", 0)):
+        file = EDELSTEIN if "<" not in way else ""
+        closed = subprocess.run(["bash", "-c", f"{sys.executable} -m crnt_tools {verb} {file} {way}"], capture_output=True)
+        yield f"{verb} {way}", closed.returncode == said and b"Traceback" not in closed.stderr, closed
     yield "a full device", full.returncode == 6 and b"No space left" in full.stderr and b"Traceback" not in full.stderr, full
     gone = subprocess.run(["bash", "-c", f"{sys.executable} -m crnt_tools json {EDELSTEIN} {EDELSTEIN} | true; echo ${{PIPESTATUS[0]}}"],
                           capture_output=True)
     yield "a reader that is gone", gone.stdout in (b"0\n", b"6\n") and b"Traceback" not in gone.stderr, gone
+
+
+def test_slow_program():
+    """A long text and a program that is slow to read it: it gets all, and a terminal is told that it is at work."""
+    code = ("import crnt_tools.program as it; it.SILENT_SECONDS = 0.2; "
+            "print(it.report('A -> B\\n' + '# long\\n' * 30_000).q6.deficiency)")
+    with support.folder() as name:
+        slow = Path(name) / "slow"
+        slow.write_text(f'#!/bin/sh\nsleep 1\nexec "{ct.find()}" "$@"\n')
+        slow.chmod(0o755)
+        main, terminal = pty.openpty()
+        done = subprocess.run([sys.executable, "-c", code], env={**os.environ, "CRNT": str(slow)}, stdout=subprocess.PIPE,
+                              stderr=terminal, timeout=240)
+        os.write(terminal, b"end")
+        said = os.read(main, 10_000).decode()
+        yield "the report", done.stdout == b"0\n", done
+        yield "the notice", "slow is still at work" in said, said
 
 
 def test_json():
@@ -176,7 +198,8 @@ def test_import():
         (folder / "more/a.txt").write_text("B --> A\n")
         support.command(["import", "a.txt", "more/a.txt", "--into", "two"], folder=name)
         yield "two of one name", (folder / "two/a.crn").exists() and "B -> A" in (folder / "two/a_2.crn").read_text()
-        yield "what is refused is said", "b.txt, line 2: A B -> C" in err, err
+        status, _, err = support.command(["import", folder / "b.txt"])
+        yield "what is refused is said", f"crnt-tools: {folder}/b.txt: line 2: A B -> C: " in err and err.count("b.txt") == 1, err
 
 
 def test_calls():

@@ -83,15 +83,26 @@ def test_nothing_more_is_said():
     """Each sentence of an explanation is in the data file or in the report."""
     for path in support.examples():
         report = ct.report(path.read_bytes())
-        known = json.dumps(data(), ensure_ascii=False).replace('\\"', '"')
+        known = json.dumps(data(), ensure_ascii=False).replace('\\"', '"').lower()
         for section in explain.sections_of(report):
             for item in section.items:
                 rows = [text for label, texts in item.rows if label not in ("because", "theorem") for text in texts]
                 parts = [part for part in item.sentence.split(". ") if part] if not item.sentence.startswith("Q") else []
                 for said in [*rows, *parts]:
                     clean = said.rstrip(".").split(": ", 1)[-1]
-                    yield f"{path.name}: {said[:40]!r}", clean in known or any(
+                    yield f"{path.name}: {said[:40]!r}", clean.lower() in known or any(
                         clean in f"Q{v.question} {v.title}: {report.said(v.question)}" for v in report.verdicts), said
+
+
+def test_provisos():
+    """What rests on a proviso has it in front."""
+    for network, kinetics in (("edelstein", "Under mass action"), ("edelstein", "About the structure alone")):
+        report = ct.report((support.NETWORKS / f"{network}.crn").read_bytes())
+        [section] = [it for it in explain.sections_of(report) if it.heading == kinetics]
+        provided = [item for item in section.items if "provided that" in dict(item.rows)]
+        yield kinetics, len(provided) == 1 and provided[0].sentence.startswith("If the definitions agree, see below, t"), provided
+    others = [it for it in conclude(report) if not it.provided]
+    yield "others stand alone", others and not any("definitions agree" in it.sentence for it in others)
 
 
 def test_forms():
@@ -103,9 +114,10 @@ def test_forms():
         found = conclude(report)
         flat = " ".join(text.split()).replace("'", "`")
         for it in found:
-            yield f"{path.name}: {it.id}", it.title in markdown or not it.concludes
-            yield f"{path.name}: {it.id} as text", " ".join((it.concludes or it.rests_on[0]).split()).replace("'", "`") in flat
-            yield f"{path.name}: {it.id} as a page", not it.concludes or f"{it.title}. " in page
+            said = it.sentence if it.concludes else it.rests_on[0]
+            yield f"{path.name}: {it.id}", said in markdown, said
+            yield f"{path.name}: {it.id} as text", said.replace("'", "`") in flat, said
+            yield f"{path.name}: {it.id} as a page", not it.concludes or it.title[1:] in page, said
         yield f"{path.name}: lines are short", max(map(len, text.split("THE REPORT")[0].split("\n"))) <= 100
         yield f"{path.name}: the page is sound", sound(page) is None, sound(page)
 

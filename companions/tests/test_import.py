@@ -35,6 +35,12 @@ SBML = """<?xml version="1.0" encoding="UTF-8"?>
 <model id="m" name="a model"><listOfCompartments><compartment id="c" size="1" {compartment}/></listOfCompartments>
 <listOfSpecies>{species}</listOfSpecies>{parameters}{rules}<listOfReactions>{reactions}</listOfReactions></model></sbml>
 """
+LEVEL_1 = b"""<?xml version="1.0"?>
+<sbml xmlns="http://www.sbml.org/sbml/level1" level="1" version="2"><model name="m"><listOfCompartments><compartment name="c"/>
+</listOfCompartments><listOfSpecies><species name="A" compartment="c" initialAmount="1"/><species name="B" compartment="c"
+initialAmount="1"/></listOfSpecies><listOfReactions><reaction name="r"><listOfReactants><speciesReference species="A"/>
+</listOfReactants><listOfProducts><speciesReference species="B"/></listOfProducts></reaction></listOfReactions></model></sbml>
+"""
 
 
 def sbml(species, reactions, level=2, rules="", parameters=""):
@@ -96,6 +102,7 @@ def test_lines():
     for line in UNREADABLE:
         found = imported(f"Z1 -> Z2\n{line}\n")
         yield f"{line!r} is refused", found.startswith("not imported") and ("line 2" in found or "line 3" in found), found
+    yield "nothing but one complex", "the two sides of each reaction are the same" in imported("A -> A\n"), imported("A -> A\n")
 
 
 def test_cures():
@@ -187,12 +194,42 @@ end groups
     yield "the fixed species is named", "$T() 1" not in made.text and "T(): left out, fixed ($)" in made.text, made.text
     yield "so is the one in no reaction", "Never(): left out, in no reaction" in made.text
     yield "kept if that is said", "T" in import_text(text.encode(), "egfr.net", keep_held=True).names.values()
-    yield "by its first lines", format_of(text.encode()) == "bionetgen"
+    yield "by its first lines", format_of(text) == "bionetgen"
     for change, said in (("4,4 5,3", "there is no species 9"), ("4,4 5,3", "the line")):
         bad = text.replace("4,4 5,3 kd", "4,9 5,3 kd" if "9" in said else "what")
         yield said, said in imported(bad, "egfr.net")
     rules = "begin molecule types\nA(b)\nend molecule types\nbegin species\n1 A(b) 1\nend species\nbegin reaction rules\n"
     yield "rules alone", "generate_network" in imported(rules, "x.net")
+    for block in ("model", "seed species", "molecule types", "parameters"):
+        rules = (f"# note\nbegin {block}\nA(b) 1\nend {block}\nbegin reaction rules\nA(b) + B(a) <-> A(b!1).B(a!1) k, l\n"
+                 "end reaction rules\n")
+        yield f"rules after {block} are no lines with arrows", "generate_network" in imported(rules), imported(rules)
+
+
+def test_boundary_species_of_antimony():
+    text = "$X -> A; k1*X\nA -> $Y\nA + X -> 2 A\n"
+    made = import_text(text.encode(), "model").text
+    yield "left out", statements(made) == "0 -> A\nA -> 0\nA -> 2A\n" and "X: left out, held constant ($)" in made, made
+    yield "kept if that is said", imported(text, keep_held=True) == "X -> A\nA -> Y\nX + A -> 2A\n", imported(text, keep_held=True)
+    yield "declared", imported("species A, $X;\nX -> A\n") == "0 -> A\n", imported("species A, $X;\nX -> A\n")
+    for formula in ("$A \\to B$", "$A -> B$", "$A$ -> $B$", "A $\\to$ B"):
+        yield f"{formula} is LaTeX", imported(formula) == "A -> B\n", imported(formula)
+
+
+def test_encodings():
+    """UTF-16 with its mark is read, and XML in the encoding that it names."""
+    text = "α --> B\nB => 0\n"
+    for encoding in ("utf-8", "utf-8-sig", "utf-16"):
+        yield f"{encoding}", imported(text.encode(encoding)) == "alpha -> B\nB -> 0\n", imported(text.encode(encoding))
+    yield "the other order of bytes", imported(b"\xfe\xff" + text.encode("utf-16-be")) == "alpha -> B\nB -> 0\n"
+    for encoding in ("utf-16-le", "utf-32"):
+        yield f"{encoding} is refused", "save it as UTF-8" in imported(text.encode(encoding)), imported(text.encode(encoding))
+    needs_libsbml()
+    model = sbml([("A", 'name="Größe"'), ("B", "")], reaction("r", [("A", "")], [("B", "")], 'reversible="false"')).decode()
+    for encoding in ("UTF-8", "UTF-16", "ISO-8859-1", "windows-1252"):
+        made = import_text(model.replace("UTF-8", encoding).encode(encoding), "model").text
+        yield f"SBML in {encoding}", statements(made) == "A -> B\n" and "A (Größe)" in made, made
+    yield "an unknown encoding", "no encoding klingon is known" in imported(model.replace("UTF-8", "klingon"))
 
 
 def test_sbml():
@@ -243,10 +280,17 @@ def test_sbml_that_is_none():
     needs_libsbml()
     species = [("A", ""), ("B", "")]
     yield "no reaction", "it has no reaction" in imported(sbml(species, "").replace(b"<listOfReactions></listOfReactions>", b""))
-    yield "no XML", imported(b"<?xml version='1.0'?><sbml").startswith("not imported: model, line"), imported(b"<?xml version='1.0'?><sbml")
+    yield "no XML", imported(b"<?xml version='1.0'?><sbml").startswith("not imported: line"), imported(b"<?xml version='1.0'?><sbml")
     yield "another document", "not imported" in imported(b'<?xml version="1.0"?><html></html>')
     missing = reaction("r", [("A", "")], [("C", "")])
     yield "a species that is not there", "not imported" in imported(sbml(species, missing)), imported(sbml(species, missing))
+    doubled = imported(sbml([*species, ("A", 'name="other"')], reaction("r", [("A", "")], [("B", "")])))
+    yield "two species of one id", "the id A: 2 elements have it" in doubled, doubled
+    doubled = imported(sbml(species, 2 * reaction("r", [("A", "")], [("B", "")])))
+    yield "two reactions of one id", "the id r: 2 elements have it" in doubled, doubled
+    yield "level 1", "it is of level 1" in imported(LEVEL_1), imported(LEVEL_1)
+    none = b'<?xml version="1.0"?><sbml xmlns="http://www.sbml.org/sbml/level3/version2/core" level="3" version="2"/>'
+    yield "no model", "it has no model" in imported(none), imported(none)
     held = [("A", 'boundaryCondition="true"'), ("B", 'boundaryCondition="true"')]
     yield "nothing left", "no reaction is left" in imported(sbml(held, reaction("r", [("A", "")], [("B", "")])))
     long = [("a" * 40, ""), ("a" * 41, "")]
@@ -267,7 +311,7 @@ def test_sbml_examples():
             text = import_text(path.read_bytes(), name).text
         except ct.NotImported as it:
             refused += 1
-            yield f"{name} is refused with a reason", name in str(it) and len(it.why) > 10, it
+            yield f"{name} is refused with a reason", it.where and len(it.why) > 10, it
             continue
         made += 1
         report = ct.report(text)

@@ -55,7 +55,7 @@ def desk(most=None):
 
 def shell(script, folder, **more):
     environment = {**os.environ, "PATH": f"{folder}/bin:{os.environ['PATH']}", "CRNT": ct.find(), **more}
-    done = subprocess.run(["bash", "-c", script], cwd=folder, env=environment, capture_output=True, timeout=240)
+    done = subprocess.run(["bash", "-c", script], cwd=folder, env=environment, capture_output=True, timeout=600)
     return done.returncode, done.stdout.decode(), done.stderr.decode()
 
 

@@ -75,6 +75,13 @@ def test_bad_files():
         yield "no table is written over", status == 70 and "--resume" in err, status, err
         status, _, err = support.command(["table", "good.crn", "-o", "none/t.tsv"], folder=name)
         yield "a file that cannot be written", status == 6 and "none/t.tsv" in err, status, err
+        latin = b"caf\xe9.crn"
+        Path(os.fsdecode(bytes(folder) + b"/" + latin)).write_text("A -> B\n")
+        for words, text in (([], b"good.crn\n" + latin), ([b"good.crn", latin], b"")):
+            done = subprocess.run([sys.executable, "-m", "crnt_tools", "table", "-o", "l.csv", "--resume", *words], input=text,
+                                  cwd=name, capture_output=True)
+            made = (folder / "l.csv").read_bytes()
+            yield f"a name that is no UTF-8, {words}", done.returncode == 0 and made.count(b"\n" + latin + b",0,") == 1, done, made
         (folder / "other.csv").write_text("a,b\n1,2\n")
         status, _, err = support.command(["table", "good.crn", "-o", "other.csv", "--resume"], folder=name)
         yield "another table", status == 70 and "no table" in err, err

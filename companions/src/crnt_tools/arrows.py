@@ -35,6 +35,8 @@ CONSTANT = r"k_\w+|k\w{0,4}"
 RATE = re.compile(rf"{CONSTANT}|[\d.eE+-]+|\(.*\)|.*[*/^].*")
 AFTER = re.compile(r"\s*(?:[:@{]|\s\[|\s\(|\\\\?\s*$|\.\s*$|\s[A-Za-z]\w*\s*=|\s!\s)")
 LAST_WORD = re.compile(rf"(.*[^\s+])\s+({CONSTANT}|\d[\d.eE+-]*|\w+(?:\s*\*\s*\w+)+)\s*")
+#: Antimony's mark of a species that is held constant. In a formula of LaTeX a dollar is something else.
+HELD = re.compile(r"\$([A-Za-z_]\w*)")
 AMOUNT = re.compile(r"\(?(\d+(?:\.\d*)?(?:[eE][+-]?\d+)?(?:/\d+)?|\.\d+)\)?\s*[*·×]?\s*")
 
 
@@ -185,6 +187,13 @@ def term_of(text: str) -> tuple[str, Fraction]:
     return name, amount
 
 
+def held_names(line: str) -> list[str]:
+    """The species that a line marks as held constant, `$X -> A` or `species $X`."""
+    body = without_comment(line)
+    found = HELD.findall(body)
+    return found if len(found) == body.count("$") and "\\" not in body else []
+
+
 def goes_on(line: str, next_line: str) -> bool:
     """A reaction that goes on in the next line, as `A + B` and then `-> C`."""
     one, other = without_comment(line).strip(), without_comment(next_line).strip()
@@ -198,6 +207,7 @@ def goes_on(line: str, next_line: str) -> bool:
 def read(text: str, origin: str) -> Model:
     """The model that lines of reactions say. Raises NotImported with the line that cannot be read."""
     model, lines = Model(origin), text.splitlines()
+    held = {name for line in lines for name in held_names(line)}
     for number, (line, next_line) in enumerate(zip(lines, [*lines[1:], ""]), 1):
         where = f"line {number}: {line.strip()}"
         try:
@@ -205,11 +215,11 @@ def read(text: str, origin: str) -> Model:
             if goes_on(line, next_line):
                 raise ValueError("the reaction goes on in the next line: write it on one")
         except ValueError as fault:
-            raise NotImported(f"{origin}, {where}", str(fault)) from None
+            raise NotImported(where, str(fault)) from None
         if statements is None:
             model.passed_over.append(f"no reaction was read in {where}")
         for statement in statements or []:
             for name, _ in [*statement.left, *statement.right]:
-                model.add_species(name)
+                model.add_species(name, held="held constant ($)" if name in held else "")
             model.reactions.append(ModelReaction(where, statement.left, statement.right, statement.reversible))
     return model

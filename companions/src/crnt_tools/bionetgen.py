@@ -8,6 +8,9 @@ from fractions import Fraction
 from .errors import NotImported
 from .model import Model, ModelReaction, Side
 
+#: What begins in files of BioNetGen, and in those with rules alone.
+BLOCKS = re.compile(r"^\s*begin (?:parameters|species|reactions|model|molecule types|seed species|reaction rules)\b", re.MULTILINE)
+RULES = re.compile(r"^\s*begin (?:molecule types|seed species|reaction rules)\b", re.MULTILINE)
 BLOCK = re.compile(r"begin (\w+)\s(.*?)^\s*end \1", re.MULTILINE | re.DOTALL)
 SPECIES = re.compile(r"(\d+)\s+(\$?)(\S+)\s+\S.*")
 REACTION = re.compile(r"(\d+)\s+([\d,]+)\s+([\d,]+)\s+(.*)")
@@ -21,20 +24,20 @@ def lines_of(text: str, name: str) -> list[str]:
 
 def read(text: str, origin: str) -> Model:
     """The model of a `.net` file. Raises NotImported."""
-    if "begin molecule types" in text and not lines_of(text, "reactions"):
-        raise NotImported(origin, "it has rules and no generated network: let BioNetGen write one, by generate_network()")
+    if RULES.search(text) and not lines_of(text, "reactions"):
+        raise NotImported("the file", "it has rules and no generated network: let BioNetGen write one, by generate_network()")
     model = Model(f"{origin} (BioNetGen)")
     for line in lines_of(text, "species"):
         found = SPECIES.fullmatch(line)
         if not found:
-            raise NotImported(f"{origin}, species", f"the line {line!r} is no number, pattern and amount")
+            raise NotImported("species", f"the line {line!r} is no number, pattern and amount")
         model.add_species(found[1], found[3], "fixed ($)" if found[2] else "")
     for line in lines_of(text, "reactions"):
         found = REACTION.fullmatch(line)
         if not found:
-            raise NotImported(f"{origin}, reactions", f"the line {line!r} is no number, reactants, products and rate")
+            raise NotImported("reactions", f"the line {line!r} is no number, reactants, products and rate")
         where = f"reaction {found[1]}"
-        left, right = (side_of(found[k], model, f"{origin}, {where}") for k in (2, 3))
+        left, right = (side_of(found[k], model, where) for k in (2, 3))
         model.reactions.append(ModelReaction(where, left, right, remark=f"rate {found[4]}"))
     return model
 

@@ -58,7 +58,8 @@ class WrongWords(CrntError):
 def read(file: str) -> bytes:
     """The bytes of a file; `-` is standard input."""
     try:
-        return sys.stdin.buffer.read() if file == "-" else Path(file).read_bytes()
+        with open(0 if file == "-" else file, "rb", closefd=file != "-") as stream:
+            return stream.read()
     except OSError as fault:
         raise Unreadable(f"{fault.strerror}: name a file that can be read, or - for standard input") from None
 
@@ -67,23 +68,20 @@ def write(target: str | None, text: str | bytes) -> None:
     """Writes to a file, or to standard output."""
     made = text.encode("utf-8", "surrogateescape") if isinstance(text, str) else text
     try:
-        if target:
-            Path(target).write_bytes(made)
-        else:
-            sys.stdout.buffer.write(made)
-            sys.stdout.buffer.flush()
+        with open(target or 1, "wb", closefd=bool(target)) as stream:
+            stream.write(made)
     except OSError as fault:
-        if not target:
-            # what is left in the buffer would fail again at the end
-            os.dup2(os.open(os.devnull, os.O_WRONLY), sys.stdout.fileno())
         raise Unwritable(f"{target or 'standard output'}: {fault.strerror}") from None
 
 
 def complain(file: str, fault: CrntError) -> int:
     """Says what is wrong, and gives the status."""
-    where = {"-": "standard input"}.get(file, file)
-    print(f"crnt-tools: {where}: {fault}", file=sys.stderr)
+    print(f"crnt-tools: {said_name(file)}: {fault}", file=sys.stderr)
     return fault.status
+
+
+def said_name(file: str) -> str:
+    return "standard input" if file == "-" else file
 
 
 def for_each(files: Sequence[str], work: Callable[[str], int]) -> int:
@@ -92,8 +90,8 @@ def for_each(files: Sequence[str], work: Callable[[str], int]) -> int:
     for file in files or ["-"]:
         try:
             worst = max(worst, work(file))
-        except Unwritable as fault:
-            return complain(file, fault)
+        except Unwritable:
+            raise
         except CrntError as fault:
             worst = max(worst, complain(file, fault))
     return worst
@@ -141,10 +139,10 @@ def do_import(given: argparse.Namespace) -> int:
     targets: set[str] = set()
 
     def work(file: str) -> int:
-        origin = name_of(file) or "standard input"
+        origin = name_of(file) or said_name(file)
         made = importing.import_text(read(file), origin, given.format, given.boundary == "keep", given.modifiers == "keep")
         for warning in made.warnings:
-            print(f"crnt-tools: {origin}: {warning}", file=sys.stderr)
+            print(f"crnt-tools: {said_name(file)}: {warning}", file=sys.stderr)
         target = given.output
         if given.into:
             target = fresh(str(Path(given.into) / Path(origin).stem), targets)
@@ -192,7 +190,7 @@ def do_order(given: argparse.Namespace) -> int:
 
 
 def do_table(given: argparse.Namespace) -> int:
-    files = given.files or sys.stdin.read().split("\n")
+    files = given.files or os.fsdecode(read("-")).split("\n")
     separator = "\t" if given.tsv or (given.output or "").endswith(".tsv") else ","
     try:
         return table.make_table([file for file in files if file], given.output, given.budget, given.processes,
@@ -332,4 +330,5 @@ def main(words: Sequence[str] | None = None) -> int:
 
 def run() -> NoReturn:
     """The command: ends the process with the status."""
+    sys.stderr = sys.stderr or open(os.devnull, "w", encoding="utf-8")
     sys.exit(main())

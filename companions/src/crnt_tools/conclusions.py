@@ -34,6 +34,17 @@ class Conclusion:
     provided: str
     rests_on: tuple[str, ...]
 
+    @property
+    def sentence(self) -> str:
+        """What follows, with the proviso in front if there is one."""
+        if not self.provided:
+            return f"{self.title}. {self.concludes}"
+        return f"If the definitions agree, see below, {lowered(self.title)}: {lowered(self.concludes)}"
+
+
+def lowered(text: str) -> str:
+    return text[:1].lower() + text[1:]
+
 
 @lru_cache(maxsize=None)
 def data() -> dict[str, Any]:

@@ -73,7 +73,7 @@ class NotANetwork(CrntError):
 
 
 class NotImported(CrntError):
-    """A model that no network text can stand for; `where` names the file and the line or the element."""
+    """A model that no network text can stand for; `where` names the line or the element."""
 
     status = 2
 

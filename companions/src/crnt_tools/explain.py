@@ -71,7 +71,7 @@ def item_of(it: Conclusion) -> Item:
         rows.append(("provided that", (it.provided,)))
     if it.does_not_follow:
         rows.append(("what does not follow", it.does_not_follow))
-    return Item(f"{it.title}. {it.concludes}", tuple(rows))
+    return Item(it.sentence, tuple(rows))
 
 
 def open_item(report: Report, question: int) -> Item:

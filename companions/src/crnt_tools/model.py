@@ -144,7 +144,7 @@ def written(model: Model, keep_held: bool = False, keep_modifiers: bool = False)
     """The network text of a model. Species that are held constant are left out unless `keep_held`; modifiers are left out,
     or are put on both sides if `keep_modifiers`. Raises NotImported."""
     if not model.reactions:
-        raise NotImported(model.origin, "it has no reaction")
+        raise NotImported("the file", "it has no reaction")
     dropped = {key for key, it in model.species.items() if it.held and not keep_held}
     rows = [(reaction, *sides_kept(reaction, dropped, keep_modifiers)) for reaction in model.reactions]
     used = {key: None for _, left, right, _ in rows for key in [*left, *right]}
@@ -157,7 +157,9 @@ def written(model: Model, keep_held: bool = False, keep_modifiers: bool = False)
         lines.append(reaction_line(reaction, side_text(left, names), side_text(right, names), scale, called))
         seen.update({(side_text(left, names), side_text(right, names)): None} if left != right else {})
     if not seen:
-        raise NotImported(model.origin, "no reaction is left once the species that are held constant are left out")
+        alike = all(left == right for left, right, _ in map(whole_sides, model.reactions))
+        raise NotImported("the file", "the two sides of each reaction are the same" if alike else
+                          "no reaction is left once the species that are held constant are left out")
     return Imported("\n".join([*lines, ""]), names, (*model.passed_over, *warnings_of(len(names), len(seen))))
 
 

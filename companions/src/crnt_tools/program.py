@@ -7,6 +7,7 @@ import re
 import shutil
 import subprocess
 import sys
+import threading
 from pathlib import Path
 from typing import Union
 
@@ -46,20 +47,19 @@ def call(words: list[str], text: Text) -> tuple[int, bytes]:
     with no answer."""
     given = text.encode("utf-8", "surrogateescape") if isinstance(text, str) else text
     program = find()
+    notice = threading.Timer(SILENT_SECONDS, print, [f"{program} is still at work (the launcher of a clone may be building "
+                                                     "the program)"], {"file": sys.stderr})
+    if sys.stderr and sys.stderr.isatty():
+        notice.start()
     try:
-        running = subprocess.Popen([program, *words], stdin=subprocess.PIPE, stdout=subprocess.PIPE, stderr=subprocess.PIPE)
+        done = subprocess.run([program, *words], input=given, capture_output=True, check=False)
     except OSError as fault:
         raise ProgramMissing(f"{program} cannot be run: {fault.strerror}") from None
-    with running:
-        try:
-            written, said = running.communicate(given, SILENT_SECONDS)
-        except subprocess.TimeoutExpired:
-            if sys.stderr.isatty():
-                print(f"{program} is still at work (the launcher of a clone may be building the program)", file=sys.stderr)
-            written, said = running.communicate()
-    if running.returncode not in (0, 1, 2, 3):
-        raise ProgramFault(running.returncode, said.decode("utf-8", "replace").strip().split("\n")[-1])
-    return running.returncode, written
+    finally:
+        notice.cancel()
+    if done.returncode not in (0, 1, 2, 3):
+        raise ProgramFault(done.returncode, done.stderr.decode("utf-8", "replace").strip().split("\n")[-1])
+    return done.returncode, done.stdout
 
 
 def answered(words: list[str], text: Text) -> str:

@@ -2,6 +2,7 @@
 
 from __future__ import annotations
 
+from collections import Counter
 from fractions import Fraction
 from functools import cached_property
 from typing import Any, Iterator
@@ -23,11 +24,10 @@ def library() -> Any:
     return libsbml
 
 
-def read(text: bytes, origin: str) -> Model:
+def read(text: str, origin: str) -> Model:
     """The model of an SBML document. Raises NotImported with the id of the element that no network can have."""
     libsbml = library()
-    document = libsbml.readSBMLFromString(text.decode("utf-8", "replace"))
-    return Reader(libsbml, document, origin).model()
+    return Reader(libsbml, libsbml.readSBMLFromString(text), origin).model()
 
 
 def called(element: Any) -> str:
@@ -43,11 +43,9 @@ class Reader:
         self.libsbml, self.document, self.origin = libsbml, document, origin
         self.sbml = document.getModel()
 
-    def refuse(self, element: str, why: str) -> NotImported:
-        return NotImported(f"{self.origin}, {element}", why)
-
     def model(self) -> Model:
         self.refuse_what_cannot_be_read()
+        self.refuse_doubled_ids()
         level, version = self.document.getLevel(), self.document.getVersion()
         made = Model(f"{called(self.sbml) or 'a model'}, from {self.origin} (SBML level {level} version {version})")
         for species in self.sbml.getListOfSpecies():
@@ -56,11 +54,13 @@ class Reader:
         for reaction in self.sbml.getListOfReactions():
             made.reactions.append(self.reaction(reaction))
         if not made.reactions:
-            raise self.refuse(f"model {self.sbml.getId()}", "it has no reaction")
+            raise NotImported(f"model {self.sbml.getId()}", "it has no reaction")
         return made
 
     def refuse_what_cannot_be_read(self) -> None:
         libsbml, document = self.libsbml, self.document
+        if self.sbml is not None and document.getLevel() < 2:
+            raise NotImported("sbml", "it is of level 1: let a tool save it as level 2 or 3, which are read")
         plugins = [document.getPlugin(at) for at in range(document.getNumPlugins())]
         packages = {it.getPackageName(): it.getURI() for it in plugins}
         for at in range(document.getNumUnknownPackages()):
@@ -68,13 +68,20 @@ class Reader:
         for name, uri in packages.items():
             if name not in HARMLESS and document.getPackageRequired(uri):
                 cure = ": let a tool flatten the model first" if name == "comp" else ""
-                raise self.refuse("sbml", f"it needs the package {name}, so its reactions are not just those listed{cure}")
+                raise NotImported("sbml", f"it needs the package {name}, so its reactions are not just those listed{cure}")
         passed = (libsbml.MissingXMLDecl, libsbml.MissingXMLEncoding)
         for fault in (document.getError(at) for at in range(document.getNumErrors())):
             if fault.getSeverity() >= libsbml.LIBSBML_SEV_ERROR and fault.getErrorId() not in passed:
-                raise self.refuse(f"line {fault.getLine()}", " ".join(fault.getMessage().split()))
-        if self.sbml is None or document.getLevel() < 2:
-            raise self.refuse("sbml", "levels 2 and 3 are read")
+                raise NotImported(f"line {fault.getLine()}", " ".join(fault.getMessage().split()))
+        if self.sbml is None:
+            raise NotImported("sbml", "it has no model")
+
+    def refuse_doubled_ids(self) -> None:
+        """Two elements of one id, which libSBML reads in silence."""
+        ids = Counter(it.getId() for it in (*self.sbml.getListOfSpecies(), *self.sbml.getListOfReactions()))
+        for id_, times in ids.items():
+            if times > 1:
+                raise NotImported(f"the id {id_}", f"{times} elements have it")
 
     def unsaid(self, made: Model) -> Iterator[str]:
         """What the model says and the network does not."""
@@ -116,7 +123,7 @@ class Reader:
         made.modifiers = [it.getSpecies() for it in reaction.getListOfModifiers()]
         for key in {key for key, _ in [*made.reactants, *made.products]} | set(made.modifiers):
             if self.sbml.getSpecies(key) is None:
-                raise self.refuse(f"reaction {reaction.getId()}", f"there is no species {key}")
+                raise NotImported(f"reaction {reaction.getId()}", f"there is no species {key}")
         if reaction.getReversible() and reaction.getLevel() == 2 and 'reversible="' not in head_of(reaction):
             made.remark = "reversible, as level 2 has it where nothing is said"
         return made
@@ -128,14 +135,14 @@ class Reader:
         """The stoichiometry of a species reference, if it is a number that does not change."""
         where = f"reaction {reaction.getId()}, species {reference.getSpecies()}"
         if reference.getId() and reference.getId() in self.ruled:
-            raise self.refuse(where, f"its stoichiometry is set by {self.ruled[reference.getId()]}")
+            raise NotImported(where, f"its stoichiometry is set by {self.ruled[reference.getId()]}")
         if reference.isSetStoichiometryMath():
             return self.number(reference.getStoichiometryMath().getMath(), where)
         if reference.getLevel() > 2 and not reference.isSetStoichiometry():
-            raise self.refuse(where, "its stoichiometry is not said")
+            raise NotImported(where, "its stoichiometry is not said")
         found = reference.getStoichiometry()
         if found != found or found in (float("inf"), float("-inf")):
-            raise self.refuse(where, f"its stoichiometry is {found}")
+            raise NotImported(where, f"its stoichiometry is {found}")
         # the shortest decimal that is this double, as the file has it; libSBML keeps a ratio of level 2 in two numbers
         return Fraction(repr(found)) / int(reference.getDenominator() if reference.getLevel() == 2 else 1)
 
@@ -149,7 +156,7 @@ class Reader:
         if kind in (libsbml.AST_REAL, libsbml.AST_REAL_E):
             return Fraction(repr(math.getReal()))
         formula = libsbml.formulaToString(math) if math is not None else "empty"
-        raise self.refuse(where, f"its stoichiometry is the formula {formula}, not a number")
+        raise NotImported(where, f"its stoichiometry is the formula {formula}, not a number")
 
 
 def head_of(element: Any) -> str:

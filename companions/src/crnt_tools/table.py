@@ -80,7 +80,7 @@ def begun(path: Path, separator: str) -> set[str]:
     """The files whose rows a table has already. A last row that is cut off is taken away."""
     text = path.read_bytes()
     kept = text[: text.rfind(b"\n") + 1]
-    rows = list(csv.reader(io.StringIO(kept.decode("utf-8"), newline=""), delimiter=separator))
+    rows = list(csv.reader(io.StringIO(kept.decode("utf-8", "surrogateescape"), newline=""), delimiter=separator))
     if kept and tuple(rows[0]) != COLUMNS:
         raise CrntError(f"{path} is no table of this version: name another file")
     if kept != text:
@@ -143,7 +143,5 @@ def make_table(files: list[str], target: str | None, budget: int | None = None, 
 
 
 def opened(target: str | None) -> TextIO:
-    """The file to add rows to, or standard output."""
-    if target:
-        return open(target, "a", encoding="utf-8", newline="")
-    return os.fdopen(os.dup(sys.stdout.fileno()), "w", encoding="utf-8", newline="")
+    """The file to add rows to, or standard output. A name of a file need not be UTF-8."""
+    return open(target or 1, "a", encoding="utf-8", errors="surrogateescape", newline="", closefd=bool(target))
