@@ -103,13 +103,11 @@ def prove_and_keep(root, kit, work):
     for name in below(named, CRATE, []):
         words += ["-L", f"dependency={library(root, name).parent}"]
     words += ["--antt-project", kit / "rattle/logic/antt-project.json", "--logic-built", kit / "logic_built"]
-    words += ["--links", f"{CRATE}=", "--crate-type", "staticlib", "--cpu", "x86-64", "--incremental", "out/incremental"]
+    words += ["--links", f"{CRATE}=", "--crate-type", "staticlib", "--cpu", "x86-64", "--backend", "llvm"]
     kept = work / "module.bc"
     words += ["--toolchain", keeper(kit, work / "toolchain", kept), "-o", work / f"lib{CRATE}.a"]
-    folder = root / "crates" / CRATE
-    (folder / "out/incremental").mkdir(parents=True, exist_ok=True)
     with tempfile.TemporaryFile("w+") as said:
-        done = subprocess.run([str(it) for it in (kit / "bin/rattle", "build", *words)], cwd=folder, stdout=said, stderr=said)
+        done = subprocess.run([str(it) for it in (kit / "bin/rattle", "build", *words)], cwd=root / "crates" / CRATE, stdout=said, stderr=said)
         said.seek(0)
         if done.returncode:
             sys.exit(f"{CRATE} was not proved:\n{said.read()}")
