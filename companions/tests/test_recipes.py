@@ -311,7 +311,7 @@ def test_walk():
             else:
                 yield f"what is shown, {text[:30]!r}", out == text, out
         page = (folder / "edelstein.html").read_text("utf-8")
-        yield "the page", "Two positive steady states" in page and "crn report 1" in page
+        yield "the page", "two positive steady states for" in page and "crn report 1" in page
         network = ct.Network.of_text((support.NETWORKS / "edelstein.crn").read_text("utf-8"))
         yield "it is the network of the examples", str(ct.Network.of_text((folder / "edelstein.crn").read_text())) == str(network)
 
