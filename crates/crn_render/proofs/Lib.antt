@@ -9,3 +9,6 @@ mod OneNumbers
 mod Exclusions
 mod OneLine
 mod WorkedRows
+mod Lengths
+mod FormedShort
+mod ShortLines

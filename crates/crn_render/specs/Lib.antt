@@ -5,3 +5,4 @@ pub mod Faults
 pub mod Titles
 pub mod Summary
 pub mod Inner
+pub mod Length

@@ -11,7 +11,9 @@ mod sigma;
 mod summary;
 mod words;
 
-pub use laws::{text_codes_have_their_names, true_verdicts_have_one_line};
+pub use laws::{
+    text_codes_have_their_names, true_verdicts_have_one_line, what_is_written_is_short,
+};
 pub use printed::{Printed, write_fault};
 pub use report::write_report;
 pub use summary::write_summary;
