@@ -36,6 +36,7 @@ use Rattle.crn_cert.specs.TreeSizes.{HasFewNodes}
 use Rattle.crn_conc.specs.declared.answer.WideName.{WideName}
 use Rattle.crn_conc.specs.Inner.Answers.{IsNameOf, IsNamed, IsStopAnswer, end_answer, wide_answer}
 use Rattle.crn_conc.specs.Inner.Rows.{AreWide}
+use Rattle.crn_conc.specs.Visits.{ListsTableVisits}
 use Rattle.crn_conc.proofs.Starts.{start_passes}
 
 -- the question that a table of the network answers
@@ -190,6 +191,22 @@ stop_by {net} {asked} asks m table budget s answer me h te a earlier =
 
 pub few_by : (m : Mat) (table : List (List Sign)) (budget : ℕ) (e : SearchEnd) (answer : Answer) → answer ≡ end_answer budget e → IsSearchEnd (concordance m table) budget e → HasFewNodes budget answer.proof
 few_by m table budget e answer ae h = subst (λ (a : Answer). HasFewNodes budget a.proof) (sym ae) (few_nodes m table budget e h)
+
+-- a tree that the search ends with lists its visits
+ended_visits : (net : Net) (table : List (List Sign)) (budget : ℕ) (e : SearchEnd) → IsSearchEnd (concordance (reaction_system net) table) budget e → ListsTableVisits net table (end_answer budget e).proof
+ended_visits net table budget (Found p a b) h = tt
+ended_visits net table budget (Refuted tree) h = h.1
+ended_visits net table budget Spent h = tt
+
+pub visits_by : (net : Net) (m : Mat) (table : List (List Sign)) (budget : ℕ) (e : SearchEnd) (answer : Answer) → m ≡ reaction_system net → answer ≡ end_answer budget e → IsSearchEnd (concordance m table) budget e
+    → ListsTableVisits net table answer.proof
+visits_by net m table budget e answer me ae h =
+    subst (λ (a : Answer). ListsTableVisits net table a.proof) (sym ae) (ended_visits net table budget e (subst (λ (a : Mat). IsSearchEnd (concordance a table) budget e) me h))
+
+pub stop_visits : (net : Net) (table : List (List Sign)) (s : SearchStop) (answer : Answer) → IsStopAnswer s answer → ListsTableVisits net table answer.proof
+stop_visits net table (WideA index basis) answer e = subst (λ (a : Answer). ListsTableVisits net table a.proof) (sym e) tt
+stop_visits net table (WideB index basis is_first) answer e = subst (λ (a : Answer). ListsTableVisits net table a.proof) (sym e) tt
+stop_visits net table NoMemory answer e = absurd e
 
 pub open_by : (net : Net) (m : Mat) (table : List (List Sign)) (budget : ℕ) (e : SearchEnd) (answer : Answer) → m ≡ reaction_system net → answer ≡ end_answer budget e → IsSearchEnd (concordance m table) budget e
     → PassesBudget (concordance (reaction_system net) table) budget → IsOpen answer.verdict

@@ -10,6 +10,7 @@ ghost use Rattle.crn_cert.specs.TreeSizes.{HasFewNodes};
 ghost use Rattle.crn_sign.specs.Search.{outcome_of};
 ghost use Rattle.crn_sign.specs.declared.end.SearchEnd.{SearchEnd as GivenEnd};
 ghost use Rattle.crn_conc.specs.Answers.{HasAnswer};
+ghost use Rattle.crn_conc.specs.Visits.{ListsTableVisits};
 ghost use Rattle.crn_conc.specs.Inner.Answers.{IsNameOf, IsNamed, IsStopAnswer, end_answer, wide_answer};
 
 use crate::chosen::columns_by_choice;
@@ -156,6 +157,8 @@ pub(crate) fn answer_by<'a>(
     ensures strong { table.now ≡ strong_table net.now → IfOk result
         (λ made. (earlier : Earlier) → IsAnswer net.now budget earlier Q15 made.answer) }
     ensures nodes { IfOk result (λ made. HasFewNodes budget made.answer.proof) }
+    ensures visits { IfOk result (λ made.
+        ListsTableVisits net.now table.now made.answer.proof) }
     ensures spent { IfOk result (λ made.
         PassesBudget (concordance (reaction_system net.now) table.now) budget
         → IsOpen made.answer.verdict) }

@@ -8,6 +8,7 @@ ghost use Rattle.crn_cert.specs.Answered.{IsAnswer};
 ghost use Rattle.crn_cert.specs.Questions.{Earlier, IsOpen, Q14, Q15};
 ghost use Rattle.crn_cert.specs.TreeSizes.{HasFewNodes};
 ghost use Rattle.crn_conc.specs.Answers.{HasAnswer};
+ghost use Rattle.crn_conc.specs.Visits.{ListsTableVisits};
 ghost use Rattle.crn_conc.specs.Inner.Answers.{IsNamed};
 
 use crate::answer::{WideName, answer_by, end_answer, outcome_verdict, verdict_by, wide_answer};
@@ -67,6 +68,8 @@ fn strong_answer(
     ensures answer { IfOk result
         (λ answer. (earlier : Earlier) → IsAnswer net.now budget earlier Q15 answer) }
     ensures nodes { IfOk result (λ answer. HasFewNodes budget answer.proof) }
+    ensures visits { IfOk result (λ answer.
+        ListsTableVisits net.now (strong_table net.now) answer.proof) }
     ensures spent { IfOk result (λ answer.
         PassesBudget (concordance (reaction_system net.now) (strong_table net.now)) budget
         → IsOpen answer.verdict) }
@@ -110,8 +113,8 @@ fn strong_verdict(
 /// Question 14, whether a network is concordant, and question 15, whether it is strongly concordant. The
 /// matrix is that of system 2, and the solver its, which question 7 may have led to a basis. Question 15 begins with one of its own.
 ///
-/// A no has a discordance of the plain or the strong table, and a yes a tree that shows that there is none. If the visits
-/// exceed the budget, the question is open.
+/// A no has a discordance of the plain or the strong table, and a yes a tree that shows that there is none, with one node for
+/// each visit of its search. If the visits exceed the budget, the question is open.
 pub fn decide_concordance(
     alloc: Global,
     net: &Network,
@@ -129,6 +132,10 @@ pub fn decide_concordance(
         (λ made. (earlier : Earlier) → IsAnswer net.now budget earlier Q15 made.strong) }
     ensures plain_nodes { IfOk result (λ made. HasFewNodes budget made.plain.proof) }
     ensures strong_nodes { IfOk result (λ made. HasFewNodes budget made.strong.proof) }
+    ensures plain_visits { IfOk result (λ made.
+        ListsTableVisits net.now (plain_table net.now) made.plain.proof) }
+    ensures strong_visits { IfOk result (λ made.
+        ListsTableVisits net.now (strong_table net.now) made.strong.proof) }
     ensures plain_spent { IfOk result (λ made.
         PassesBudget (concordance (reaction_system net.now) (plain_table net.now)) budget
         → IsOpen made.plain.verdict) }

@@ -7,7 +7,8 @@ use Rattle.crn_cert.specs.Answered.{IsAnswer}
 use Rattle.crn_cert.specs.TreeSizes.{HasFewNodes}
 use Rattle.crn_conc.specs.declared.answer.Searched.{Searched}
 use Rattle.crn_conc.specs.Inner.Answers.{IsNameOf, IsNamed, IsStopAnswer}
-use Rattle.crn_conc.proofs.Ended.{plain, strong, fits, rows_wide, end_by, stop_by, stop_names, stop_open, few_by, few_open, open_by}
+use Rattle.crn_conc.specs.Visits.{ListsTableVisits}
+use Rattle.crn_conc.proofs.Ended.{plain, strong, fits, rows_wide, end_by, stop_by, stop_names, stop_open, few_by, few_open, open_by, visits_by, stop_visits}
 use Rattle.crn_conc.proofs.answer.answer_by.Goals as goal
 use Rattle.crn_vec.proofs.CallerLemmas.{if_ok}
 
@@ -25,6 +26,13 @@ returns-in-Ok-clause-strong c = λ e. end_by strong c.args.matrix.now c.args.tab
 
 pub returns-in-Ok-clause-nodes : goal.returns-in-Ok-clause-nodes
 returns-in-Ok-clause-nodes c = few_by c.args.matrix.now c.args.table.now c.args.budget c.in-Ok.end c.end_answer.result c.end_answer.ensures c.in-Ok.ensures
+
+pub returns-in-Ok-clause-visits : goal.returns-in-Ok-clause-visits
+returns-in-Ok-clause-visits c = visits_by c.args.net.now c.args.matrix.now c.args.table.now c.args.budget c.in-Ok.end c.end_answer.result c.requires.matrix c.end_answer.ensures c.in-Ok.ensures
+
+pub returns-clause-visits : goal.returns-clause-visits
+returns-clause-visits c = if_ok (λ (made : Searched). IsStopAnswer c.in-Err.stop made.answer) (λ (made : Searched). ListsTableVisits c.args.net.now c.args.table.now made.answer.proof) c.stop_answer.result
+    (λ made e. stop_visits c.args.net.now c.args.table.now c.in-Err.stop made.answer e) c.stop_answer.ensures.answer
 
 pub returns-clause-plain : goal.returns-clause-plain
 returns-clause-plain c = λ e. if_ok (λ (made : Searched). IsStopAnswer c.in-Err.stop made.answer) (λ (made : Searched). (earlier : Earlier) → IsAnswer c.args.net.now c.args.budget earlier Q14 made.answer) c.stop_answer.result

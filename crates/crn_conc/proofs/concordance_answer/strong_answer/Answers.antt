@@ -1,4 +1,8 @@
-use Rattle.std.proofs.Common.{subst}
+use Rattle.std.proofs.Common.{List, subst, sym}
+use Rattle.crn_vec.specs.declared.signs.Sign.{Sign}
+use Rattle.crn_vec.specs.Influence.{strong_table}
+use Rattle.crn_cert.specs.declared.answer.Answer.{Answer}
+use Rattle.crn_conc.specs.Visits.{ListsTableVisits}
 use Rattle.crn_conc.specs.Inner.Answers.{IsNamed}
 use Rattle.crn_conc.proofs.Ended.{named_by, strong}
 use Rattle.crn_conc.proofs.concordance_answer.strong_answer.Goals as goal
@@ -7,6 +11,12 @@ pub returns-in-Some-clause-answer : goal.returns-in-Some-clause-answer
 returns-in-Some-clause-answer c =
     let name = c.in-Some.name in
     named_by strong c.args.budget name.index name.basis c.wide_answer.result (subst (IsNamed c.args.net.now) c.in-Some.is c.requires.shared) c.wide_answer.ensures
+
+pub returns-in-Some-clause-visits : goal.returns-in-Some-clause-visits
+returns-in-Some-clause-visits c = subst (λ (a : Answer). ListsTableVisits c.args.net.now (strong_table c.args.net.now) a.proof) (sym c.wide_answer.ensures) tt
+
+pub returns-clause-visits : goal.returns-clause-visits
+returns-clause-visits c = subst (λ (t : List (List Sign)). ListsTableVisits c.args.net.now t c.in_ok-searched.searched.answer.proof) c.in_ok-table.ensures c.in_ok-searched.ensures.visits
 
 pub returns-clause-answer : goal.returns-clause-answer
 returns-clause-answer c = c.in_ok-searched.ensures.strong c.in_ok-table.ensures
