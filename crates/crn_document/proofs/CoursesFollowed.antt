@@ -3,6 +3,7 @@ use Rattle.std.proofs.Common.{◌⊎◌, ◌++◌, ℕ, refl, subst, inl, inr, O
 use Rattle.crn_io.specs.Device.{SourceSeen}
 use Rattle.crn_io.specs.Lines.{Place}
 use Rattle.crn_io.specs.Next.{place}
+use Rattle.crn_cert.specs.Faults.{Fault}
 use Rattle.crn_ctext.specs.Course.{Course, Give, Line, Test, End, ◌>>=◌, Gives, FailsFirst, test}
 use Rattle.crn_ctext.proofs.CallerLemmas.{gives_then, fails_before, fails_then, gives_parts}
 use Rattle.crn_document.specs.declared.reading.Reading.{Reading}
@@ -102,9 +103,9 @@ none_after {A} c = record {
 }
 
 -- a test that holds
-pub test_holds : {A : Type 0} (n code : ℕ) (P : Type 0) (d : Course A) → P → Follows (test n code P >>= (λ x. d)) d
+pub test_holds : {A : Type 0} (n : ℕ) (fault : Fault) (P : Type 0) (d : Course A) → P → Follows (test n fault P >>= (λ x. d)) d
 unfolding Gives FailsFirst
-test_holds n code P d p = record {
+test_holds n fault P d p = record {
   gives = λ at after y g. g.2;
   fails = λ at m c f. elim f [
     | inl none ↦ absurd (let h = none.2 in h tt p)
@@ -113,9 +114,9 @@ test_holds n code P d p = record {
 }
 
 -- a test that does not, of which another does not hold either
-pub test_breaks : {A : Type 0} (n code : ℕ) (P Q : Type 0) (d : Course A) (e : Course A) → (P → ⊥) → (Q → ⊥) → Follows (test n code P >>= (λ x. d)) (test n code Q >>= (λ x. e))
+pub test_breaks : {A : Type 0} (n : ℕ) (fault : Fault) (P Q : Type 0) (d : Course A) (e : Course A) → (P → ⊥) → (Q → ⊥) → Follows (test n fault P >>= (λ x. d)) (test n fault Q >>= (λ x. e))
 unfolding Gives FailsFirst
-test_breaks n code P Q d e p q = record {
+test_breaks n fault P Q d e p q = record {
   gives = λ at after y g. absurd (p g.1);
   fails = λ at m c f. elim f [
     | inl none ↦ inl (none.0, none.1, λ x h. q h)

@@ -82,7 +82,7 @@ children_follow version table p more prefix due n e =
 -- what follows a node at a full prefix
 full_node : (version : ℕ) (table : List (List ℤ)) (p : Problem) (prefix : List Sign) (due : List (List Sign)) (n : ℕ) → p.choices - length prefix ≡ 0 → (node : Node)
     → Follows (node_test p prefix n node >>= (λ x. asks_due version table p (after_node prefix due node) (n + 1))) ((leaf p prefix n node >>= (λ x. Give (n + 1))) >>= (λ m. asks_due version table p due m))
-full_node version table p prefix due n e Split = test_breaks n 42 (length prefix < p.choices) ⊥ (asks_due version table p (children prefix ++ due) (n + 1)) (asks_due version table p due (n + 1)) (λ lt. omega (arith, e, lt)) (λ x. x)
+full_node version table p prefix due n e Split = test_breaks n NodeNotAllowed (length prefix < p.choices) ⊥ (asks_due version table p (children prefix ++ due) (n + 1)) (asks_due version table p due (n + 1)) (λ lt. omega (arith, e, lt)) (λ x. x)
 full_node version table p prefix due n e Flat = to_left (leaf p prefix n Flat) (λ x. Give (n + 1)) (λ m. asks_due version table p due m)
 full_node version table p prefix due n e (CutA shared u) = to_left (leaf p prefix n (CutA shared u)) (λ x. Give (n + 1)) (λ m. asks_due version table p due m)
 full_node version table p prefix due n e (CutB shared u) = to_left (leaf p prefix n (CutB shared u)) (λ x. Give (n + 1)) (λ m. asks_due version table p due m)
@@ -93,7 +93,7 @@ inner_node : (version : ℕ) (table : List (List ℤ)) (p : Problem) (more : ℕ
 inner_node version table p more prefix due n e Split =
     let c = asks_due version table p (children prefix ++ due) (n + 1) in
     follows_on (test n NodeNotAllowed (length prefix < p.choices) >>= (λ x. c)) c (split_course version table p more more more (all_zero prefix) prefix n >>= (λ m. asks_due version table p due m))
-    (test_holds n 42 (length prefix < p.choices) c (omega (arith, e))) (children_follow version table p more prefix due n e)
+    (test_holds n NodeNotAllowed (length prefix < p.choices) c (omega (arith, e))) (children_follow version table p more prefix due n e)
 inner_node version table p more prefix due n e Flat = to_left (leaf p prefix n Flat) (λ x. Give (n + 1)) (λ m. asks_due version table p due m)
 inner_node version table p more prefix due n e (CutA shared u) = to_left (leaf p prefix n (CutA shared u)) (λ x. Give (n + 1)) (λ m. asks_due version table p due m)
 inner_node version table p more prefix due n e (CutB shared u) = to_left (leaf p prefix n (CutB shared u)) (λ x. Give (n + 1)) (λ m. asks_due version table p due m)

@@ -45,7 +45,7 @@ between place k low high = ((omega (arith, ints, low), omega (arith, ints, high)
 
 -- ---- all tests of its line hold
 
-gives_a : (n a b k place : ℕ) (at : Place) → 1 ≤ place → place ≤ k → place < 2 ^ 32 → Gives (reads 2 n false (node_forms 2 a b k) 43 (record_text (named (codes "refa") place))) at (named (codes "refa") place) at
+gives_a : (n a b k place : ℕ) (at : Place) → 1 ≤ place → place ≤ k → place < 2 ^ 32 → Gives (reads 2 n false (node_forms 2 a b k) TreeEndsEarly (record_text (named (codes "refa") place))) at (named (codes "refa") place) at
 unfolding Gives
 gives_a n a b k place at low high lt =
     let r = named (codes "refa") place in
@@ -58,7 +58,7 @@ gives_a n a b k place at low high lt =
     let begins : BeginsWith (record_text r) (codes "refa") = (((λ e. absurd (omega (arith, e))), ((λ e. absurd (omega (arith, e))), ((λ e. absurd (omega (arith, e))), ((λ e. absurd (omega (arith, e))), tt)))), inr (decimal place, refl)) in
     (codes "refa", (begins, known_a), (tt, (λ e. absurd cc), (tt, (form, is, refl), (tt, (form, r, is, says, shaped), (r, (says, (form, is, fits)), (refl, refl))))))
 
-gives_b : (n a b k place : ℕ) (at : Place) → 1 ≤ place → place ≤ k → place < 2 ^ 32 → Gives (reads 2 n false (node_forms 2 a b k) 43 (record_text (named (codes "refb") place))) at (named (codes "refb") place) at
+gives_b : (n a b k place : ℕ) (at : Place) → 1 ≤ place → place ≤ k → place < 2 ^ 32 → Gives (reads 2 n false (node_forms 2 a b k) TreeEndsEarly (record_text (named (codes "refb") place))) at (named (codes "refb") place) at
 unfolding Gives
 gives_b n a b k place at low high lt =
     let r = named (codes "refb") place in
@@ -98,7 +98,7 @@ reads_b e k place line h low high lt same = record {
 abbrev split_record : Record
 split_record = record { words = codes "split" ∷ []; numbers = [] }
 
-gives_split : (v n a b k : ℕ) (at : Place) → Gives (reads v n false (node_forms v a b k) 43 (codes "split")) at split_record at
+gives_split : (v n a b k : ℕ) (at : Place) → Gives (reads v n false (node_forms v a b k) TreeEndsEarly (codes "split")) at split_record at
 unfolding Gives
 gives_split v n a b k at =
     let says : Says (codes "split") split_record = text_says split_record tt in

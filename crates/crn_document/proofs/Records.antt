@@ -129,7 +129,7 @@ rows_then version n form forms all r a b c result old mid new before between now
 -- ---- a record that was read
 
 -- the record that passes all tests of a line is one of those that were due
-pub reads_one : (version n : ℕ) (after : Bool) (forms : List Form) (mis : ℕ) (line : List ℕ) (at end : Place) (r : Record) → Gives (reads version n after forms mis line) at r end → IsOneOf forms r
+pub reads_one : (version n : ℕ) (after : Bool) (forms : List Form) (mis : Fault) (line : List ℕ) (at end : Place) (r : Record) → Gives (reads version n after forms mis line) at r end → IsOneOf forms r
 unfolding Gives
 reads_one version n after forms mis line at end r g =
     let last = g.2.2.2.2 in
