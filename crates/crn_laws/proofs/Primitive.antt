@@ -7,7 +7,7 @@ use Rattle.std.proofs.Math.Nat.{dvd-mul_right, eq_of_mul-eq-mul_left}
 use Rattle.crn_vec.specs.Vectors.{entry}
 use Rattle.crn_vec.specs.Elementary.{IsPrimitive}
 use Rattle.crn_vec.specs.Confluence.{ArePositiveMultiples}
-use Rattle.crn_vec.proofs.CallerLemmas.{lt_or, mul-neg, pos_pos}
+use Rattle.crn_vec.proofs.CallerLemmas.{abs_some, lt_or, mul-neg, pos_pos, positive_some}
 
 -- numbers that are multiples of the same
 record Factors (x y : ℕ → ℕ) : Type 0 where
@@ -94,11 +94,6 @@ same_sign_too (negsuc n) (pos m) a b la lb e size =
     let k : pos 0 <ℤ (b *ℤ pos m) = pos_pos b (pos m) (omega (arith, ints, lb)) (omega (arith, ints, size)) in
     absurd (omega (arith, ints, e, f, g, k))
 
-some_size : (a : ℤ) → pos 1 ≤ℤ a → 1 ≤ unsigned_abs a
-some_size (pos zero) h = absurd (omega (arith, ints, h))
-some_size (pos (suc n)) h = omega arith
-some_size (negsuc n) h = absurd (omega (arith, ints, h))
-
 pub primitive_same : (g h : List ℤ) → IsPrimitive g → IsPrimitive h → ArePositiveMultiples g h → (k : ℕ) → entry g k ≡ entry h k
 primitive_same g h pg ph m k =
     let a = unsigned_abs m.a in
@@ -106,7 +101,7 @@ primitive_same g h pg ph m k =
     let x : ℕ → ℕ = λ j. unsigned_abs (entry g j) in
     let y : ℕ → ℕ = λ j. unsigned_abs (entry h j) in
     let sizes : (j : ℕ) → a * x j ≡ b * y j = λ j. sym (unsigned_abs-mul m.a (entry g j)) ∙ ap unsigned_abs (m.is j) ∙ unsigned_abs-mul m.b (entry h j) in
-    let f = factors (a + b) a b (omega arith) (some_size m.a m.a_positive) (some_size m.b m.b_positive) x y sizes in
+    let f = factors (a + b) a b (omega arith) (abs_some m.a (positive_some m.a m.a_positive)) (abs_some m.b (positive_some m.b m.b_positive)) x y sizes in
     let p_one : f.p ≡ 1 = pg f.p (λ j. subst (λ (n : ℕ). f.p ∣ n) (sym (f.left j)) (dvd-mul_right f.p (f.u j))) in
     let q_one : f.q ≡ 1 = ph f.q (λ j. subst (λ (n : ℕ). f.q ∣ n) (sym (f.right j)) (dvd-mul_right f.q (f.u j))) in
     let same : x k ≡ y k = f.left k ∙ ap (λ (n : ℕ). n * f.u k) (p_one ∙ sym q_one) ∙ sym (f.right k) in

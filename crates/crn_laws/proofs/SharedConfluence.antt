@@ -157,8 +157,8 @@ primitive_anew n m p g k h prim d all = prim d (λ j. elim (lt_or j n) as (λ _.
   | inr past ↦ subst (λ (x : ℤ). d ∣ unsigned_abs x) (sym (past_end g j (omega (arith, past, h.long)))) (dvd-zero d)
 ])
 
-negative_entry : (k : List ℤ) (j : ℕ) → entry (negative k) j ≡ neg_ℤ (entry k j)
-negative_entry k j = entry-scale (negsuc 0) k j ∙ minus_one (entry k j)
+negative_is : (k l : List ℤ) (j : ℕ) → l ≡ negative k → entry l j ≡ neg_ℤ (entry k j)
+negative_is k l j e = ap (λ (xs : List ℤ). entry xs j) e ∙ entry-scale (negsuc 0) k j ∙ minus_one (entry k j)
 
 negative_size : (x : ℤ) → unsigned_abs (neg_ℤ x) ≡ unsigned_abs x
 negative_size (pos zero) = refl
@@ -166,7 +166,7 @@ negative_size (pos (suc n)) = refl
 negative_size (negsuc n) = refl
 
 primitive_negative : (k : List ℤ) → IsPrimitive k → IsPrimitive (negative k)
-primitive_negative k prim d all = prim d (λ j. subst (λ (n : ℕ). d ∣ n) (ap unsigned_abs (negative_entry k j) ∙ negative_size (entry k j)) (all j))
+primitive_negative k prim d all = prim d (λ j. subst (λ (n : ℕ). d ∣ n) (ap unsigned_abs (negative_is k (negative k) j refl) ∙ negative_size (entry k j)) (all j))
 
 normal_anew : (net other : Net) (h : IsRenumbered net other) (g k : List ℤ) → IsNetwork net → IsNetwork other → IsRegular net → HasConfluenceLine net → IsNormalVector net g → IsNormalVector other k
     → IsVectorAnew net other h g k ⊎ (IsVectorAnew net other h (negative g) k × IsWeaklyReversible net.reactions)
@@ -184,12 +184,12 @@ normal_anew net other h g k n o regular line normal also =
           inl (record { long = moved.long; long_too = long_too; same = λ y lt. sym (same (h.complexes.to y)) ∙ moved.same y lt })
       | inr (m, weak) ↦
           let same = primitive_same there (negative k) prim (primitive_negative k also.primitive) m in
-          let opposite : (j : ℕ) → entry k j ≡ neg_ℤ (entry there j) = λ j. let e = same j ∙ negative_entry k j in omega (arith, ints, e) in
+          let opposite : (j : ℕ) → entry k j ≡ neg_ℤ (entry there j) = λ j. let e = same j ∙ negative_is k (negative k) j refl in omega (arith, ints, e) in
           inr (
             record {
               long = length-scale (negsuc 0) g ∙ moved.long;
               long_too = long_too;
-              same = λ y lt. opposite (h.complexes.to y) ∙ ap neg_ℤ (moved.same y lt) ∙ sym (negative_entry g y);
+              same = λ y lt. opposite (h.complexes.to y) ∙ ap neg_ℤ (moved.same y lt) ∙ sym (negative_is g (negative g) y refl);
             },
             weakly_anew other net o n (turned_net net other n h) weak,
           )
