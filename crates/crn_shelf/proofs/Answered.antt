@@ -44,6 +44,7 @@ use Rattle.crn_cert.specs.TreeSizes.{HasFewNodes}
 use Rattle.crn_sign.specs.Search.{IsSearchStop}
 use Rattle.crn_shape.specs.Sides.{AreClassesBy}
 use Rattle.crn_shelf.specs.Given.{GiveVector}
+use Rattle.crn_shelf.specs.Visits.{ListSignalVisits, ListsVisitsFor}
 use Rattle.crn_shelf.specs.Inner.Shapes.{EndsFor, StopsFor}
 use Rattle.crn_shelf.specs.Inner.Answers.{shelf_number, IsFoundAnswer, spent_answer, wide_answer, one_answer, two_answer, IsStopAnswer}
 use Rattle.crn_conc.proofs.CallerLemmas.{solution_free}
@@ -306,6 +307,20 @@ few_one net g budget tree e = omega (arith, e.2.2, count_places [] tree)
 
 pub few_two : (net : Net) (g h : List ℤ) (budget : ℕ) (tree second : Plan) → EndsFor net g budget (Refuted tree) → EndsFor net h budget (Refuted second) → HasFewNodes budget (two_answer tree second).proof
 few_two net g h budget tree second e f = (few_one net g budget tree e, few_one net h budget second f)
+
+-- ---- visits
+
+pub visits_one : (net : Net) (g : List ℤ) (budget : ℕ) (tree : Plan) → EndsFor net g budget (Refuted tree) → ListsVisitsFor net g tree
+visits_one net g budget tree e = (e.0, e.1, e.2.1)
+
+-- an answer without a tree
+pub found_visits : (net : Net) (g : List ℤ) (turn : ℤ) (count species : ℕ) (q : List Sign) (a b : List ℤ) (answer : Answer) → IsFoundAnswer turn count species q a b answer → ListSignalVisits net g answer.proof
+found_visits net g turn count species q a b answer f = subst (λ (x : Answer). ListSignalVisits net g x.proof) (sym f.is) tt
+
+pub stop_visits : (net : Net) (g : List ℤ) (stop : SearchStop) (answer : Answer) → IsStopAnswer stop answer → ListSignalVisits net g answer.proof
+stop_visits net g (WideA index basis) answer e = subst (λ (x : Answer). ListSignalVisits net g x.proof) (sym e) tt
+stop_visits net g (WideB index basis is_first) answer e = subst (λ (x : Answer). ListSignalVisits net g x.proof) (sym e) tt
+stop_visits net g NoMemory answer e = absurd e
 
 -- ---- the shape
 

@@ -13,6 +13,7 @@ ghost use Rattle.crn_cert.specs.TreeSizes.{HasFewNodes};
 ghost use Rattle.crn_shape.specs.Sides.{AreSides};
 ghost use Rattle.crn_shelf.specs.Given.{GiveVector};
 ghost use Rattle.crn_shelf.specs.Order.{IsForNegative};
+ghost use Rattle.crn_shelf.specs.Visits.{ListSignalVisits};
 ghost use Rattle.crn_shelf.specs.Inner.Shapes.{EndsFor};
 ghost use Rattle.crn_sign.specs.declared.end.SearchEnd.{SearchEnd};
 ghost use Rattle.crn_shelf.specs.Inner.Answers.{IsFoundAnswer, IsStopAnswer, one_answer, shelf_number, spent_answer, two_answer, wide_answer};
@@ -155,6 +156,7 @@ fn by_negative(
     ensures answer { IfOk result (λ answer. (earlier : Earlier) →
         GiveVector net.now earlier g.now true → IsAnswer net.now budget earlier Q13 answer) }
     ensures nodes { IfOk result (λ answer. HasFewNodes budget answer.proof) }
+    ensures visits { IfOk result (λ answer. ListSignalVisits net.now g.now answer.proof) }
     ensures spent { IfOk result (λ answer.
         PassForSignals net.now (negative g.now) budget → IsOpen answer.verdict) }
 {
@@ -177,7 +179,7 @@ fn by_negative(
 /// It tries g first and, if the network is weakly reversible and g has no signal, -g. The budget
 /// bounds each of the two searches by itself: if the visits of one of them exceed it, the question is
 /// open. If the search for g stops early, -g is not tried, so a yes for -g is given only if g has no
-/// signal.
+/// signal. A tree has one node for each visit of its search.
 pub fn signal(
     alloc: Global,
     net: &Network,
@@ -200,6 +202,7 @@ pub fn signal(
     ensures answer { IfOk result (λ answer. (earlier : Earlier) →
         GiveVector net.now earlier g.now weak → IsAnswer net.now budget earlier Q13 answer) }
     ensures nodes { IfOk result (λ answer. HasFewNodes budget answer.proof) }
+    ensures visits { IfOk result (λ answer. ListSignalVisits net.now g.now answer.proof) }
     ensures spent { IfOk result (λ answer.
         PassForSignals net.now g.now budget → IsOpen answer.verdict) }
     ensures first { IfOk result (λ answer.

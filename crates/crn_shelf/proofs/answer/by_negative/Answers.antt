@@ -13,9 +13,10 @@ use Rattle.crn_cert.specs.TreeSizes.{HasFewNodes}
 use Rattle.crn_sign.specs.Search.{IsSearchEnd}
 use Rattle.crn_sign.specs.declared.end.SearchEnd.TheVariants.{Found, Refuted, Spent}
 use Rattle.crn_shelf.specs.Given.{GiveVector}
+use Rattle.crn_shelf.specs.Visits.{ListSignalVisits}
 use Rattle.crn_shelf.specs.Inner.Shapes.{EndsFor}
 use Rattle.crn_shelf.specs.Inner.Answers.{IsFoundAnswer, IsStopAnswer}
-use Rattle.crn_shelf.proofs.Answered.{found_is, two_is, spent_is, stopped, stops_for, stops_negative, negative_too, no_signal, few_two}
+use Rattle.crn_shelf.proofs.Answered.{found_is, two_is, spent_is, stopped, stops_for, stops_negative, negative_too, no_signal, few_two, found_visits, stop_visits, visits_one}
 use Rattle.crn_shelf.proofs.Budgets.{found_within, refuted_within, stop_open}
 use Rattle.crn_shelf.proofs.answer.by_negative.Goals as goal
 
@@ -57,6 +58,33 @@ returns-in-Ok-Refuted-clause-nodes c =
     let e : EndsFor net (negative g) c.args.budget (Refuted r.second) = (u, subst (IsShapeOf net (negative g)) (sym c.negate.ensures) (negatives_have_opposite_shapes net g c.args.shape c.requires.shape), subst (IsSearchEnd (signals u (reaction_system net)) c.args.budget) r.field-0-is r.ensures) in
     subst (λ (a : Answer). HasFewNodes c.args.budget a.proof) (sym c.two_answer.ensures)
     (few_two net g (negative g) c.args.budget c.args.tree r.second c.requires.tree e)
+
+pub returns-in-Ok-Refuted-clause-visits : goal.returns-in-Ok-Refuted-clause-visits
+returns-in-Ok-Refuted-clause-visits c =
+    let net = c.args.net.now in
+    let g = c.args.g.now in
+    let r = c.in-Ok-Refuted in
+    let u : Shape = c.negate.new.self in
+    let e : EndsFor net (negative g) c.args.budget (Refuted r.second) = (u, subst (IsShapeOf net (negative g)) (sym c.negate.ensures) (negatives_have_opposite_shapes net g c.args.shape c.requires.shape), subst (IsSearchEnd (signals u (reaction_system net)) c.args.budget) r.field-0-is r.ensures) in
+    subst (λ (a : Answer). ListSignalVisits net g a.proof) (sym c.two_answer.ensures)
+    (visits_one net g c.args.budget c.args.tree c.requires.tree, visits_one net (negative g) c.args.budget r.second e)
+
+pub returns-in-Ok-Found-clause-visits : goal.returns-in-Ok-Found-clause-visits
+returns-in-Ok-Found-clause-visits c =
+    let net = c.args.net.now in
+    let g = c.args.g.now in
+    let f = c.in-Ok-Found in
+    if_ok (IsFoundAnswer (negsuc 0) c.args.strong.now.terminal (length net.names) c.as_slice.result.now f.a.list f.b.list)
+    (λ (answer : Answer). ListSignalVisits net g answer.proof) c.found_answer.result
+    (λ answer h. found_visits net g (negsuc 0) c.args.strong.now.terminal (length net.names) c.as_slice.result.now f.a.list f.b.list answer h) c.found_answer.ensures
+
+pub returns-in-Ok-Spent-clause-visits : goal.returns-in-Ok-Spent-clause-visits
+returns-in-Ok-Spent-clause-visits c = subst (λ (a : Answer). ListSignalVisits c.args.net.now c.args.g.now a.proof) (sym c.spent_answer.ensures) tt
+
+pub returns-clause-visits : goal.returns-clause-visits
+returns-clause-visits c =
+    if_ok (IsStopAnswer c.in-Err.stop) (λ (answer : Answer). ListSignalVisits c.args.net.now c.args.g.now answer.proof) c.stop_answer.result
+    (λ answer e. stop_visits c.args.net.now c.args.g.now c.in-Err.stop answer e) c.stop_answer.ensures
 
 pub returns-in-Ok-Spent-clause-answer : goal.returns-in-Ok-Spent-clause-answer
 returns-in-Ok-Spent-clause-answer c =

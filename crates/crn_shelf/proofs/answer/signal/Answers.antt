@@ -14,10 +14,11 @@ use Rattle.crn_cert.specs.Licensed.{PassForSignals}
 use Rattle.crn_cert.specs.Answered.{IsAnswer}
 use Rattle.crn_cert.specs.TreeSizes.{HasFewNodes}
 use Rattle.crn_shelf.specs.Given.{GiveVector}
+use Rattle.crn_shelf.specs.Visits.{ListSignalVisits}
 use Rattle.crn_shelf.specs.Inner.Shapes.{EndsFor}
 use Rattle.crn_shelf.specs.Inner.Answers.{IsFoundAnswer, IsStopAnswer}
 use Rattle.crn_shelf.specs.Order.{IsForNegative}
-use Rattle.crn_shelf.proofs.Answered.{found_is, found_has_signal, one_is, spent_is, stopped, stops_for, few_one, classes_by, no_signal}
+use Rattle.crn_shelf.proofs.Answered.{found_is, found_has_signal, one_is, spent_is, stopped, stops_for, few_one, classes_by, no_signal, found_visits, stop_visits, visits_one}
 use Rattle.crn_shelf.proofs.Budgets.{found_within, refuted_within, stop_open, open_is_no_yes, found_is_first}
 use Rattle.crn_shelf.proofs.answer.signal.Goals as goal
 use Rattle.crn_vec.proofs.CallerLemmas.{if_ok}
@@ -69,6 +70,28 @@ pub returns-else-weak-clause-nodes : goal.returns-else-weak-clause-nodes
 returns-else-weak-clause-nodes c =
     subst (λ (a : Answer). HasFewNodes c.args.budget a.proof) (sym c.one_answer.ensures)
     (few_one c.args.net.now c.args.g.now c.args.budget c.in-Ok-Refuted.tree (c.in_ok-shape.shape, c.in_ok-shape.ensures, subst (IsSearchEnd (signals c.in_ok-shape.shape (reaction_system c.args.net.now)) c.args.budget) c.in-Ok-Refuted.field-0-is c.in-Ok-Refuted.ensures))
+
+pub returns-else-weak-clause-visits : goal.returns-else-weak-clause-visits
+returns-else-weak-clause-visits c =
+    subst (λ (a : Answer). ListSignalVisits c.args.net.now c.args.g.now a.proof) (sym c.one_answer.ensures)
+    (visits_one c.args.net.now c.args.g.now c.args.budget c.in-Ok-Refuted.tree (c.in_ok-shape.shape, c.in_ok-shape.ensures, subst (IsSearchEnd (signals c.in_ok-shape.shape (reaction_system c.args.net.now)) c.args.budget) c.in-Ok-Refuted.field-0-is c.in-Ok-Refuted.ensures))
+
+pub returns-in-Ok-Found-clause-visits : goal.returns-in-Ok-Found-clause-visits
+returns-in-Ok-Found-clause-visits c =
+    let net = c.args.net.now in
+    let g = c.args.g.now in
+    let f = c.in-Ok-Found in
+    if_ok (IsFoundAnswer (pos 1) c.args.strong.now.terminal (length net.names) c.as_slice.result.now f.a.list f.b.list)
+    (λ (answer : Answer). ListSignalVisits net g answer.proof) c.found_answer.result
+    (λ answer h. found_visits net g (pos 1) c.args.strong.now.terminal (length net.names) c.as_slice.result.now f.a.list f.b.list answer h) c.found_answer.ensures
+
+pub returns-in-Ok-Spent-clause-visits : goal.returns-in-Ok-Spent-clause-visits
+returns-in-Ok-Spent-clause-visits c = subst (λ (a : Answer). ListSignalVisits c.args.net.now c.args.g.now a.proof) (sym c.spent_answer.ensures) tt
+
+pub returns-in-Err-clause-visits : goal.returns-in-Err-clause-visits
+returns-in-Err-clause-visits c =
+    if_ok (IsStopAnswer c.in-Err.stop) (λ (answer : Answer). ListSignalVisits c.args.net.now c.args.g.now answer.proof) c.stop_answer.result
+    (λ answer e. stop_visits c.args.net.now c.args.g.now c.in-Err.stop answer e) c.stop_answer.ensures
 
 pub returns-in-Err-clause-answer : goal.returns-in-Err-clause-answer
 returns-in-Err-clause-answer c =
