@@ -11,6 +11,7 @@ use Rattle.crn_ctext.specs.Documents as documents
 use Rattle.crn_ctext.specs.Meaning.{Known, meaning}
 use Rattle.crn_ctext.specs.Judged.{AreFormedOf, IsGood, IsReadOf, ReadDocumentsAreGood}
 use Rattle.crn_ctext.specs.Linked.{AreSound, FormedRecordsAreOfAnswers}
+use Rattle.crn_render.specs.Length.{Has32Bits}
 use Rattle.crn_render.specs.Report.{render}
 use Rattle.crn_document.specs.Check.{Accepts, IsTextOf, Rejects}
 use Rattle.crn_document.specs.declared.check.Accepted.{Accepted}
@@ -57,20 +58,20 @@ accept_ends same status words a old new said g line = output_ends Check Done sta
   says = checked same g.text a.net g.blocks a.verdicts g.gives g.verdicts g.sound;
 }) line
 
-pub reject_ends : (status : Status) (words : List (List ℕ)) (code line : ℕ) (old new : Devices) → IsCommand words Check → Rejects code line old.source new.source
+pub reject_ends : (status : Status) (words : List (List ℕ)) (code line : ℕ) (old new : Devices) → Has32Bits line → Has32Bits code → IsCommand words Check → Rejects code line old.source new.source
     → LineGives Rejected status (rejected_line code line) old.sink new.sink → RunGives status words old new
-reject_ends status words code line old new said g writes = output_ends Check Rejected status words g.text (rejected_line code line) old new (record {
+reject_ends status words code line old new line_short code_short said g writes = output_ends Check Rejected status words g.text (rejected_line code line) old new (record {
   said = said;
   read = (g.read.pulled, g.read.bound, g.read.consumed);
   within = inl (Check, said, (g.read.pulled, g.read.bound, g.read.consumed));
   source = g.read.faults;
   left = left_of old.source.left g.read.pulled g.text g.read.is;
-  says = record { line = line; code = code; fault = g.fault; written = refl };
+  says = record { line = line; code = code; short = (line_short, code_short); fault = g.fault; written = refl };
 }) writes
 
 -- ---- what is read is formed
 
-valid_formed : (qs : List Question) (known : Known) (answers : List (List Record)) → documents.AreValid meaning qs known answers → documents.AreFormed meaning qs known answers
+pub valid_formed : (qs : List Question) (known : Known) (answers : List (List Record)) → documents.AreValid meaning qs known answers → documents.AreFormed meaning qs known answers
 unfolding documents.AreValid documents.AreFormed
 valid_formed [] known answers v = v
 valid_formed (q ∷ qs) known [] v = v

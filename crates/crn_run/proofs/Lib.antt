@@ -4,6 +4,7 @@ mod Outputs
 mod Certificates
 mod Accepted
 mod Checked
+mod Short
 mod Complete
 mod ClapWords
 mod ClapSteps

@@ -17,6 +17,7 @@ use Rattle.crn_ctext.specs.Judged.{IsGood}
 use Rattle.crn_render.specs.Report.{render}
 use Rattle.crn_render.specs.Summary.{summary}
 use Rattle.crn_sample.specs.Sample.{sample_text}
+use Rattle.crn_solve.specs.Visits.{HaveNodeForEachVisit}
 use Rattle.crn_cert.specs.declared.answer.Answer.{Answer}
 use Rattle.crn_run.specs.Run.{AreAnswersOf, AreLeftBy, certificate, IsCertificateOf, IsOutput, IsReportOf, IsSummaryOf}
 use Rattle.crn_run.specs.Inner.Steps.{LineGives, OutputGives}
@@ -77,20 +78,20 @@ report_broken budget whole text net answers verdicts old new e says valid left w
     let here : WrotePrefix (render built net (verdicts_of answers)) old new = subst (λ (vs : List Verdict). WrotePrefix (render built net vs) old new) e w in
     inr (whole, render built net (verdicts_of answers), report_is_output budget whole text (render built net (verdicts_of answers)) answers left (reported budget text net answers says valid), here)
 
-certified : (budget : ℕ) (text : List ℕ) (net : Net) (answers : List Answer) → AreAnswersOf budget text net answers → AreValid net [] built answers → HaveFewNodes budget answers → IsGood (certificate net answers) → IsCertificateOf budget text (certificate net answers) answers
-certified budget text net answers says valid few good = record { net = net; says = says; valid = valid; few = few; written = refl; good = good }
+certified : (budget : ℕ) (text : List ℕ) (net : Net) (answers : List Answer) → AreAnswersOf budget text net answers → AreValid net [] built answers → HaveFewNodes budget answers → HaveNodeForEachVisit net answers → IsGood (certificate net answers) → IsCertificateOf budget text (certificate net answers) answers
+certified budget text net answers says valid few visits good = record { net = net; says = says; valid = valid; few = few; visits = visits; written = refl; good = good }
 
 pub certificate_gives : (budget : ℕ) (whole : Status) (text : List ℕ) (net : Net) (answers : List Answer) (out : List ℕ) (old new : SinkSeen) → out ≡ certificate net answers → AreAnswersOf budget text net answers
-    → AreValid net [] built answers → HaveFewNodes budget answers → IsGood (certificate net answers) → AreLeftBy whole answers → WroteAll out old new → OutputGives (Certify budget) whole text old new
-certificate_gives budget whole text net answers out old new e says valid few good left w =
+    → AreValid net [] built answers → HaveFewNodes budget answers → HaveNodeForEachVisit net answers → IsGood (certificate net answers) → AreLeftBy whole answers → WroteAll out old new → OutputGives (Certify budget) whole text old new
+certificate_gives budget whole text net answers out old new e says valid few visits good left w =
     let here : WroteAll (certificate net answers) old new = subst (λ (t : List ℕ). WroteAll t old new) e w in
-    inr (whole, certificate net answers, certificate_is_output budget whole text (certificate net answers) answers left (certified budget text net answers says valid few good), whole_is_written whole (certificate net answers) answers old new left here)
+    inr (whole, certificate net answers, certificate_is_output budget whole text (certificate net answers) answers left (certified budget text net answers says valid few visits good), whole_is_written whole (certificate net answers) answers old new left here)
 
 pub certificate_broken : (budget : ℕ) (whole : Status) (text : List ℕ) (net : Net) (answers : List Answer) (out : List ℕ) (old new : SinkSeen) → out ≡ certificate net answers → AreAnswersOf budget text net answers
-    → AreValid net [] built answers → HaveFewNodes budget answers → IsGood (certificate net answers) → AreLeftBy whole answers → WrotePrefix out old new → OutputGives (Certify budget) WriteFault text old new
-certificate_broken budget whole text net answers out old new e says valid few good left w =
+    → AreValid net [] built answers → HaveFewNodes budget answers → HaveNodeForEachVisit net answers → IsGood (certificate net answers) → AreLeftBy whole answers → WrotePrefix out old new → OutputGives (Certify budget) WriteFault text old new
+certificate_broken budget whole text net answers out old new e says valid few visits good left w =
     let here : WrotePrefix (certificate net answers) old new = subst (λ (t : List ℕ). WrotePrefix t old new) e w in
-    inr (whole, certificate net answers, certificate_is_output budget whole text (certificate net answers) answers left (certified budget text net answers says valid few good), here)
+    inr (whole, certificate net answers, certificate_is_output budget whole text (certificate net answers) answers left (certified budget text net answers says valid few visits good), here)
 
 summary_is_output : (number budget : ℕ) (whole : Status) (text out : List ℕ) (answers : List Answer) → AreLeftBy whole answers → IsSummaryOf number budget out answers → IsOutput (Sample number budget) whole text out
 summary_is_output number budget Done text out answers left r = (answers, left, r)
@@ -107,10 +108,11 @@ pub record AreSampled (number budget : ℕ) (net : Net) (answers : List Answer) 
   pub says : AreAnswersOf budget (sample_text number) net answers
   pub valid : AreValid net [] built answers
   pub few : HaveFewNodes budget answers
+  pub visits : HaveNodeForEachVisit net answers
   pub good : IsGood (certificate net answers)
 
 summarized : (number budget : ℕ) (net : Net) (answers : List Answer) (out : List ℕ) → AreSampled number budget net answers → out ≡ summary number net (verdicts_of answers) → IsSummaryOf number budget out answers
-summarized number budget net answers out a e = record { net = net; says = a.says; valid = a.valid; few = a.few; written = e; good = a.good }
+summarized number budget net answers out a e = record { net = net; says = a.says; valid = a.valid; few = a.few; visits = a.visits; written = e; good = a.good }
 
 pub summary_gives : (number budget : ℕ) (whole : Status) (text : List ℕ) (net : Net) (answers : List Answer) (verdicts : List Verdict) (old new : SinkSeen) → verdicts ≡ verdicts_of answers
     → AreSampled number budget net answers → AreLeftBy whole answers → WroteAll (summary number net verdicts) old new → OutputGives (Sample number budget) whole text old new

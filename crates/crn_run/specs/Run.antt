@@ -27,7 +27,9 @@ use Rattle.crn_ctext.specs.Linked.{AreSound, records_of}
 use Rattle.crn_ctext.specs.Meaning.{meaning, verdicts_said}
 use Rattle.crn_solve.specs.Spent.{AreOpenIfSpent}
 use Rattle.crn_solve.specs.Turns.{PreferTheVector}
+use Rattle.crn_solve.specs.Visits.{HaveNodeForEachVisit}
 use Rattle.crn_sample.specs.Sample.{sample_text}
+use Rattle.crn_render.specs.Length.{Has32Bits}
 use Rattle.crn_render.specs.Report.{render}
 use Rattle.crn_render.specs.Summary.{summary}
 use Rattle.crn_render.specs.Faults.{usage_line, fault_line, document_name}
@@ -76,23 +78,25 @@ certificate net answers =
     document2 built net (records_of net answers) (share_of (records_of net answers))
 
 -- the document of the network that the text spells and of these answers, of which each decided one
--- is valid, and none has a tree of more nodes than the budget; it is a good document
+-- is valid; no tree has more nodes than the budget, and each has one for each visit of its search;
+-- it is a good document
 pub record IsCertificateOf (budget : ℕ) (text out : List ℕ) (answers : List Answer) : Type 0 where
   pub net : Net
   pub says : AreAnswersOf budget text net answers
   pub valid : AreValid net [] built answers
   pub few : HaveFewNodes budget answers
+  pub visits : HaveNodeForEachVisit net answers
   pub written : out ≡ certificate net answers
   pub good : IsGood out
 
--- the summary of the sample network of this number and of the verdicts of these answers, of which
--- each decided one is valid, and none has a tree of more nodes than the budget; the document of the
--- network and of the answers is a good one
+-- the summary of the sample network of this number and of the verdicts of these answers, whose
+-- document would be as one that is written, and a good one
 pub record IsSummaryOf (number budget : ℕ) (out : List ℕ) (answers : List Answer) : Type 0 where
   pub net : Net
   pub says : AreAnswersOf budget (sample_text number) net answers
   pub valid : AreValid net [] built answers
   pub few : HaveFewNodes budget answers
+  pub visits : HaveNodeForEachVisit net answers
   pub written : out ≡ summary number net (verdicts_of answers)
   pub good : IsGood (certificate net answers)
 
@@ -122,10 +126,11 @@ pub record IsRefusalOf (text out : List ℕ) : Type 0 where
   pub fault : Fault text line code
   pub written : out ≡ refused_line code line
 
--- the line that says the first fault of a document
+-- the line that says the first fault of a document, whose line and code have 32 bits
 pub record IsRejectionOf (text out : List ℕ) : Type 0 where
   pub line : ℕ
   pub code : ℕ
+  pub short : Has32Bits line × Has32Bits code
   pub fault : IsFaultOf text line code
   pub written : out ≡ rejected_line code line
 

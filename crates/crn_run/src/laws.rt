@@ -1,4 +1,5 @@
-ghost use Rattle.std.specs.Prelude.{◌≡◌, ℕ, List};
+ghost use Rattle.std.specs.Prelude.{◌≡◌, ◌<◌, ℕ, List, length};
+ghost use Rattle.crn_io.specs.declared.lines.TheConstants.{MAX_DOCUMENT};
 ghost use Rattle.crn_run.specs.Run.{Devices, IsAllowed, IsQuiet, IsRefusalOf, IsRejectionOf, RunGives};
 ghost use Rattle.crn_run.specs.Words.{IsCommand, SayACommand};
 ghost use Rattle.crn_run.specs.declared.words.Command.{Command};
@@ -25,6 +26,12 @@ pub fn what_may_be_written_is_one_text()
     ensures checked { (words : List (List ℕ)) (text out other : List ℕ) →
         IsCommand words Check → IsAllowed words text out → IsAllowed words text other →
         out ≡ other }
+{}
+
+/// Each text that may be written is shorter than a document may be, so a sink with that room has room for each.
+pub fn what_may_be_written_is_short()
+    ensures { (words : List (List ℕ)) (text out : List ℕ) →
+        IsAllowed words text out → length out < MAX_DOCUMENT }
 {}
 
 /// Over a source that never fails and a sink with room for each text that may be written, a run meets no fault.

@@ -12,7 +12,8 @@ mod words;
 pub use crn_sample::sample;
 pub use crn_vec::{DEFAULT_BUDGET, MAX_BUDGET, MAX_BUDGET_DIGITS};
 pub use laws::{
-    quiet_devices_meet_no_fault, what_may_be_written_is_one_text, words_say_one_command,
+    quiet_devices_meet_no_fault, what_may_be_written_is_one_text, what_may_be_written_is_short,
+    words_say_one_command,
 };
 pub use runner::run;
 pub use status::Status;

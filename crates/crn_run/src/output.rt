@@ -15,6 +15,7 @@ ghost use Rattle.crn_ctext.specs.Judged.{IsGood};
 ghost use Rattle.crn_ctext.specs.Linked.{records_of};
 ghost use Rattle.crn_cert.specs.FormedVerdicts.{AreFormedVerdicts};
 ghost use Rattle.crn_render.specs.Faults.{IsDocumentCode, usage_line};
+ghost use Rattle.crn_render.specs.Length.{Has32Bits};
 ghost use Rattle.crn_render.specs.Report.{render};
 ghost use Rattle.crn_run.specs.Run.{AreLeftBy, HasOpen, certificate, refused_line, rejected_line};
 ghost use Rattle.crn_run.specs.Inner.Steps.{LineGives, NetworkGives};
@@ -57,8 +58,10 @@ pub(crate) fn refuse<K: Sink>(code: TextCode, line: u32, sink: &mut K) -> Status
 /// Writes the line that says why a document is rejected. Takes no memory.
 pub(crate) fn reject<K: Sink>(code: u32, line: u32, sink: &mut K) -> Status
     requires { IsDocumentCode code }
-    ensures { LineGives Rejected result (rejected_line code line)
+    ensures gives { LineGives Rejected result (rejected_line code line)
         (K.seen sink.old) (K.seen sink.new) }
+    ensures line_is_short { Has32Bits line }
+    ensures code_is_short { Has32Bits code }
 {
     match write_fault(&Printed::Rejected { code, line }, sink) {
         Ok(()) => Status::Rejected,

@@ -13,6 +13,9 @@ use Rattle.crn_cert.specs.Questions.{Earlier, IsOpen, Question, Q13, Q14, Q15}
 use Rattle.crn_cert.specs.TreeSizes.{HasFewNodes, HaveFewNodes}
 use Rattle.crn_cert.specs.Valid.{AreValid}
 use Rattle.crn_solve.specs.Spent.{AreOpenIfSpent}
+use Rattle.crn_solve.specs.Visits.{AllListVisits, HaveNodeForEachVisit}
+use Rattle.crn_vec.specs.Influence.{plain_table, strong_table}
+use Rattle.crn_conc.specs.Visits.{ListsTableVisits}
 use Rattle.crn_cert.specs.Verdicts.{tight}
 use Rattle.crn_solve.specs.Inner.Solved.{AreAnswers, AreFirstAnswers, FirstAreDecided, IsVectorFirst, first_questions}
 use Rattle.crn_solve.proofs.AllAnswers.{are_formed, are_valid, are_answered}
@@ -40,6 +43,12 @@ answers_then net budget earlier (q ∷ qs) (a ∷ xs) rest ys h k = (h.0, answer
 few_then : (budget : ℕ) (xs ys : List Answer) → HaveFewNodes budget xs → HaveFewNodes budget ys → HaveFewNodes budget (xs ++ ys)
 few_then budget [] ys h k = k
 few_then budget (a ∷ xs) ys h k = (h.0, few_then budget xs ys h.1 k)
+
+visits_then : (net : Net) (vs : List Verdict) (qs : List Question) (xs : List Answer) (rest : List Question) (ys : List Answer) → AllListVisits net vs qs xs → AllListVisits net vs rest ys → AllListVisits net vs (qs ++ rest) (xs ++ ys)
+visits_then net vs [] [] rest ys h k = k
+visits_then net vs [] (a ∷ xs) rest ys h k = absurd h
+visits_then net vs (q ∷ qs) [] rest ys h k = absurd h
+visits_then net vs (q ∷ qs) (a ∷ xs) rest ys h k = (h.0, visits_then net vs qs xs rest ys h.1 k)
 
 -- what is known of the answers to all questions
 pub record AreSolved (net : Net) (budget : ℕ) (answers : List Answer) : Type 0 where
@@ -85,6 +94,14 @@ solved_after net budget answers a b f l =
       spent = subst (AreOpenIfSpent net budget) (sym verdicts) (all_spent net budget answers a b f l);
       first = subst (IsVectorFirst net) (sym verdicts) (first (verdicts_of last));
     }
+
+-- the trees of all answers list the visits, if those on concordance do
+pub visits_after : (net : Net) (budget : ℕ) (answers : List Answer) (a b : Answer) → AreFirstAnswers net budget answers → ListsTableVisits net (plain_table net) a.proof → ListsTableVisits net (strong_table net) b.proof → HaveNodeForEachVisit net (answers ++ a ∷ b ∷ [])
+visits_after net budget answers a b f h k =
+    let visited = f.visits in
+    let last = a ∷ b ∷ [] in
+    subst (λ (vs : List Verdict). AllListVisits net vs built (answers ++ last)) (sym (map-append (λ (x : Answer). x.verdict) answers last))
+    (visits_then net (verdicts_of answers ++ verdicts_of last) first_questions answers (Q14 ∷ Q15 ∷ []) last (visited (verdicts_of last)) (h, (k, tt)))
 
 -- one after another is both at the end
 pub two_more : {A : Type 0} (xs ys zs : List A) (x y : A) → ys ≡ xs ++ x ∷ [] → zs ≡ ys ++ y ∷ [] → zs ≡ xs ++ x ∷ y ∷ []

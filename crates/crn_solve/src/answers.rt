@@ -13,6 +13,7 @@ ghost use Rattle.crn_cert.specs.Licensed.{AllTrueOrLicensed};
 ghost use Rattle.crn_cert.specs.TreeSizes.{HaveFewNodes};
 ghost use Rattle.crn_solve.specs.Spent.{AreOpenIfSpent};
 ghost use Rattle.crn_solve.specs.Turns.{PreferTheVector};
+ghost use Rattle.crn_solve.specs.Visits.{HaveNodeForEachVisit};
 ghost use Rattle.crn_solve.specs.Inner.Solved.{AreFirstAnswers};
 
 use crate::concordance::{concordance_verdicts, decide_concordance};
@@ -139,8 +140,8 @@ fn first_answers(alloc: Global, net: &Network, budget: u32) -> Result<First, NoM
 /// The answers to the questions that are built, in order. The budget is the most prefixes that a search may visit.
 ///
 /// Each answer is formed and valid, and its verdict is true of the network, or open and licensed with this budget.
-/// The first four are never open. Each tree has at most as many nodes as the budget, and a question is open if the visits of
-/// its search exceed it. A signal is sought for the vector of question 12 first, and question 13 is a yes for the negative
+/// The first four are never open. Each tree has one node for each visit of its search, so at most as many as the budget, and
+/// a question is open if the visits of its search exceed it. A signal is sought for the vector of question 12 first, and question 13 is a yes for the negative
 /// only if the vector has none.
 pub fn solve(alloc: Global, net: &Network, budget: u32) -> Result<Answers, NoMemory>
     requires some { 1 ≤ budget }
@@ -152,6 +153,7 @@ pub fn solve(alloc: Global, net: &Network, budget: u32) -> Result<Answers, NoMem
     ensures decided { IfOk result (λ answers.
         AllByRecursion (λ v. IsOpen v → ⊥) (take 4 (verdicts_of answers))) }
     ensures nodes { IfOk result (λ answers. HaveFewNodes budget answers) }
+    ensures visits { IfOk result (λ answers. HaveNodeForEachVisit net.now answers) }
     ensures spent { IfOk result (λ answers.
         AreOpenIfSpent net.now budget (verdicts_of answers)) }
     ensures first { IfOk result (λ answers. PreferTheVector net.now (verdicts_of answers)) }

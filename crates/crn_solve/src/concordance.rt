@@ -1,11 +1,13 @@
 ghost use Rattle.std.specs.Prelude.{◌≡◌, ◌≤◌, IfOk};
 ghost use Rattle.crn_vec.specs.declared.limits.TheConstants.{MAX_BUDGET};
+ghost use Rattle.crn_vec.specs.Influence.{plain_table, strong_table};
 ghost use Rattle.crn_vec.specs.NetSystems.{reaction_system};
 ghost use Rattle.crn_cert.specs.Answered.{IsAnswer};
 ghost use Rattle.crn_cert.specs.Licensed.{IsLicensedBudget};
 ghost use Rattle.crn_cert.specs.Questions.{Earlier, IsOpen, Q14, Q15};
 ghost use Rattle.crn_cert.specs.TreeSizes.{HasFewNodes};
 ghost use Rattle.crn_conc.specs.Answers.{HasAnswer};
+ghost use Rattle.crn_conc.specs.Visits.{ListsTableVisits};
 
 use crn_conc::{ConcordanceAnswers, ConcordanceVerdicts};
 use crn_farkas::Solver;
@@ -32,6 +34,10 @@ pub(crate) fn decide_concordance(
         IsAnswer net.now budget earlier Q15 made.strong) }
     ensures plain_nodes { IfOk result (λ made. HasFewNodes budget made.plain.proof) }
     ensures strong_nodes { IfOk result (λ made. HasFewNodes budget made.strong.proof) }
+    ensures plain_visits { IfOk result (λ made.
+        ListsTableVisits net.now (plain_table net.now) made.plain.proof) }
+    ensures strong_visits { IfOk result (λ made.
+        ListsTableVisits net.now (strong_table net.now) made.strong.proof) }
     ensures plain_spent { IfOk result (λ made. (earlier : Earlier) →
         IsLicensedBudget net.now earlier Q14 budget → IsOpen made.plain.verdict) }
     ensures strong_spent { IfOk result (λ made. (earlier : Earlier) →

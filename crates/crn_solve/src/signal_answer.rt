@@ -1,4 +1,4 @@
-ghost use Rattle.std.specs.Prelude.{◌≡◌, ◌≤◌, IfOk, IsSomeAnd};
+ghost use Rattle.std.specs.Prelude.{◌≡◌, ◌≤◌, IfOk, IfSome, IsSomeAnd};
 ghost use Rattle.crn_vec.specs.declared.limits.TheConstants.{MAX_BUDGET};
 ghost use Rattle.crn_vec.specs.NetSignals.{HasNoSignal};
 ghost use Rattle.crn_cert.specs.Verdicts.{tight};
@@ -9,6 +9,7 @@ ghost use Rattle.crn_cert.specs.Answered.{IsAnswer};
 ghost use Rattle.crn_cert.specs.Licensed.{IsLicensedBudget};
 ghost use Rattle.crn_cert.specs.TreeSizes.{HasFewNodes};
 ghost use Rattle.crn_shelf.specs.Order.{IsForNegative};
+ghost use Rattle.crn_shelf.specs.Visits.{ListSignalVisits};
 ghost use Rattle.crn_solve.specs.Inner.Given.{inapplicable_answer};
 ghost use Rattle.crn_solve.specs.Inner.Sides.{GiveSides};
 
@@ -53,6 +54,8 @@ pub(crate) fn signal_answer(
         IsTrueOf net.now Q2 (on earlier Q2) → on earlier Q4 ≡ tight weak.now →
         on earlier Q12 ≡ tight confluence.now → IsAnswer net.now budget earlier Q13 answer) }
     ensures nodes { IfOk result (λ answer. HasFewNodes budget answer.proof) }
+    ensures visits { IfOk result (λ answer. IfSome (vector_given confluence.now)
+        (λ g. ListSignalVisits net.now g answer.proof)) }
     ensures spent { IfOk result (λ answer. (earlier : Earlier) →
         on earlier Q12 ≡ confluence.now → IsLicensedBudget net.now earlier Q13 budget →
         IsOpen answer.verdict) }

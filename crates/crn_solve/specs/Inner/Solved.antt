@@ -15,6 +15,7 @@ use Rattle.crn_cert.specs.Questions.{Earlier, Question, IsOpen, on, vector_given
 use Rattle.crn_cert.specs.Verdicts.{tight}
 use Rattle.crn_cert.specs.TreeSizes.{HaveFewNodes}
 use Rattle.crn_shelf.specs.Order.{IsForNegative}
+use Rattle.crn_solve.specs.Visits.{AllListVisits}
 
 -- an answer to each question, after the earlier verdicts and those of the answers before, whose
 -- lists count without their spares
@@ -55,5 +56,7 @@ pub record AreFirstAnswers (net : Net) (budget : ℕ) (answers : List Answer) : 
   pub decided : (more : List Verdict) → FirstAreDecided (verdicts_of answers ++ more)
   pub spent : (more : List Verdict) → IsOpenIfSpent net budget (verdicts_of answers ++ more)
   pub first : (more : List Verdict) → IsVectorFirst net (verdicts_of answers ++ more)
+  pub visits : (more : List Verdict) → AllListVisits net (verdicts_of answers ++ more)
+      first_questions answers
   pub last : (concordant strongly : Verdict) → AreOnConcordance concordant strongly
       (verdicts_of answers ++ concordant ∷ strongly ∷ [])

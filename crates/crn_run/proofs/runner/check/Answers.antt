@@ -11,4 +11,4 @@ pub returns-in-Ok : goal.returns-in-Ok
 returns-in-Ok g c = λ words said. accept_ends c.good_documents_are_read.ensures.same c.accept.result words c.in-Ok.accepted _ _ said c.in-Ok.ensures.gives c.accept.ensures
 
 pub returns-in-Err-Rejected : goal.returns-in-Err-Rejected
-returns-in-Err-Rejected g c = λ words said. reject_ends c.reject.result words c.in-Err-Rejected.code c.in-Err-Rejected.line _ _ said (rw c.in-Err-Rejected.field-0-is at c.in-Err-Rejected.ensures.gives) c.reject.ensures
+returns-in-Err-Rejected g c = λ words said. reject_ends c.reject.result words c.in-Err-Rejected.code c.in-Err-Rejected.line _ _ c.reject.ensures.line_is_short c.reject.ensures.code_is_short said (rw c.in-Err-Rejected.field-0-is at c.in-Err-Rejected.ensures.gives) c.reject.ensures.gives

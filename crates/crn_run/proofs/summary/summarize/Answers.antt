@@ -13,6 +13,7 @@ returns-in-Ok-write_summary g c = λ text.
       says = record { spells = c.requires.spells; formed = c.in-Ok.ensures.formed; answered = c.in-Ok.ensures.answered; spent = c.in-Ok.ensures.spent; first = c.in-Ok.ensures.first };
       valid = c.in-Ok.ensures.valid;
       few = c.in-Ok.ensures.nodes;
+      visits = c.in-Ok.ensures.visits;
       good = c.check_answers.ensures;
     }) c.status_of-whole.ensures c.in-Ok-write_summary.ensures.all
 
@@ -22,5 +23,6 @@ returns g c = λ text.
       says = record { spells = c.requires.spells; formed = c.in-Ok.ensures.formed; answered = c.in-Ok.ensures.answered; spent = c.in-Ok.ensures.spent; first = c.in-Ok.ensures.first };
       valid = c.in-Ok.ensures.valid;
       few = c.in-Ok.ensures.nodes;
+      visits = c.in-Ok.ensures.visits;
       good = c.check_answers.ensures;
     }) c.status_of-whole.ensures c.in-Err-write_summary.ensures.prefix

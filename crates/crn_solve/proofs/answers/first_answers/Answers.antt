@@ -254,5 +254,6 @@ returns-clause-answers c =
       decided = λ more. (d1.decided, (d2.decided, (d3.decided, (d4.decided, tt))));
       spent = λ more. c.in_ok-signal.ensures.spent (zip built (verdicts_of answers ++ more)) refl;
       first = λ more. c.in_ok-signal.ensures.first;
+      visits = λ more. (tt, (tt, (tt, (tt, (tt, (tt, (tt, (tt, (tt, (tt, (tt, (tt, (c.in_ok-signal.ensures.visits, tt)))))))))))));
       last = λ concordant strongly. (refl, refl);
     })

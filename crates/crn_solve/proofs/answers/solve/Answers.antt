@@ -1,7 +1,8 @@
 use Rattle.std.proofs.Common.{[], List, sym, subst, arith}
 use Rattle.crn_cert.specs.declared.answer.Answer.{Answer}
 use Rattle.crn_solve.specs.Inner.Solved.{first_questions}
-use Rattle.crn_solve.proofs.Solved.{AreSolved, answers_counted, one_more, solved_after, two_more}
+use Rattle.crn_solve.specs.Visits.{HaveNodeForEachVisit}
+use Rattle.crn_solve.proofs.Solved.{AreSolved, answers_counted, one_more, solved_after, two_more, visits_after}
 use Rattle.crn_solve.proofs.answers.solve.Goals as goal
 
 pub push-requires : goal.push-requires
@@ -19,4 +20,6 @@ returns c =
     let h = c.in_ok-on_tables.ensures in
     let s = solved_after net budget c.in_ok-first.first.answers _ _ c.in_ok-first.ensures.answers (record { first = h.plain; first_few = h.plain_nodes; second = h.strong; second_few = h.strong_nodes; first_spent = h.plain_spent; second_spent = h.strong_spent }) in
     let t = subst (λ (answers : List Answer). AreSolved net budget answers) (sym (two_more c.in_ok-first.first.answers _ _ _ _ c.push.ensures c.push-2.ensures)) s in
-    record { formed = t.formed; valid = t.valid; answered = t.answered; decided = t.decided; nodes = t.nodes; spent = t.spent; first = t.first }
+    let visits = visits_after net budget c.in_ok-first.first.answers _ _ c.in_ok-first.ensures.answers h.plain_visits h.strong_visits in
+    let all = subst (HaveNodeForEachVisit net) (sym (two_more c.in_ok-first.first.answers _ _ _ _ c.push.ensures c.push-2.ensures)) visits in
+    record { formed = t.formed; valid = t.valid; answered = t.answered; decided = t.decided; nodes = t.nodes; visits = all; spent = t.spent; first = t.first }

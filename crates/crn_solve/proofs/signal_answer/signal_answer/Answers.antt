@@ -1,5 +1,8 @@
-use Rattle.std.proofs.Common.{◌≡◌, ◌∙◌, List, ap, sym, subst}
-use Rattle.std.specs.Prelude.{ℤ, IsSomeAnd, IsTrue}
+use Rattle.crn_shelf.specs.Visits.{ListSignalVisits}
+use Rattle.crn_cert.specs.declared.answer.Proof.TheVariants.{Nothing}
+use Rattle.crn_vec.specs.Network.{Net}
+use Rattle.std.proofs.Common.{◌≡◌, ◌∙◌, List, ap, sym, subst, refl}
+use Rattle.std.specs.Prelude.{ℤ, IsSomeAnd, IsTrue, IfSome, None, Option, Some}
 use Rattle.crn_vec.specs.Confluence.{IsNormalVector, negative}
 use Rattle.crn_vec.specs.NetSignals.{HasNoSignal}
 use Rattle.crn_cert.specs.declared.answer.Answer.{Answer}
@@ -44,6 +47,26 @@ returns-in-YesVec-Sides-clause-answer c =
     if_ok (λ (answer : Answer). (earlier : Earlier) → GiveVector net earlier g b → IsAnswer net c.args.budget earlier Q13 answer)
     (λ (answer : Answer). (earlier : Earlier) → IsTrueOf net Q2 (on earlier Q2) → on earlier Q4 ≡ tight w → on earlier Q12 ≡ tight v → IsAnswer net c.args.budget earlier Q13 answer) c.signal.result
     (λ answer h earlier strong four twelve. h earlier (subst (λ (l : List ℤ). GiveVector net earlier l b) (sym c.as_slice-g.ensures) (vector_is_given net earlier w c.in-YesVec-Sides.vector b strong four (twelve ∙ ap tight c.in-YesVec-Sides.is-0) c.is_yes.ensures))) c.signal.ensures.answer
+
+-- a proof without trees lists no visits
+no_visits : (net : Net) (vector : Option (List ℤ)) (answer other : Answer) → answer ≡ other → other.proof ≡ Nothing → IfSome vector (λ g. ListSignalVisits net g answer.proof)
+no_visits net None answer other e none = tt
+no_visits net (Some g) answer other e none = subst (ListSignalVisits net g) (sym (ap (λ (a : Answer). a.proof) e ∙ none)) tt
+
+pub returns-then-is_open-clause-visits : goal.returns-then-is_open-clause-visits
+returns-then-is_open-clause-visits c = no_visits c.args.net.now (vector_given c.args.confluence.now) c.rests_answer.result _ c.rests_answer.ensures refl
+
+pub returns-in_default-clause-visits : goal.returns-in_default-clause-visits
+returns-in_default-clause-visits c = no_visits c.args.net.now (vector_given c.args.confluence.now) c.inapplicable_answer.result _ c.inapplicable_answer.ensures refl
+
+pub returns-in-YesVec-Sides-clause-visits : goal.returns-in-YesVec-Sides-clause-visits
+returns-in-YesVec-Sides-clause-visits c =
+    let net = c.args.net.now in
+    let v = c.args.confluence.now in
+    let g = c.as_slice-g.result.now in
+    if_ok (λ (answer : Answer). ListSignalVisits net g answer.proof)
+    (λ (answer : Answer). IfSome (vector_given v) (λ h. ListSignalVisits net h answer.proof)) c.signal.result
+    (λ answer h. subst (λ (w : Verdict). IfSome (vector_given w) (λ l. ListSignalVisits net l answer.proof)) (sym c.in-YesVec-Sides.is-0) (subst (λ (l : List ℤ). ListSignalVisits net l answer.proof) c.as_slice-g.ensures h)) c.signal.ensures.visits
 
 pub returns-then-is_open-clause-spent : goal.returns-then-is_open-clause-spent
 returns-then-is_open-clause-spent c = λ earlier twelve pass. subst (λ (a : Answer). IsOpen a.verdict) (sym c.rests_answer.ensures) tt
