@@ -19,8 +19,9 @@ const questionsOf = row => [...new Set(row.requires.map(condition => `Q${conditi
 const KINETICS = { 'mass action': 'for mass action kinetics', 'weakly monotonic': 'for weakly monotonic kinetics', 'some weakly monotonic': 'for some weakly monotonic kinetics', any: 'for any kinetics', none: 'about the structure alone' };
 
 function conclusion(row, data) {
-    return `<div class="conclusion"><h3>${escaped(row.title)}</h3><p><span class="kinetics">${escaped(KINETICS[row.kinetics] || row.kinetics)}</span></p><p>${marked(row.concludes)}</p>`
+    return `<div class="conclusion"><h3>${escaped(row.title)}</h3><p><span class="kinetics">${escaped(KINETICS[row.kinetics] || row.kinetics)}</span></p>`
         + (row.provided ? `<p><b>Provided:</b> ${marked(row.provided)}</p>` : '')
+        + `<p>${marked(row.concludes)}</p>`
         + `<p class="hint">${source(row, data)}; from ${questionsOf(row)}.</p>`
         + (row.does_not_follow.length ? `<details><summary>What does not follow</summary>${list(row.does_not_follow)}</details>` : '') + '</div>';
 }
