@@ -15,22 +15,25 @@ export function rowsFor(cures, code, line) {
     return rows.sort((a, b) => b.likeness - a.likeness);
 }
 
-// Lines that may be meant, made of the typed one as the rows turn what was typed into what to write. Whether they are
-// accepted is for the program to say.
-export function candidates(cures, code, line) {
-    const found = [];
-    for (const row of rowsFor(cures, code, line)) {
-        const write = (/`([^`]*)`/.exec(row.write) || ['', ''])[1];
-        for (const typed of row.typed) {
-            const before = marks(typed), after = marks(write.replace(' # ', ' ⌗ ')).map(mark => mark === '⌗' ? ' # ' : mark);
-            const at = before.findIndex(mark => strange(typed).includes(mark));
-            if (at < 0 || strange(typed).length !== 1 || !line.includes(before[at])) continue;
-            const put = after.length === before.length ? after[at] : after.length === before.length - 1 ? '' : null;
-            if (put === null) continue;
-            const made = put === ' # ' ? line.replace(before[at], put) : line.split(before[at]).join(put);
-            found.push(made.replace(/\s+$/, ''));
+// Marks that can only be arrows, with the arrow that the rows have for each: where a row changes one mark of its text, its arrow.
+function arrows(cures) {
+    const found = new Map();
+    for (const row of cures.rows) {
+        const arrow = /^`A (->|<->|<-) B`$/.exec(row.write);
+        for (const typed of arrow ? row.typed : []) {
+            const mark = /^A ?([-=<>~–−→⟶⇒⇌⇄↔←]+) ?B$/.exec(typed);
+            if (mark) found.set(mark[1], arrow[1]);
         }
     }
-    if (code === 12) found.push('# ' + line.trim());
-    return [...new Set(found)].filter(made => made !== line).slice(0, 12);
+    return found;
+}
+
+// The line that is meant, if nothing but its arrows is strange. Of any other mark the rows say what it may mean, and the
+// user chooses: a line that is accepted but says another reaction is worse than none.
+export function proposal(cures, line) {
+    const known = arrows(cures), marked = strange(line);
+    const [said, ...comment] = line.split(/(?=#)/);
+    const isParted = /[^\sA-Za-z0-9_+]\s+[^\sA-Za-z0-9_+]/.test(said);
+    if (!marked.length || isParted || !marked.every(mark => known.has(mark))) return null;
+    return [said.replace(/[^\sA-Za-z0-9_+]+/g, mark => known.get(mark) || mark), ...comment].join('').trimEnd();
 }

@@ -1,7 +1,7 @@
 // The page: what its controls do.
 import { Program } from './program.js';
 import { networkIn, readReactions, readReport } from './report.js';
-import { candidates } from './cures.js';
+import { proposal } from './cures.js';
 import { reordered } from './order.js';
 import { PRINTED, complexPicture, escaped, speciesPicture } from './picture.js';
 import { Pointer } from './pointer.js';
@@ -168,15 +168,17 @@ async function refuse(done, text, mine) {
     markLine(fault.line);
     $('refusal').innerHTML = refusalView(fault, line, null, data.cures);
     show('refusal', true);
-    for (const meant of fault.line && line.length < 1000 ? candidates(data.cures, fault.code, line) : []) {
-        const tried = await helper.run(['certify', '--budget', '1'], bytesOf(meant));
-        if (mine !== turn) return;
-        if (tried && (tried.status <= 1 || /^refused 5 /.test(textOf(tried.out)))) {
-            proposed = { line: fault.line, text: meant };
-            $('refusal').innerHTML = refusalView(fault, line, meant, data.cures);
-            return;
-        }
-    }
+    const meant = fault.line && line.length < 1000 ? await acceptable(line) : null;
+    if (mine !== turn || meant === null) return;
+    proposed = { line: fault.line, text: meant };
+    $('refusal').innerHTML = refusalView(fault, line, meant, data.cures);
+}
+
+// The line that is meant, if there is one and the program accepts it.
+async function acceptable(line) {
+    const meant = proposal(data.cures, line);
+    const tried = meant !== null && await helper.run(['certify', '--budget', '1'], bytesOf(meant));
+    return tried && (tried.status <= 1 || /^refused 5 /.test(textOf(tried.out))) ? meant : null;
 }
 
 function takeProposal() {

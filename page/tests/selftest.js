@@ -88,6 +88,20 @@ async function testRefusal(test, { name, text, line }) {
     test.expect(`the proposal is accepted: ${name}`, $('text').value.split('\n')[at - 1] === meant && !$('status').textContent.endsWith(`at line ${at}`), `${meant}: ${$('status').textContent}`);
 }
 
+// What is proposed in place of a text of the tables is what its row says.
+async function testProposals(test) {
+    const bare = text => text.replace(/\s/g, '');
+    let count = 0;
+    for (const { typed, write } of data.cures.rows) {
+        for (const text of typed.filter(it => !it.includes('\n'))) {
+            const meant = await acceptable(text);
+            count += meant !== null;
+            test.expect(`the proposal for ${text}`, meant === null || bare(meant) === bare(/`([^`]*)`/.exec(write)[1]), meant);
+        }
+    }
+    test.expect('arrows are proposed', count >= 20, count);
+}
+
 async function testCertificates(test, { examples, damaged }) {
     const saved = [];
     const save_ = save;
@@ -232,6 +246,7 @@ async function selftest(jobs) {
     await waitFor(() => document.body.dataset.done);
     for (const example of jobs.examples) await test.group(example.name, () => testExample(test, example));
     for (const refused of jobs.refused) await test.group(refused.name, () => testRefusal(test, refused));
+    await test.group('proposals', () => testProposals(test));
     await test.group('certificates', () => testCertificates(test, jobs));
     await test.group('searches', () => testSearch(test, jobs.search));
     await test.group('words', () => testWords(test, jobs));
