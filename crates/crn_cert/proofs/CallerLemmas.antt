@@ -30,7 +30,7 @@ pub use Rattle.crn_vec.proofs.CallerLemmas.{range_ascending, range_bounds}
 -- The number of each question, and the question of a number.
 pub use Rattle.crn_cert.proofs.Places.{numbered, some_number, few_numbers}
 -- Formed answers to questions 1 to 12 have no trees, and so each of their trees has few nodes, as it has for a greater bound.
-pub use Rattle.crn_cert.proofs.Treeless.{IsTreeless, rows_linkage, rows_strong, rows_reversible, rows_weak, rows_rank, rows_deficiency, rows_dependence, rows_conservation, rows_zero, rows_one, rows_regular, rows_confluence, treeless_few, have_more}
+pub use Rattle.crn_cert.proofs.Treeless.{IsTreeless, treeless, treeless_few, have_more}
 -- Tests that hold, one list after another.
 pub use Rattle.crn_cert.proofs.TestLists.{hold_append, hold_parts}
 -- A basis and an index that name a wide vector have the form that an open answer requires.
@@ -52,3 +52,10 @@ pub use Rattle.crn_cert.proofs.NoSignals.{none_at_all}
 pub use Rattle.crn_cert.proofs.Preorders.{same_tree}
 -- A verdict says the same without the spares of its lists.
 pub use Rattle.crn_cert.proofs.Tight.{labels_tight, count_tight, exits_tight, rank_tight, deficiencies_tight, vector_tight, open_tight, yes_tight, no_tight, tight_twice, all_tight_then, is_true_tight, true_tight}
+-- What the block of a formed answer tells of its proof, and what makes an answer formed.
+pub use Rattle.crn_cert.proofs.FormedFacts.{bare_formed, same_base, rank_formed, rank_is_formed, classes_formed, classes_are_formed, sides_formed, sides_are_formed, vector_is_formed, zero_is_formed, vector_is_given, vector_is_held, signal_trees_formed, signal_trees_fit}
+-- The records below a head, by what they prove.
+pub use Rattle.crn_cert.proofs.BlockRows.{free_there, free_back, list_back, ranks_there, ranks_back, rank_again, duals_counted, classes_there, classes_back, classes_again, sides_there, sides_back, sides_again, free_lists, rank_long, below_long, duals_long}
+-- The data of a head and of the records below it, and the block of the answer of a block.
+pub use Rattle.crn_cert.proofs.DatumShapes.{AllOf, given, fields_in, fields_of, head_back, rows_back}
+pub use Rattle.crn_cert.proofs.BlocksMade.{blocks_are_of_answers}

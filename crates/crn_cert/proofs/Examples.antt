@@ -16,7 +16,12 @@ use Rattle.crn_cert.specs.Tests.{Test}
 use Rattle.crn_cert.specs.Trees.{Plan, Both, Three, RulesA, Level, IsFormedTree}
 use Rattle.crn_cert.specs.TreeTests.{tree_tests}
 use Rattle.crn_cert.specs.Shares.{cuts_of}
-use Rattle.crn_cert.specs.Formed.{MayRestOn, MayBeSpent}
+use Rattle.crn_vec.specs.Network.{Net}
+use Rattle.crn_cert.specs.declared.answer.Gap.TheVariants.{Budget}
+use Rattle.crn_cert.specs.declared.answer.Verdict.TheVariants.{Unknown}
+use Rattle.crn_cert.specs.Questions.{Earlier}
+use Rattle.crn_cert.specs.Formed.{HeadMayBe}
+use Rattle.crn_cert.specs.Licensed.{MayRestOn}
 use Rattle.crn_cert.specs.Valid.{terminals_in, class_places, pair_places}
 use Rattle.crn_cert.proofs.Networks.{chain, enzyme}
 use Rattle.crn_cert.specs.Questions.{Earlier, Q1, Q2, Q6, Q7, Q12, Q13, on}
@@ -121,5 +126,5 @@ rests-thirteen = refl
 rests-other : MayRestOn Q13 11 → ⊥
 rests-other e = omega (arith, e)
 
-spent-twelve : MayBeSpent Q12 1 → ⊥
-spent-twelve s = absurd s
+spent-twelve : (net : Net) (earlier : Earlier) → HeadMayBe net earlier Q12 (Unknown (Budget 1)) → ⊥
+spent-twelve net earlier s = absurd s

@@ -428,49 +428,49 @@ small_m1 : IsNarrow (negsuc 0)
 small_m1 = let wide : 2 ≤ WIDE_SOLUTION = lit≤ tt in omega (arith, wide)
 
 formed_1 : IsFormed net e1 Q1 a1
-formed_1 = ((omega arith, omega arith), (record { long = refl; each = ((omega arith, omega arith), ((omega arith, omega arith), tt)) }, record { names_are = record { long = refl; each = ((omega arith, omega arith), ((omega arith, omega arith), tt)) }; depth_is = record { long = refl; each = ((omega arith, omega arith), ((omega arith, omega arith), tt)) } }))
+formed_1 = (record { head = ((omega arith, omega arith), tt); rows = (record { long = refl; each = ((omega arith, omega arith), ((omega arith, omega arith), tt)) }, (record { long = refl; each = ((omega arith, omega arith), ((omega arith, omega arith), tt)) }, (record { long = refl; each = ((omega arith, omega arith), ((omega arith, omega arith), tt)) }, tt))); trees = tt }, (refl, refl))
 
 formed_2 : IsFormed net e2 Q2 a2
-formed_2 = (((omega arith, omega arith), (omega arith, omega arith)), (record { long = refl; each = ((omega arith, omega arith), ((omega arith, omega arith), tt)) }, record { long = refl; each = ((omega arith, omega arith), tt) }, record { names_are = record { long = refl; each = ((omega arith, omega arith), ((omega arith, omega arith), tt)) }; depth_is = record { long = refl; each = ((omega arith, omega arith), ((omega arith, omega arith), tt)) } }, record { names_are = record { long = refl; each = ((omega arith, omega arith), ((omega arith, omega arith), tt)) }; depth_is = record { long = refl; each = ((omega arith, omega arith), ((omega arith, omega arith), tt)) } }, record { long = refl; each = ((omega arith, omega arith), tt) }))
+formed_2 = (record { head = (((omega arith, omega arith), (omega arith, omega arith)), tt); rows = (record { long = refl; each = ((omega arith, omega arith), ((omega arith, omega arith), tt)) }, (record { long = refl; each = ((omega arith, omega arith), ((omega arith, omega arith), tt)) }, (record { long = refl; each = ((omega arith, omega arith), ((omega arith, omega arith), tt)) }, (record { long = refl; each = ((omega arith, omega arith), ((omega arith, omega arith), tt)) }, (record { long = refl; each = ((omega arith, omega arith), ((omega arith, omega arith), tt)) }, (record { long = refl; each = ((omega arith, omega arith), tt) }, (record { long = refl; each = ((omega arith, omega arith), tt) }, tt))))))); trees = tt }, (refl, refl))
 
 formed_3 : IsFormed net e3 Q3 a3
-formed_3 = (tt, record { long = refl; each = ((omega arith, omega arith), ((omega arith, omega arith), tt)) })
+formed_3 = (record { head = tt; rows = (record { long = refl; each = ((omega arith, omega arith), ((omega arith, omega arith), tt)) }, tt); trees = tt }, (refl, refl))
 
 formed_4 : IsFormed net e4 Q4 a4
-formed_4 = (tt, tt)
+formed_4 = (record { head = tt; rows = tt; trees = tt }, (refl, refl))
 
 formed_5 : IsFormed net e5 Q5 a5
-formed_5 = ((omega arith, omega arith), (refl, record { long = refl; ascending = tt; from = λ r i. elim i [ inl e ↦ inl e | inr i ↦ absurd i ]; duals = record { long = refl; each = (record { long = refl; each = (small_m1, (small_0, tt)) }, tt) }; combs = record { long = refl; each = (record { long = refl; each = (small_1, (small_m1, tt)) }, tt) } }))
+formed_5 = (record { head = ((omega arith, omega arith), tt); rows = ((refl, tt, λ r i. elim i [ inl e ↦ inl e | inr i ↦ absurd i ]), (record { long = refl; each = (small_m1, (small_0, tt)) }, (record { long = refl; each = (small_1, (small_m1, tt)) }, tt))); trees = tt }, (refl, refl))
 
 formed_6 : IsFormed net e6 Q6 a6
-formed_6 = (((omega arith, omega arith), record { long = refl; each = ((omega arith, omega arith), tt) }), (record { long = refl; ascending = tt; from = λ r i. elim i [ inl e ↦ inl e | inr i ↦ absurd i ]; duals = record { long = refl; each = (record { long = refl; each = (small_m1, (small_0, tt)) }, tt) }; combs = record { long = refl; each = (record { long = refl; each = (small_1, (small_m1, tt)) }, tt) } }, tt))
+formed_6 = (record { head = (((omega arith, omega arith), record { long = refl; each = ((omega arith, omega arith), tt) }), tt); rows = ((refl, tt, λ r i. elim i [ inl e ↦ inl e | inr i ↦ absurd i ]), (record { long = refl; each = (small_m1, (small_0, tt)) }, (record { long = refl; each = (small_1, (small_m1, tt)) }, tt))); trees = tt }, (refl, refl))
 
 formed_7 : IsFormed net e7 Q7 a7
-formed_7 = (tt, record { long = refl; each = (small_1, (small_1, tt)) })
+formed_7 = (record { head = tt; rows = (record { long = refl; each = (small_1, (small_1, tt)) }, tt); trees = tt }, (refl, refl))
 
 formed_8 : IsFormed net e8 Q8 a8
-formed_8 = (tt, record { long = refl; each = (small_1, (small_1, tt)) })
+formed_8 = (record { head = tt; rows = (record { long = refl; each = (small_1, (small_1, tt)) }, tt); trees = tt }, (refl, refl))
 
 formed_9 : IsFormed net e9 Q9 a9
-formed_9 = (tt, tt)
+formed_9 = (record { head = ((omega arith, omega arith), tt); rows = tt; trees = tt }, (refl, refl))
 
 formed_10 : IsFormed net e10 Q10 a10
-formed_10 = (tt, tt)
+formed_10 = (record { head = tt; rows = tt; trees = tt }, (refl, refl))
 
 formed_11 : IsFormed net e11 Q11 a11
-formed_11 = (tt, record { long = refl; each = (record { long = refl; each = (inl refl, (inr refl, tt)) }, tt) })
+formed_11 = (record { head = tt; rows = ((refl, record { long = refl; each = (inl refl, (inr refl, tt)) }), tt); trees = tt }, (refl, refl))
 
 formed_12 : IsFormed net e12 Q12 a12
-formed_12 = (tt, record { long = refl; each = (record { long = refl; each = (small_1, (small_0, (small_0, tt))) }, (record { long = refl; each = (small_0, (small_1, (small_0, tt))) }, tt)) })
+formed_12 = (record { head = tt; rows = (record { long = refl; each = (small_1, (small_0, (small_0, tt))) }, (record { long = refl; each = (small_0, (small_1, (small_0, tt))) }, tt)); trees = tt }, (refl, refl))
 
 formed_13 : IsFormed net e13 Q13 a13
-formed_13 = (tt, tt)
+formed_13 = (record { head = tt; rows = tt; trees = tt }, (refl, refl))
 
 formed_14 : IsFormed net e14 Q14 (a14)
-formed_14 = (tt, (omega arith, refl, (omega arith, refl, tt, record { long = refl; each = (small_0, (small_1, tt)) }), (omega arith, refl, record { long = refl; each = (small_1, (small_0, tt)) }, record { long = refl; each = (small_1, (small_1, tt)) }, record { long = refl; each = (small_1, (small_0, tt)) })))
+formed_14 = (record { head = tt; rows = tt; trees = ((omega arith, refl, (omega arith, refl, tt, record { long = refl; each = (small_0, (small_1, tt)) }), (omega arith, refl, record { long = refl; each = (small_1, (small_0, tt)) }, record { long = refl; each = (small_1, (small_1, tt)) }, record { long = refl; each = (small_1, (small_0, tt)) })), tt) }, (refl, refl))
 
 formed_15 : IsFormed net e15 Q15 (a15)
-formed_15 = (tt, (omega arith, refl, (omega arith, refl, tt, record { long = refl; each = (small_0, (small_1, tt)) }), (omega arith, refl, record { long = refl; each = (small_1, (small_0, tt)) }, record { long = refl; each = (small_1, (small_1, tt)) }, record { long = refl; each = (small_1, (small_0, tt)) })))
+formed_15 = (record { head = tt; rows = tt; trees = ((omega arith, refl, (omega arith, refl, tt, record { long = refl; each = (small_0, (small_1, tt)) }), (omega arith, refl, record { long = refl; each = (small_1, (small_0, tt)) }, record { long = refl; each = (small_1, (small_1, tt)) }, record { long = refl; each = (small_1, (small_0, tt)) })), tt) }, (refl, refl))
 
 formed_answers : AreFormed net [] questions answers
 formed_answers = (formed_1, (formed_2, (formed_3, (formed_4, (formed_5, (formed_6, (formed_7, (formed_8, (formed_9, (formed_10, (formed_11, (formed_12, (formed_13, (formed_14, (formed_15, tt)))))))))))))))

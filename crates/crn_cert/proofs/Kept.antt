@@ -1,5 +1,5 @@
 -- The tests of confluence vectors and ties, against the definitions.
-use Rattle.std.proofs.Common.{◌≡◌, ◌≢◌, ℕ, zero, suc, ◌-◌, ◌<◌, ◌≤◌, List, [], ◌∷◌, length, get_or, map, refl, sym, ap, subst, ◌∙◌, inl, inr, arith}
+use Rattle.std.proofs.Common.{◌≡◌, ◌≢◌, ℕ, zero, suc, ◌-◌, ◌<◌, List, [], ◌∷◌, length, get_or, map, refl, sym, ap, subst, ◌∙◌, inl, inr, arith}
 use Rattle.std.specs.Prelude.{ℤ, pos, ◌≤ℤ◌}
 use Rattle.std.specs.List.{AllByRecursion, range_with_len}
 use Rattle.crn_vec.specs.Network.{Net}

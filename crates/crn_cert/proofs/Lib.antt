@@ -39,3 +39,7 @@ mod TestLists
 mod WideGaps
 mod TreeSizes
 mod Preorders
+mod BlockRows
+mod DatumShapes
+mod BlocksMade
+mod FormedFacts

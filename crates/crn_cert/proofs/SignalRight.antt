@@ -18,7 +18,7 @@ use Rattle.crn_vec.proofs.CallerLemmas.{shapes_are_one, multiples_share_signals,
 use Rattle.crn_cert.specs.declared.answer.Verdict.{Verdict}
 use Rattle.crn_cert.specs.declared.answer.Verdict.TheVariants.{YesVec, YesSignal, No, NotRegular, OnlyZero, Plane, NotApplicable, Unknown}
 use Rattle.crn_cert.specs.declared.answer.Proof.{Proof}
-use Rattle.crn_cert.specs.declared.answer.Proof.TheVariants.{Nothing, One, Two}
+use Rattle.crn_cert.specs.declared.answer.Proof.TheVariants.{One, Two}
 use Rattle.crn_cert.specs.Questions.{Earlier, Q4, Q12, Q13, on, vector_given, IsOpen}
 use Rattle.crn_cert.specs.Says.{IsTrueOf, IsTurn, by_turn}
 use Rattle.crn_cert.specs.Tests.{AllHold}
@@ -28,6 +28,7 @@ use Rattle.crn_cert.specs.TreeTests.{tree_tests}
 use Rattle.crn_cert.specs.Formed.{IsFormedOf}
 use Rattle.crn_cert.specs.Valid.{IsSignalNode, OfVector, signal_head, signal_rows}
 use Rattle.crn_cert.specs.Law.{IsTrueOrOpen, ValidIsTrue}
+use Rattle.crn_cert.proofs.FormedFacts.{bare_formed, signal_trees_formed}
 use Rattle.crn_cert.proofs.Known.{weak_yes, weak_no}
 use Rattle.crn_cert.proofs.TreeLaws.{leaves_nothing}
 use Rattle.crn_cert.proofs.TreesRight.{tree_right}
@@ -102,34 +103,37 @@ both_given v A B a b = absurd a
 
 signal_law : (net : Net) (earlier : Earlier) → IsNetwork net → IsTrueOf net Q4 (on earlier Q4) → IsTrueOrOpen net Q12 (on earlier Q12) → (v : Verdict) (p : Proof) → IsFormedOf net earlier Q13 v p → AllHold (signal_head earlier v ++ signal_rows net earlier v p) → IsTrueOrOpen net Q13 v
 signal_law net earlier n weak conf (Unknown gap) p f t = tt
-signal_law net earlier n weak conf (YesSignal turn shelves mu level weights) Nothing f t =
+signal_law net earlier n weak conf (YesSignal turn shelves mu level weights) p f t =
     let k = vector_known net (on earlier Q12) (λ g. IsSignalOf net (by_turn turn g) (map sign shelves.list) mu.list level weights.list) conf t.1.0 in (
       k.regular,
       k.line,
       record {
-        turn_is = f.0;
-        shelves_are = f.1.shelves_are.each;
+        turn_is = f.0.head.0;
+        shelves_are = (bare_formed net earlier Q13 (YesSignal turn shelves mu level weights) p f.0.trees f.1.1 f).0.rows.0.each;
         g = k.g;
         normal = k.normal;
-        confluence = vector_by_turn net k.g turn n k.regular k.line k.normal.confluence f.0 (λ e. weak_yes net (on earlier Q4) weak (t.0.1 e));
+        confluence = vector_by_turn net k.g turn n k.regular k.line k.normal.confluence f.0.head.0 (λ e. weak_yes net (on earlier Q4) weak (t.0.1 e));
         signal = k.has;
       },
     )
 signal_law net earlier n weak conf No (One tree) f t =
+    let trees = signal_trees_formed net earlier (One tree) f.0.trees in
     let v = on earlier Q12 in
     let k = vector_known net v (λ g. AllHold (tree_tests (IsSignalNode net g) 1 [] tree)) conf (nodes_given v (pos 1) net 1 tree t.0 t.1) in
-    let none = no_signal_by net k.g n k.regular _ _ _ 1 tree f.1.1 k.has in
-    (k.regular, k.line, none_at_all net k.g n k.regular k.line k.normal.confluence none (λ w. absurd (f.1.0 (weak_no net (on earlier Q4) weak w))))
+    let none = no_signal_by net k.g n k.regular _ _ _ 1 tree trees.1 k.has in
+    (k.regular, k.line, none_at_all net k.g n k.regular k.line k.normal.confluence none (λ w. absurd (trees.0 (weak_no net (on earlier Q4) weak w))))
 signal_law net earlier n weak conf No (Two tree second) f t =
+    let trees = signal_trees_formed net earlier (Two tree second) f.0.trees in
     let v = on earlier Q12 in
     let last = 1 + node_count tree in
     let split = hold_parts (tree_tests (λ p said. OfVector earlier (pos 1) (λ g. IsSignalNode net g p said)) 1 [] tree) (tree_tests (λ p said. OfVector earlier (negsuc 0) (λ g. IsSignalNode net g p said)) last [] second) t.1 in
     let k = vector_known net v (λ g. AllHold (tree_tests (IsSignalNode net g) 1 [] tree) × AllHold (tree_tests (IsSignalNode net (negative g)) last [] second)) conf
     (both_given v (λ g. AllHold (tree_tests (IsSignalNode net g) 1 [] tree)) (λ g. AllHold (tree_tests (IsSignalNode net (negative g)) last [] second)) (nodes_given v (pos 1) net 1 tree t.0 split.0) (nodes_given v (negsuc 0) net last second t.0 split.1)) in
-    let none = no_signal_by net k.g n k.regular _ _ _ 1 tree f.1.1 k.has.0 in
-    (k.regular, k.line, none_at_all net k.g n k.regular k.line k.normal.confluence none (λ w. no_signal_by net (negative k.g) n k.regular _ _ _ last second f.1.2 k.has.1))
-signal_law net earlier n weak conf NotApplicable Nothing f t = none_known net (on earlier Q12) conf t.0.0 t.0.1
-signal_law net earlier n weak conf v p f t = absurd f.1
+    let none = no_signal_by net k.g n k.regular _ _ _ 1 tree trees.1 k.has.0 in
+    (k.regular, k.line, none_at_all net k.g n k.regular k.line k.normal.confluence none (λ w. no_signal_by net (negative k.g) n k.regular _ _ _ last second trees.2 k.has.1))
+signal_law net earlier n weak conf NotApplicable p f t = none_known net (on earlier Q12) conf t.0.0 t.0.1
+signal_law net earlier n weak conf No p f t = absurd (signal_trees_formed net earlier p f.0.trees)
+signal_law net earlier n weak conf v p f t = absurd f.0.head
 
 pub signal_valid : ValidIsTrue (Q4 ∷ []) (Q12 ∷ []) Q13
 signal_valid net earlier answer n known rests f t = signal_law net earlier n known.0 rests.0 answer.verdict answer.proof f t

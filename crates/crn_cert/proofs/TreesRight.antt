@@ -13,7 +13,7 @@ use Rattle.crn_vec.proofs.CallerLemmas.{networks_have_tables}
 use Rattle.crn_cert.specs.declared.answer.Verdict.{Verdict}
 use Rattle.crn_cert.specs.declared.answer.Verdict.TheVariants.{Yes, NoPair, Unknown}
 use Rattle.crn_cert.specs.declared.answer.Proof.{Proof}
-use Rattle.crn_cert.specs.declared.answer.Proof.TheVariants.{Nothing, One}
+use Rattle.crn_cert.specs.declared.answer.Proof.TheVariants.{One, Two}
 use Rattle.crn_cert.specs.Questions.{Earlier, Q14, Q15}
 use Rattle.crn_cert.specs.Tests.{AllHold}
 use Rattle.crn_cert.specs.Trees.{Plan, Both, Three, RulesA, RulesB, Level, node_count, IsValid, IsFormedTree}
@@ -57,9 +57,11 @@ concordant_law : (net : Net) (earlier : Earlier) → IsNetwork net → (v : Verd
 concordant_law net earlier n (Unknown gap) p f t = tt
 concordant_law net earlier n Yes (One tree) f t =
     let w = concordance (reaction_system net) (plain_table net) in
-    concordant_by net (plain_table net) (networks_have_tables net n).plain tree (tree_right w (Fits w) (λ p said h. h) _ _ _ 1 [] tree f.1 t)
-concordant_law net earlier n (NoPair alpha weights) Nothing f t = t.0
-concordant_law net earlier n v p f t = absurd f.1
+    concordant_by net (plain_table net) (networks_have_tables net n).plain tree (tree_right w (Fits w) (λ p said h. h) _ _ _ 1 [] tree f.0.trees.0 t)
+concordant_law net earlier n (NoPair alpha weights) p f t = t.0
+concordant_law net earlier n Yes (Two tree second) f t = absurd f.0.trees.1
+concordant_law net earlier n Yes p f t = absurd f.0.trees
+concordant_law net earlier n v p f t = absurd f.0.head
 
 pub concordant_valid : ValidIsTrue [] [] Q14
 concordant_valid net earlier answer n known rests f t = concordant_law net earlier n answer.verdict answer.proof f t
@@ -68,9 +70,11 @@ strongly_law : (net : Net) (earlier : Earlier) → IsNetwork net → (v : Verdic
 strongly_law net earlier n (Unknown gap) p f t = tt
 strongly_law net earlier n Yes (One tree) f t =
     let w = concordance (reaction_system net) (strong_table net) in
-    concordant_by net (strong_table net) (networks_have_tables net n).strong tree (tree_right w (Fits w) (λ p said h. h) _ _ _ 1 [] tree f.1 t)
-strongly_law net earlier n (NoPair alpha weights) Nothing f t = t.0
-strongly_law net earlier n v p f t = absurd f.1
+    concordant_by net (strong_table net) (networks_have_tables net n).strong tree (tree_right w (Fits w) (λ p said h. h) _ _ _ 1 [] tree f.0.trees.0 t)
+strongly_law net earlier n (NoPair alpha weights) p f t = t.0
+strongly_law net earlier n Yes (Two tree second) f t = absurd f.0.trees.1
+strongly_law net earlier n Yes p f t = absurd f.0.trees
+strongly_law net earlier n v p f t = absurd f.0.head
 
 pub strongly_concordant_valid : ValidIsTrue [] [] Q15
 strongly_concordant_valid net earlier answer n known rests f t = strongly_law net earlier n answer.verdict answer.proof f t

@@ -20,7 +20,7 @@ use Rattle.crn_vec.proofs.CallerLemmas.{vector_long, in_range, filter_has, and_c
 use Rattle.crn_cert.specs.declared.answer.Verdict.{Verdict}
 use Rattle.crn_cert.specs.declared.answer.Verdict.TheVariants.{Classes, Strong, Rank, Deficiency, Yes, YesWeak, YesVec, NoReaction, NoVec, NoNumber, NoTerminal, NoClass, NoSum, NoDependence, NoCycle, NotRegular, OnlyZero, Plane, Unknown}
 use Rattle.crn_cert.specs.declared.answer.Proof.{Proof}
-use Rattle.crn_cert.specs.declared.answer.Proof.TheVariants.{Nothing, Forest, Strong as StrongTrees, Back, Sides, Ties}
+use Rattle.crn_cert.specs.declared.answer.Proof.TheVariants.{Forest, Strong as StrongTrees, Back, Sides, Ties}
 use Rattle.crn_cert.specs.Questions.{Earlier, Q1, Q2, Q3, Q4, Q5, Q6, Q7, Q8, Q9, Q10, Q11, Q12, on, count_of, rank_of, deficiencies_of}
 use Rattle.crn_cert.specs.Says.{IsTrueOf}
 use Rattle.crn_cert.specs.Tests.{AllHold}
@@ -28,6 +28,7 @@ use Rattle.crn_cert.specs.ConfluenceTests.{IsTie, least_from, others_than, tie_t
 use Rattle.crn_cert.specs.Formed.{IsFormedOf}
 use Rattle.crn_cert.specs.Valid.{is_within_terminal, linkage, linkage_count, strong, exits, linkage_rows, strong_rows, reversible_head, reversible_rows, weak_head, dependence_rows, conservation_rows, zero_head, one_head, regular_head, regular_rows, confluence_head, confluence_rows, IsLeft, IsFirstLarge, WithDeficiencies}
 use Rattle.crn_cert.specs.Law.{IsTrueOrOpen, ValidIsTrue}
+use Rattle.crn_cert.proofs.FormedFacts.{bare_formed, sides_formed}
 use Rattle.crn_cert.proofs.ClassesRight.{linkage_right, named_in, named_inside}
 use Rattle.crn_cert.specs.ClassTests.{of_class}
 use Rattle.crn_cert.proofs.StrongRight.{strong_right}
@@ -42,8 +43,9 @@ use Rattle.crn_cert.proofs.Pairs.{pairs_cut}
 
 linkage_law : (net : Net) (earlier : Earlier) → IsNetwork net → (v : Verdict) (p : Proof) → IsFormedOf net earlier Q1 v p → AllHold (linkage_rows net v p) → IsTrueOrOpen net Q1 v
 linkage_law net earlier network (Unknown gap) p f t = tt
-linkage_law net earlier network (Classes count label) (Forest up depth) f t = linkage_right net network count label.list up.list depth.list f.1.0.long t.0.0 t.0.1 t.1.0
-linkage_law net earlier network v p f t = absurd f.1
+linkage_law net earlier network (Classes count label) (Forest up depth) f t = linkage_right net network count label.list up.list depth.list f.0.rows.0.long t.0.0 t.0.1 t.1.0
+linkage_law net earlier network (Classes count label) p f t = absurd (let e = f.1.1 in cc)
+linkage_law net earlier network v p f t = absurd f.0.head
 
 pub linkage_valid : ValidIsTrue [] [] Q1
 linkage_valid net earlier answer network known rests f t = linkage_law net earlier network answer.verdict answer.proof f t
@@ -52,8 +54,9 @@ linkage_valid net earlier answer network known rests f t = linkage_law net earli
 pub strong_law : (net : Net) (earlier : Earlier) (v : Verdict) (p : Proof) → IsFormedOf net earlier Q2 v p → AllHold (strong_rows net v p) → IsTrueOrOpen net Q2 v
 strong_law net earlier (Unknown gap) p f t = tt
 strong_law net earlier (Strong count terminal label exit) (StrongTrees from from_depth to to_depth level) f t =
-    strong_right net count terminal label.list exit.list from.list from_depth.list to.list to_depth.list level.list f.1.0.long f.1.1.long t.0 t.1.0 t.1.1.0 t.1.1.1.0 t.1.1.1.1.0 t.1.1.1.1.1.0
-strong_law net earlier v p f t = absurd f.1
+    strong_right net count terminal label.list exit.list from.list from_depth.list to.list to_depth.list level.list f.0.rows.0.long f.0.rows.1.1.1.1.1.1.0.long t.0 t.1.0 t.1.1.0 t.1.1.1.0 t.1.1.1.1.0 t.1.1.1.1.1.0
+strong_law net earlier (Strong count terminal label exit) p f t = absurd (let e = f.1.1 in cc)
+strong_law net earlier v p f t = absurd f.0.head
 
 pub strong_valid : ValidIsTrue [] [] Q2
 strong_valid net earlier answer network known rests f t = strong_law net earlier answer.verdict answer.proof f t
@@ -67,22 +70,23 @@ reversible_law net earlier Yes (Back back) f t = λ y z i.
     let r = t.0 k.0 k.1 in
     let same : (r.y, r.z) ≡ (y, z) = sym r.goes.1 ∙ k.2 in
     subst (λ (w : ℕ × ℕ). ReactsTo net.reactions w.1 w.0) same (named_in net (get_or back.list k.0 0) r.z r.y r.back)
-reversible_law net earlier (NoReaction r) Nothing f t = t.0
-reversible_law net earlier v p f t = absurd f.1
+reversible_law net earlier (NoReaction r) p f t = t.0
+reversible_law net earlier Yes p f t = absurd (let e = f.1.1 in cc)
+reversible_law net earlier v p f t = absurd f.0.head
 
 pub reversible_valid : ValidIsTrue [] [] Q3
 reversible_valid net earlier answer network known rests f t = reversible_law net earlier answer.verdict answer.proof f t
 
 weak_law : (net : Net) (earlier : Earlier) → IsNetwork net → StrongKnown net (count_of (on earlier Q2)) (strong earlier) (exits earlier) → (v : Verdict) (p : Proof) → IsFormedOf net earlier Q4 v p → AllHold (weak_head net earlier v ++ []) → IsTrueOrOpen net Q4 v
 weak_law net earlier network k (Unknown gap) p f t = tt
-weak_law net earlier network k Yes Nothing f t = λ y z i.
+weak_law net earlier network k Yes p f t = λ y z i.
     let at = inside_at (length net.complexes) net.reactions network.partial.apart y z i in
     k.is.right.same y z (omega (arith, at.0, k.is.places)) (omega (arith, at.1, k.is.places)) (t.0 y z i)
-weak_law net earlier network k (NoReaction r) Nothing f t =
+weak_law net earlier network k (NoReaction r) p f t =
     let h = t.0 in
     let at = named_inside net network r h.0 h.1 h.2 in
     (h.0, h.1, h.2, λ s. h.3 (k.is.right.together h.0 h.1 (omega (arith, at.0, k.is.places)) (omega (arith, at.1, k.is.places)) s))
-weak_law net earlier network k v p f t = absurd f.1
+weak_law net earlier network k v p f t = absurd f.0.head
 
 pub weak_valid : ValidIsTrue (Q2 ∷ []) [] Q4
 weak_valid net earlier answer network known rests f t = weak_law net earlier network (strong_known net (on earlier Q2) known.0) answer.verdict answer.proof f t
@@ -91,9 +95,9 @@ weak_valid net earlier answer network known rests f t = weak_law net earlier net
 
 dependent_law : (net : Net) (earlier : Earlier) → (v : Verdict) (p : Proof) → IsFormedOf net earlier Q7 v p → AllHold (dependence_rows net v) → IsTrueOrOpen net Q7 v
 dependent_law net earlier (Unknown gap) p f t = tt
-dependent_law net earlier (YesVec vector) Nothing f t = t.0
-dependent_law net earlier (NoVec multipliers) Nothing f t = (t.0, no_dependence net multipliers.list t.0)
-dependent_law net earlier v p f t = absurd f.1
+dependent_law net earlier (YesVec vector) p f t = t.0
+dependent_law net earlier (NoVec multipliers) p f t = (t.0, no_dependence net multipliers.list t.0)
+dependent_law net earlier v p f t = absurd f.0.head
 
 pub dependent_valid : ValidIsTrue [] [] Q7
 dependent_valid net earlier answer network known rests f t = dependent_law net earlier answer.verdict answer.proof f t
@@ -112,9 +116,9 @@ vectors_short net (r ∷ rs) vs h =
 
 conservative_law : (net : Net) (earlier : Earlier) → IsNetwork net → (v : Verdict) (p : Proof) → IsFormedOf net earlier Q8 v p → AllHold (conservation_rows net v) → IsTrueOrOpen net Q8 v
 conservative_law net earlier network (Unknown gap) p f t = tt
-conservative_law net earlier network (YesVec vector) Nothing f t = t.0
-conservative_law net earlier network (NoVec multipliers) Nothing f t = (t.0, no_conservation net multipliers.list (vectors_short net net.reactions network.partial.vectors network.partial.apart) t.0)
-conservative_law net earlier network v p f t = absurd f.1
+conservative_law net earlier network (YesVec vector) p f t = t.0
+conservative_law net earlier network (NoVec multipliers) p f t = (t.0, no_conservation net multipliers.list (vectors_short net net.reactions network.partial.vectors network.partial.apart) t.0)
+conservative_law net earlier network v p f t = absurd f.0.head
 
 pub conservative_valid : ValidIsTrue [] [] Q8
 conservative_valid net earlier answer network known rests f t = conservative_law net earlier network answer.verdict answer.proof f t
@@ -124,10 +128,10 @@ conservative_valid net earlier answer network known rests f t = conservative_law
 regular_law : (net : Net) (earlier : Earlier) → IsNetwork net → ClassesKnown net earlier → IsTrueOrOpen net Q7 (on earlier Q7) → (v : Verdict) (p : Proof) → IsFormedOf net earlier Q11 v p → AllHold (regular_head net earlier v ++ regular_rows net earlier v p) → IsTrueOrOpen net Q11 v
 regular_law net earlier network k dep (Unknown gap) p f t = tt
 regular_law net earlier network k dep Yes (Sides sides) f t =
-    record { terminal = one_each net earlier k t.0.0; dependent = dependent_yes net (on earlier Q7) t.0.1 dep; cut_pairs = pairs_cut net network earlier sides k t.1 f.1.each }
-regular_law net earlier network k dep (NoTerminal class count) Nothing f t = first_split net earlier class count k f.0.0.0 f.0.0.1 t.0
-regular_law net earlier network k dep NoDependence Nothing f t = (one_each net earlier k t.0.0, dependent_no net (on earlier Q7) t.0.1 dep)
-regular_law net earlier network k dep (NoCycle r walk) Nothing f t =
+    record { terminal = one_each net earlier k t.0.0; dependent = dependent_yes net (on earlier Q7) t.0.1 dep; cut_pairs = pairs_cut net network earlier sides k t.1 (sides_formed net earlier sides f).each }
+regular_law net earlier network k dep (NoTerminal class count) p f t = first_split net earlier class count k f.0.head.0.0 f.0.head.0.1 t.0
+regular_law net earlier network k dep NoDependence p f t = (one_each net earlier k t.0.0, dependent_no net (on earlier Q7) t.0.1 dep)
+regular_law net earlier network k dep (NoCycle r walk) p f t =
     let w = t.1.0 in
     let s = k.strong_is.is in
     let here : is_within_terminal earlier (w.y, w.z) ≡ true = ap (is_within_terminal earlier) (sym w.goes.1.1) ∙ t.0.2.2 in
@@ -135,7 +139,8 @@ regular_law net earlier network k dep (NoCycle r walk) Nothing f t =
     let within = eqb-true (get_or (strong earlier) w.y 0) (get_or (strong earlier) w.z 0) parts.0 in
     let terminal = eqb-true (of_class (strong earlier) (exits earlier) w.y) 0 parts.1 in
     (one_each net earlier k t.0.0, cycle_by_tests net network (strong earlier) (exits earlier) r walk.list s.places s.right s.exits_are w within terminal)
-regular_law net earlier network k dep v p f t = absurd f.1
+regular_law net earlier network k dep Yes p f t = absurd (let e = f.1.1 in cc)
+regular_law net earlier network k dep v p f t = absurd f.0.head
 
 pub regular_valid : ValidIsTrue (Q1 ∷ Q2 ∷ []) (Q7 ∷ []) Q11
 regular_valid net earlier answer network known rests f t = regular_law net earlier network (classes_known net earlier known.0 known.1.0) rests.0 answer.verdict answer.proof f t
@@ -174,43 +179,46 @@ confluence_law net earlier k weak reg (YesVec vector) (Ties ties) f t =
     let l = k.linkage_is in
     let s = k.strong_is.is in
     let known : AreKnown net (linkage earlier) (linkage_count earlier) = record { labelled = l.labelled; count_is = l.count_is } in
-    let space : InConfluenceSpace net g = space_by_tests net (linkage earlier) (linkage_count earlier) g known f.1.0.long normal.space in
+    let space : InConfluenceSpace net g = space_by_tests net (linkage earlier) (linkage_count earlier) g known f.0.rows.0.long normal.space in
     let first = first_place 0 g normal.some.0 normal.some.1 in
     let c0 = least_from 0 g in
     let place : c0 ≡ first.i = omega (arith, first.is) in
-    let inside : c0 < length net.complexes = omega (arith, place, first.inside, f.1.0.long) in
+    let inside : c0 < length net.complexes = omega (arith, place, first.inside, f.0.rows.0.long) in
     let some : entry g c0 ≢ pos 0 = subst (λ (c : ℕ). entry g c ≢ pos 0) (sym place) first.some in
     let counted : IsLabelCount (strong earlier) (length (exits earlier)) = subst (IsLabelCount (strong earlier)) (sym s.classes) s.count_is in (
       regular_yes net (on earlier Q11) t.0 reg,
       line_by_ties net (linkage earlier) (linkage_count earlier) c0 g known space inside some (λ c lt ne. tied_at net (linkage earlier) (linkage_count earlier) (λ d. d ≡ c0) 2 (others_than net c0) ties t.1.1 c (other_in net c0 c lt ne)),
       record {
-        confluence = vector_by_tests net (linkage earlier) (strong earlier) (exits earlier) (linkage_count earlier) g known s.places s.right counted s.exits_are f.1.0.long normal.space normal.some normal.gathers;
+        confluence = vector_by_tests net (linkage earlier) (strong earlier) (exits earlier) (linkage_count earlier) g known s.places s.right counted s.exits_are f.0.rows.0.long normal.space normal.some normal.gathers;
         primitive = normal.primitive;
         leads = λ w. normal.leads (weak_no net (on earlier Q4) weak w);
       },
     )
-confluence_law net earlier k weak reg NotRegular Nothing f t = regular_no net (on earlier Q11) t.0 reg
+confluence_law net earlier k weak reg NotRegular p f t = regular_no net (on earlier Q11) t.0 reg
 confluence_law net earlier k weak reg OnlyZero (Ties ties) f t =
     let l = k.linkage_is in
     let known : AreKnown net (linkage earlier) (linkage_count earlier) = record { labelled = l.labelled; count_is = l.count_is } in (
       regular_yes net (on earlier Q11) t.0 reg,
       zero_by_ties net (linkage earlier) (linkage_count earlier) known (λ c lt. tied_at net (linkage earlier) (linkage_count earlier) (λ d. ⊥) 1 (range_with_len 0 (length net.complexes)) ties t.1 c (in_range c 0 (length net.complexes) (omega arith) (omega (arith, lt)))),
     )
-confluence_law net earlier k weak reg (Plane first second one two) Nothing f t =
+confluence_law net earlier k weak reg (Plane first second one two) p f t =
     let l = k.linkage_is in
     let known : AreKnown net (linkage earlier) (linkage_count earlier) = record { labelled = l.labelled; count_is = l.count_is } in
+    let rows = (bare_formed net earlier Q12 (Plane first second one two) p f.0.trees f.1.1 f).0.rows in
     let a = t.1.0 in
     let b = t.1.1.0 in (
       regular_yes net (on earlier Q11) t.0 reg,
       record {
-        one = space_by_tests net (linkage earlier) (linkage_count earlier) one.list known f.1.0.long a.0;
-        two = space_by_tests net (linkage earlier) (linkage_count earlier) two.list known f.1.1.long b.0;
+        one = space_by_tests net (linkage earlier) (linkage_count earlier) one.list known rows.0.long a.0;
+        two = space_by_tests net (linkage earlier) (linkage_count earlier) two.list known rows.1.0.long b.0;
         apart = λ r.
             let none : entry one.list (first - 1) *ℤ entry two.list (second - 1) ≡ pos 0 = r (first - 1) (second - 1) ∙ ap (λ (z : ℤ). z *ℤ entry two.list (first - 1)) a.2 ∙ zero-*ℤ (entry two.list (first - 1)) in
             b.1 (no_zero (entry one.list (first - 1)) (entry two.list (second - 1)) none a.1);
       },
     )
-confluence_law net earlier k weak reg v p f t = absurd f.1
+confluence_law net earlier k weak reg (YesVec vector) p f t = absurd (let e = f.1.1 in cc)
+confluence_law net earlier k weak reg OnlyZero p f t = absurd (let e = f.1.1 in cc)
+confluence_law net earlier k weak reg v p f t = absurd f.0.head
 
 pub confluence_valid : ValidIsTrue (Q1 ∷ Q2 ∷ Q4 ∷ []) (Q11 ∷ []) Q12
 confluence_valid net earlier answer network known rests f t = confluence_law net earlier (classes_known net earlier known.0 known.1.0) known.1.1.0 rests.0 answer.verdict answer.proof f t
@@ -237,11 +245,11 @@ deficiency_is net earlier d h v r e = absurd e
 
 zero_law : (net : Net) (earlier : Earlier) → IsTrueOf net Q1 (on earlier Q1) → IsTrueOf net Q4 (on earlier Q4) → IsTrueOrOpen net Q5 (on earlier Q5) → (v : Verdict) (p : Proof) → IsFormedOf net earlier Q9 v p → AllHold (zero_head net earlier v ++ []) → IsTrueOrOpen net Q9 v
 zero_law net earlier h w r (Unknown gap) p f t = tt
-zero_law net earlier h w r (YesWeak weak) Nothing f t =
+zero_law net earlier h w r (YesWeak weak) p f t =
     let same = t.1.0.1 in
     (deficiency_is net earlier 0 h (on earlier Q5) r t.1.0.0, (λ b. weak_yes net (on earlier Q4) w (same.0 b), λ a. same.1 (weak_no net (on earlier Q4) w a)))
-zero_law net earlier h w r (NoNumber d) Nothing f t = (deficiency_is net earlier d h (on earlier Q5) r t.1.0, λ e. omega (arith, e, f.0.0))
-zero_law net earlier h w r v p f t = absurd f.1
+zero_law net earlier h w r (NoNumber d) p f t = (deficiency_is net earlier d h (on earlier Q5) r t.1.0, λ e. omega (arith, e, f.0.head.0.0))
+zero_law net earlier h w r v p f t = absurd f.0.head
 
 pub zero_valid : ValidIsTrue (Q1 ∷ Q4 ∷ []) (Q5 ∷ []) Q9
 zero_valid net earlier answer network known rests f t = zero_law net earlier known.0 known.1.0 rests.0 answer.verdict answer.proof f t
@@ -265,11 +273,11 @@ inside_by (x ∷ ds) (suc k) d e le = let h = inside_by ds k d e le in omega (ar
 
 one_law : (net : Net) (earlier : Earlier) → ClassesKnown net earlier → IsTrueOrOpen net Q6 (on earlier Q6) → (v : Verdict) (p : Proof) → IsFormedOf net earlier Q10 v p → AllHold (one_head earlier v ++ []) → IsTrueOrOpen net Q10 v
 one_law net earlier k q (Unknown gap) p f t = tt
-one_law net earlier k q Yes Nothing f t =
+one_law net earlier k q Yes p f t =
     let d = deficiencies_known net (λ total classes. AreAtMostOne classes × (sum classes ≡ total)) (on earlier Q6) q t.0.1 in
     record { terminal = one_each net earlier k t.0.0; total = d.total; classes = d.classes; deficiencies = d.right; small = d.has.0; additive = d.has.1 }
-one_law net earlier k q (NoTerminal class count) Nothing f t = first_split net earlier class count k f.0.0.0 f.0.0.1 t.0
-one_law net earlier k q (NoClass class number) Nothing f t =
+one_law net earlier k q (NoTerminal class count) p f t = first_split net earlier class count k f.0.head.0.0 f.0.head.0.1 t.0
+one_law net earlier k q (NoClass class number) p f t =
     let d = deficiencies_known net (λ total classes. IsFirstLarge class number classes) (on earlier Q6) q t.0.1 in
     let inside = inside_by d.classes (class - 1) number d.has.0 d.has.1 in
     record {
@@ -277,15 +285,15 @@ one_law net earlier k q (NoClass class number) Nothing f t =
       total = d.total;
       classes = d.classes;
       deficiencies = d.right;
-      place = (f.0.0.0, omega (arith, inside, f.0.0.0));
+      place = (f.0.head.0.0, omega (arith, inside, f.0.head.0.0));
       is = d.has.0;
       large = d.has.1;
       before = d.has.2;
     }
-one_law net earlier k q (NoSum x) Nothing f t =
+one_law net earlier k q (NoSum x) p f t =
     let d = deficiencies_known net (λ total classes. AreAtMostOne classes × (sum classes ≡ x) × (x ≢ total)) (on earlier Q6) q t.0.1 in
     record { terminal = one_each net earlier k t.0.0; total = d.total; classes = d.classes; deficiencies = d.right; small = d.has.0; is = d.has.1; other = d.has.2 }
-one_law net earlier k q v p f t = absurd f.1
+one_law net earlier k q v p f t = absurd f.0.head
 
 pub one_valid : ValidIsTrue (Q1 ∷ Q2 ∷ []) (Q6 ∷ []) Q10
 one_valid net earlier answer network known rests f t = one_law net earlier (classes_known net earlier known.0 known.1.0) rests.0 answer.verdict answer.proof f t

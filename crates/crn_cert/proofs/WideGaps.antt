@@ -6,7 +6,7 @@ use Rattle.crn_vec.specs.Vectors.{Mat}
 use Rattle.crn_vec.specs.Elementary.{NamesWide, width}
 use Rattle.crn_vec.proofs.CallerLemmas.{all_map, ascending_suc}
 use Rattle.crn_cert.specs.Ranges.{AreFrom}
-use Rattle.crn_cert.specs.Formed.{IsBasisOf}
+use Rattle.crn_cert.specs.Data.{IsBasisOf}
 
 names_basis : (a : Mat) (index : ℕ) (basis : List ℕ) → NamesWide a index basis → IsBasisOf a.cols (length a.rows) index basis
 names_basis a index basis h =

@@ -12,24 +12,26 @@ use Rattle.crn_cert.specs.Questions.{Earlier, Question, Q1, Q2, Q3, Q4, Q5, Q6, 
 use Rattle.crn_cert.specs.Verdicts.{tight}
 use Rattle.crn_cert.specs.declared.answer.Proof.{Proof}
 use Rattle.crn_cert.specs.Ranges.{AreFrom, AreFree}
-use Rattle.crn_cert.specs.Formed.{species, complexes, reactions, HeadMayBe, IsFormedOf, IsWalkList, AreSignalRows}
+use Rattle.crn_cert.specs.Data.{IsWalkOf}
+use Rattle.crn_cert.specs.Parts.{AreSignalRows}
+use Rattle.crn_cert.specs.Formed.{HeadMayBe, IsFormedOf}
 
 -- linkage classes: a label for each complex
 abbrev pub ListsLinkage : Net → Verdict → Type 0
-ListsLinkage net (Classes count label) = AreFrom (complexes net) 1 count label.list
+ListsLinkage net (Classes count label) = AreFrom (length net.complexes) 1 count label.list
 ListsLinkage net verdict = Unit {0}
 
 -- strong classes: a label for each complex and an exit for each class
 abbrev pub ListsStrong : Net → Verdict → Type 0
-ListsStrong net (Strong count terminal label exit) = AreFrom (complexes net) 1 count label.list
-    × AreFrom count 0 (reactions net) exit.list
+ListsStrong net (Strong count terminal label exit) = AreFrom (length net.complexes) 1 count label.list
+    × AreFrom count 0 (length net.reactions) exit.list
 ListsStrong net verdict = Unit {0}
 
 -- an ascending base of `rank` reactions
 pub record IsBaseList (net : Net) (rank : ℕ) (base : List ℕ) : Type 0 where
   pub long : length base ≡ rank
   pub ascending : IsAscending base
-  pub from : (r : ℕ) → IsIn r base → IsIn r (range_with_len 1 (reactions net))
+  pub from : (r : ℕ) → IsIn r base → IsIn r (range_with_len 1 (length net.reactions))
 
 -- rank: its base
 abbrev pub ListsRank : Net → Verdict → Type 0
@@ -44,14 +46,14 @@ ListsPositive width height verdict = Unit {0}
 
 -- regularity: the walk of a cycle
 abbrev pub ListsRegular : Net → Verdict → Type 0
-ListsRegular net (NoCycle reaction walk) = IsWalkList net walk.list
+ListsRegular net (NoCycle reaction walk) = IsWalkOf (length net.complexes) walk.list
 ListsRegular net verdict = Unit {0}
 
 -- confluence vector: a number for each complex
 abbrev pub ListsConfluence : Net → Verdict → Type 0
-ListsConfluence net (YesVec vector) = AreFree (complexes net) vector.list
-ListsConfluence net (Plane first second one two) = AreFree (complexes net) one.list
-    × AreFree (complexes net) two.list
+ListsConfluence net (YesVec vector) = AreFree (length net.complexes) vector.list
+ListsConfluence net (Plane first second one two) = AreFree (length net.complexes) one.list
+    × AreFree (length net.complexes) two.list
 ListsConfluence net verdict = Unit {0}
 
 -- signal: its lists
@@ -62,8 +64,8 @@ ListsSignal net earlier verdict = Unit {0}
 
 -- concordance: two lists of a number for each reaction
 abbrev pub ListsConcordant : Net → Verdict → Type 0
-ListsConcordant net (NoPair alpha weights) = AreFree (reactions net) alpha.list
-    × AreFree (reactions net) weights.list
+ListsConcordant net (NoPair alpha weights) = AreFree (length net.reactions) alpha.list
+    × AreFree (length net.reactions) weights.list
 ListsConcordant net verdict = Unit {0}
 
 -- the lists of a verdict have their lengths and ranges
@@ -74,8 +76,8 @@ ListsMayBe net earlier Q3 verdict = Unit {0}
 ListsMayBe net earlier Q4 verdict = Unit {0}
 ListsMayBe net earlier Q5 verdict = ListsRank net verdict
 ListsMayBe net earlier Q6 verdict = Unit {0}
-ListsMayBe net earlier Q7 verdict = ListsPositive (reactions net) (species net) verdict
-ListsMayBe net earlier Q8 verdict = ListsPositive (species net) (reactions net) verdict
+ListsMayBe net earlier Q7 verdict = ListsPositive (length net.reactions) (length net.names) verdict
+ListsMayBe net earlier Q8 verdict = ListsPositive (length net.names) (length net.reactions) verdict
 ListsMayBe net earlier Q9 verdict = Unit {0}
 ListsMayBe net earlier Q10 verdict = Unit {0}
 ListsMayBe net earlier Q11 verdict = ListsRegular net verdict

@@ -16,12 +16,17 @@ pub mod ClassTests
 pub mod RankTests
 pub mod ConfluenceTests
 pub mod Valid
+pub mod Data
+pub mod Parts
+pub mod Table
+pub mod Blocks
 pub mod Formed
 pub mod Licensed
 pub mod Answered
 pub mod Given
 pub mod FormedVerdicts
 pub mod Heads
+pub mod BlockLaw
 pub mod Law
 pub mod Answers
 pub mod Shares

@@ -22,10 +22,10 @@ use Rattle.crn_cert.specs.declared.answer.Gap.{Gap}
 use Rattle.crn_cert.specs.declared.answer.Gap.TheVariants.{Wide, Budget, Rests}
 use Rattle.crn_cert.specs.declared.answer.Verdict.{Verdict}
 use Rattle.crn_cert.specs.declared.answer.Verdict.TheVariants.{Unknown}
-use Rattle.crn_cert.specs.Questions.{Earlier, Question, Q5, Q6, Q7, Q8, Q10, Q11, Q12, Q13, Q14, Q15, rests_on, on, rank_of, vector_given, IsOpen, IsYes}
+use Rattle.crn_cert.specs.Questions.{Earlier, Question, Q5, Q6, Q7, Q8, Q10, Q11, Q12, Q13, Q14, Q15, number, rests_on, on, rank_of, vector_given, IsOpen, IsYes}
 use Rattle.crn_cert.specs.Verdicts.{tight}
 use Rattle.crn_cert.specs.Says.{IsTrueOf}
-use Rattle.crn_cert.specs.Formed.{IsWideGap, MayRestOn}
+use Rattle.crn_cert.specs.Formed.{IsWideGap}
 
 -- the system of linkage class k is wide
 pub record IsClassWide (net : Net) (class : ℕ) (basis : List ℕ) (index : ℕ) : Type 0 where
@@ -103,6 +103,15 @@ IsLeftOpen net q = Unit {0}
 abbrev pub IsOpenOn : Earlier → Option Question → Type 0
 IsOpenOn earlier None = ⊥
 IsOpenOn earlier (Some q) = IsOpen (on earlier q)
+
+-- there is a question, and it has this number
+abbrev pub IsNumberOfQuestion : Option Question → ℕ → Type 0
+IsNumberOfQuestion None j = ⊥
+IsNumberOfQuestion (Some q) j = number q ≡ j
+
+-- the question on which an open one may rest
+abbrev pub MayRestOn : Question → ℕ → Type 0
+MayRestOn q j = IsNumberOfQuestion (rests_on q) j
 
 -- the question that this one rests on is open, and so this one is open too
 abbrev pub IsLicensedRest : Net → Earlier → Question → ℕ → Type 0

@@ -1,7 +1,7 @@
 -- The questions, and what later questions need of earlier verdicts.
 -- Source: this project's own.
 -- Shapes: each earlier verdict is paired with its question. Classes and reactions count from 1.
-use Rattle.std.specs.Prelude.{◌==◌, if◌then◌else◌, ℕ, ℤ, List, [], ◌∷◌, Option, Some, None}
+use Rattle.std.specs.Prelude.{◌==◌, if◌then◌else◌, Bool, true, false, ℕ, ℤ, List, [], ◌∷◌, Option, Some, None}
 use Rattle.crn_cert.specs.declared.answer.Verdict.{Verdict}
 use Rattle.crn_cert.specs.declared.answer.Verdict.TheVariants.{Classes, Strong, Rank, Deficiency, Yes, YesVec, NoVec, NoTerminal, NoDependence, NoCycle, NotApplicable, Unknown}
 
@@ -104,6 +104,17 @@ abbrev pub IsYes : Verdict → Type 0
 IsYes Yes = Unit {0}
 IsYes (YesVec vector) = Unit {0}
 IsYes other = ⊥
+
+-- whether it is a yes of question 4, 7 or 11
+abbrev pub is_yes : Verdict → Bool
+is_yes Yes = true
+is_yes (YesVec vector) = true
+is_yes verdict = false
+
+-- whether a vector of the confluence space is given
+abbrev pub has_vector : Verdict → Bool
+has_vector (YesVec vector) = true
+has_vector verdict = false
 
 -- a no of question 7 or 11
 abbrev pub IsNo : Verdict → Type 0

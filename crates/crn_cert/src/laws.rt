@@ -1,3 +1,4 @@
+ghost use Rattle.crn_cert.specs.BlockLaw.{BlocksAreOfAnswers};
 ghost use Rattle.crn_cert.specs.Heads.{HeadsDependOnNoLists};
 ghost use Rattle.crn_cert.specs.FormedVerdicts.{FormedAnswersHaveFormedVerdicts};
 ghost use Rattle.crn_cert.specs.Preorder.{NodesAreOfOneTree};
@@ -58,4 +59,9 @@ pub fn shares_fit()
 /// The nodes of a tree in preorder are those of no other tree.
 pub fn nodes_are_of_one_tree()
     ensures { NodesAreOfOneTree }
+{}
+
+/// The block of the answer of a block that fits is that block.
+pub fn blocks_are_of_answers()
+    ensures { BlocksAreOfAnswers }
 {}

@@ -3,6 +3,7 @@
 
 mod answer;
 mod answers;
+mod head_kind;
 mod laws;
 mod place;
 mod rank_list;
@@ -14,9 +15,10 @@ mod verdicts;
 
 pub use answer::{Answer, Gap, Proof, RankProof, Verdict};
 pub use answers::Answers;
+pub use head_kind::HeadKind;
 pub use laws::{
-    formed_answers_have_formed_verdicts, heads_depend_on_no_lists, nodes_are_of_one_tree,
-    pair_places_are_pairs, shapes_exist, shares_fit, tested_marks_are_sides,
+    blocks_are_of_answers, formed_answers_have_formed_verdicts, heads_depend_on_no_lists,
+    nodes_are_of_one_tree, pair_places_are_pairs, shapes_exist, shares_fit, tested_marks_are_sides,
     tests_decide_valid_trees, valid_answers_are_true, valid_documents_are_true,
     valid_trees_leave_nothing,
 };

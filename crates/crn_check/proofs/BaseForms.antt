@@ -9,7 +9,7 @@ use Rattle.crn_vec.specs.Network.{Net, IsNetwork}
 use Rattle.crn_vec.proofs.CallerLemmas.{all_from, filter_few, filter_from, filter_has, filter_ascending, in_range}
 use Rattle.crn_cert.specs.declared.answer.RankProof.{RankProof}
 use Rattle.crn_cert.specs.Ranges.{IsFrom}
-use Rattle.crn_cert.specs.Formed.{IsRankProof}
+use Rattle.crn_cert.specs.Parts.{IsRankProof}
 use Rattle.crn_cert.specs.RankTests.{outside}
 use Rattle.crn_cert.proofs.CallerLemmas.{range_ascending, range_bounds}
 use Rattle.crn_check.specs.declared.members.Members.{Members}

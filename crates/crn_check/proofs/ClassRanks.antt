@@ -9,7 +9,7 @@ use Rattle.crn_cert.specs.declared.answer.RankProof.{RankProof}
 use Rattle.crn_cert.specs.Questions.{Earlier}
 use Rattle.crn_cert.specs.Tests.{AllHold, FailsFirst}
 use Rattle.crn_cert.specs.RankTests.{rank_tests}
-use Rattle.crn_cert.specs.Formed.{IsRankProof, AreClassProofs}
+use Rattle.crn_cert.specs.Parts.{IsRankProof, AreClassProofs}
 use Rattle.crn_cert.specs.Valid.{class_places, class_rank_tests}
 use Rattle.crn_check.specs.declared.fault.CheckFault.{CheckFault}
 use Rattle.crn_check.specs.Check.{Judges}

@@ -23,7 +23,7 @@ fits_1 net e (Unknown (Rests question)) n f = absurd f.0
 fits_1 net e v n f = absurd f.0
 
 fits_2 : (net : Net) (e : Earlier) (v : Verdict) → IsNetwork net → IsFormedVerdict net e Q2 v → DoesFit v
-fits_2 net e (Strong count terminal label exit) n f = (omega (arith, f.1.0.long, n.partial.complexes_limit), omega (arith, f.1.1.long, f.0.0.1, n.partial.complexes_limit))
+fits_2 net e (Strong count terminal label exit) n f = (omega (arith, f.1.0.long, n.partial.complexes_limit), omega (arith, f.1.1.long, f.0.0.0.1, n.partial.complexes_limit))
 fits_2 net e (Unknown (Wide system class index basis)) n f = absurd f.0
 fits_2 net e (Unknown (Budget nodes)) n f = absurd f.0
 fits_2 net e (Unknown (Rests question)) n f = absurd f.0
@@ -46,16 +46,16 @@ fits_4 net e (Unknown (Rests question)) f = absurd f.0
 fits_4 net e v f = absurd f.0
 
 fits_5 : (net : Net) (e : Earlier) (v : Verdict) → IsNetwork net → IsFormedVerdict net e Q5 v → DoesFit v
-fits_5 net e (Rank rank base) n f = omega (arith, f.1.long, f.0.1, n.partial.reactions_limit)
-fits_5 net e (Unknown (Wide system class index basis)) n f = omega (arith, f.0.2.members.long, n.partial.species_limit)
+fits_5 net e (Rank rank base) n f = omega (arith, f.1.long, f.0.0.1, n.partial.reactions_limit)
+fits_5 net e (Unknown (Wide system class index basis)) n f = omega (arith, f.0.0.2.members.long, n.partial.species_limit)
 fits_5 net e (Unknown (Budget nodes)) n f = absurd f.0
 fits_5 net e (Unknown (Rests question)) n f = absurd f.0
 fits_5 net e v n f = absurd f.0
 
 -- a list of deficiencies has a member for each linkage class
 fits_6 : (net : Net) (e : Earlier) (v : Verdict) → IsNetwork net → linkage_count e ≤ length net.complexes → IsFormedVerdict net e Q6 v → DoesFit v
-fits_6 net e (Deficiency total classes) n few f = omega (arith, f.0.1.long, few, n.partial.complexes_limit)
-fits_6 net e (Unknown (Wide system class index basis)) n few f = omega (arith, f.0.2.members.long, n.partial.species_limit)
+fits_6 net e (Deficiency total classes) n few f = omega (arith, f.0.0.1.long, few, n.partial.complexes_limit)
+fits_6 net e (Unknown (Wide system class index basis)) n few f = omega (arith, f.0.0.2.members.long, n.partial.species_limit)
 fits_6 net e (Unknown (Budget nodes)) n few f = absurd f.0
 fits_6 net e (Unknown (Rests question)) n few f = tt
 fits_6 net e v n few f = absurd f.0
@@ -63,7 +63,7 @@ fits_6 net e v n few f = absurd f.0
 fits_7 : (net : Net) (e : Earlier) (v : Verdict) → IsNetwork net → IsFormedVerdict net e Q7 v → DoesFit v
 fits_7 net e (YesVec vector) n f = omega (arith, f.1.long, n.partial.reactions_limit)
 fits_7 net e (NoVec multipliers) n f = omega (arith, f.1.long, n.partial.species_limit)
-fits_7 net e (Unknown (Wide system class index basis)) n f = omega (arith, f.0.2.members.long, n.partial.reactions_limit)
+fits_7 net e (Unknown (Wide system class index basis)) n f = omega (arith, f.0.0.2.members.long, n.partial.reactions_limit)
 fits_7 net e (Unknown (Budget nodes)) n f = absurd f.0
 fits_7 net e (Unknown (Rests question)) n f = absurd f.0
 fits_7 net e v n f = absurd f.0
@@ -71,7 +71,7 @@ fits_7 net e v n f = absurd f.0
 fits_8 : (net : Net) (e : Earlier) (v : Verdict) → IsNetwork net → IsFormedVerdict net e Q8 v → DoesFit v
 fits_8 net e (YesVec vector) n f = omega (arith, f.1.long, n.partial.species_limit)
 fits_8 net e (NoVec multipliers) n f = omega (arith, f.1.long, n.partial.reactions_limit)
-fits_8 net e (Unknown (Wide system class index basis)) n f = omega (arith, f.0.2.members.long, n.partial.species_limit)
+fits_8 net e (Unknown (Wide system class index basis)) n f = omega (arith, f.0.0.2.members.long, n.partial.species_limit)
 fits_8 net e (Unknown (Budget nodes)) n f = absurd f.0
 fits_8 net e (Unknown (Rests question)) n f = absurd f.0
 fits_8 net e v n f = absurd f.0
@@ -109,7 +109,7 @@ fits_12 net e (YesVec vector) n f = omega (arith, f.1.long, n.partial.complexes_
 fits_12 net e NotRegular n f = tt
 fits_12 net e OnlyZero n f = tt
 fits_12 net e (Plane first second one two) n f = (omega (arith, f.1.0.long, n.partial.complexes_limit), omega (arith, f.1.1.long, n.partial.complexes_limit))
-fits_12 net e (Unknown (Wide system class index basis)) n f = omega (arith, f.0.2.members.long, n.partial.complexes_limit)
+fits_12 net e (Unknown (Wide system class index basis)) n f = omega (arith, f.0.0.2.members.long, n.partial.complexes_limit)
 fits_12 net e (Unknown (Budget nodes)) n f = absurd f.0
 fits_12 net e (Unknown (Rests question)) n f = tt
 fits_12 net e v n f = absurd f.0
@@ -123,7 +123,7 @@ fits_13 net e (YesSignal turn shelves mu level weights) n few f = (
 )
 fits_13 net e No n few f = tt
 fits_13 net e NotApplicable n few f = tt
-fits_13 net e (Unknown (Wide system class index basis)) n few f = elim f.0 as (λ _. length basis.list ≤ 240) [
+fits_13 net e (Unknown (Wide system class index basis)) n few f = elim f.0.0 as (λ _. length basis.list ≤ 240) [
   | inl h ↦ omega (arith, h.2.members.long, n.partial.reactions_limit)
   | inr h ↦ omega (arith, h.3.members.long, n.partial.species_limit)
 ]
@@ -134,7 +134,7 @@ fits_13 net e v n few f = absurd f.0
 fits_14 : (net : Net) (e : Earlier) (v : Verdict) → IsNetwork net → IsFormedVerdict net e Q14 v → DoesFit v
 fits_14 net e Yes n f = tt
 fits_14 net e (NoPair alpha weights) n f = (omega (arith, f.1.0.long, n.partial.reactions_limit), omega (arith, f.1.1.long, n.partial.reactions_limit))
-fits_14 net e (Unknown (Wide system class index basis)) n f = omega (arith, f.0.2.members.long, n.partial.reactions_limit)
+fits_14 net e (Unknown (Wide system class index basis)) n f = omega (arith, f.0.0.2.members.long, n.partial.reactions_limit)
 fits_14 net e (Unknown (Budget nodes)) n f = tt
 fits_14 net e (Unknown (Rests question)) n f = absurd f.0
 fits_14 net e v n f = absurd f.0
@@ -142,7 +142,7 @@ fits_14 net e v n f = absurd f.0
 fits_15 : (net : Net) (e : Earlier) (v : Verdict) → IsNetwork net → IsFormedVerdict net e Q15 v → DoesFit v
 fits_15 net e Yes n f = tt
 fits_15 net e (NoPair alpha weights) n f = (omega (arith, f.1.0.long, n.partial.reactions_limit), omega (arith, f.1.1.long, n.partial.reactions_limit))
-fits_15 net e (Unknown (Wide system class index basis)) n f = omega (arith, f.0.2.members.long, n.partial.reactions_limit)
+fits_15 net e (Unknown (Wide system class index basis)) n f = omega (arith, f.0.0.2.members.long, n.partial.reactions_limit)
 fits_15 net e (Unknown (Budget nodes)) n f = tt
 fits_15 net e (Unknown (Rests question)) n f = absurd f.0
 fits_15 net e v n f = absurd f.0

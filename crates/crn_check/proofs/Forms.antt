@@ -13,7 +13,7 @@ use Rattle.crn_cert.specs.declared.answer.Proof.{Proof}
 use Rattle.crn_cert.specs.Questions.{Earlier, Question, Q1, Q2, Q3, Q4, Q5, Q6, Q7, Q8, Q9, Q10, Q11, Q12, Q13, Q14, Q15, number, on, labels_of, count_of, exits_of, terminal_of, IsOpen}
 use Rattle.crn_cert.specs.Ranges.{AreFrom}
 use Rattle.crn_cert.specs.Valid.{strong, exits, linkage, linkage_count}
-use Rattle.crn_cert.specs.Formed.{HeadMayBe, HeadReversible, HeadDeficiency, RowsLinkage, RowsStrong, RowsReversible, RowsRank, RowsDeficiency, RowsPositive, HeadRegular, RowsRegular, HeadConfluence, RowsConfluence, RowsConcordant, IsFormed, IsFormedOf}
+use Rattle.crn_cert.specs.Formed.{IsFormed}
 use Rattle.crn_cert.specs.FormedVerdicts.{IsFormedVerdict, AreFormedVerdicts}
 use Rattle.crn_cert.specs.Says.{IsTrueOf}
 use Rattle.crn_cert.specs.Law.{IsTrueOrOpen}
@@ -21,74 +21,6 @@ use Rattle.crn_cert.proofs.CallerLemmas.{formed_answers_have_formed_verdicts, sa
 use Rattle.crn_cert.specs.Verdicts.{tight, all_tight}
 use Rattle.crn_check.specs.Check.{AsksForTree, shown_by_tree}
 use Rattle.crn_check.specs.Facts.{KeptFacts, AreFactsOf, asked, HoldsOn}
-
--- ---- the lists of decided answers
-
-pub rows_linkage : (net : Net) (e : Earlier) (v : Verdict) (p : Proof) → IsFormedOf net e Q1 v p → RowsLinkage net v p
-rows_linkage net e (Unknown (Wide system class index basis)) p f = absurd f.0
-rows_linkage net e (Unknown (Budget nodes)) p f = absurd f.0
-rows_linkage net e (Unknown (Rests question)) p f = absurd f.0
-rows_linkage net e v p f = f.1
-
-pub rows_strong : (net : Net) (e : Earlier) (v : Verdict) (p : Proof) → IsFormedOf net e Q2 v p → RowsStrong net v p
-rows_strong net e (Unknown (Wide system class index basis)) p f = absurd f.0
-rows_strong net e (Unknown (Budget nodes)) p f = absurd f.0
-rows_strong net e (Unknown (Rests question)) p f = absurd f.0
-rows_strong net e v p f = f.1
-
-pub rows_reversible : (net : Net) (e : Earlier) (v : Verdict) (p : Proof) → IsFormedOf net e Q3 v p → RowsReversible net v p
-rows_reversible net e (Unknown (Wide system class index basis)) p f = absurd f.0
-rows_reversible net e (Unknown (Budget nodes)) p f = absurd f.0
-rows_reversible net e (Unknown (Rests question)) p f = absurd f.0
-rows_reversible net e v p f = f.1
-
-pub head_reversible : (net : Net) (e : Earlier) (v : Verdict) → HeadMayBe net e Q3 v → HeadReversible net v
-head_reversible net e (Unknown (Wide system class index basis)) h = absurd h
-head_reversible net e (Unknown (Budget nodes)) h = absurd h
-head_reversible net e (Unknown (Rests question)) h = absurd h
-head_reversible net e v h = h
-
-pub head_weak : (net : Net) (e : Earlier) (v : Verdict) → HeadMayBe net e Q4 v → HeadReversible net v
-head_weak net e (Unknown (Wide system class index basis)) h = absurd h
-head_weak net e (Unknown (Budget nodes)) h = absurd h
-head_weak net e (Unknown (Rests question)) h = absurd h
-head_weak net e v h = h
-
-pub rows_rank : (net : Net) (e : Earlier) (v : Verdict) (p : Proof) → IsFormedOf net e Q5 v p → IsOpen v ⊎ RowsRank net v p
-rows_rank net e (Unknown gap) p f = inl tt
-rows_rank net e v p f = inr f.1
-
-pub rows_deficiency : (net : Net) (e : Earlier) (v : Verdict) (p : Proof) → IsFormedOf net e Q6 v p → IsOpen v ⊎ (HeadDeficiency net e v × RowsDeficiency net e v p)
-rows_deficiency net e (Unknown gap) p f = inl tt
-rows_deficiency net e v p f = inr f
-
-pub rows_dependence : (net : Net) (e : Earlier) (v : Verdict) (p : Proof) → IsFormedOf net e Q7 v p → IsOpen v ⊎ RowsPositive (length net.reactions) (length net.names) v p
-rows_dependence net e (Unknown gap) p f = inl tt
-rows_dependence net e v p f = inr f.1
-
-pub rows_conservation : (net : Net) (e : Earlier) (v : Verdict) (p : Proof) → IsFormedOf net e Q8 v p → IsOpen v ⊎ RowsPositive (length net.names) (length net.reactions) v p
-rows_conservation net e (Unknown gap) p f = inl tt
-rows_conservation net e v p f = inr f.1
-
-pub head_regular : (net : Net) (e : Earlier) (v : Verdict) → HeadMayBe net e Q11 v → IsOpen v ⊎ HeadRegular net e v
-head_regular net e (Unknown gap) h = inl tt
-head_regular net e v h = inr h
-
-pub rows_regular : (net : Net) (e : Earlier) (v : Verdict) (p : Proof) → IsFormedOf net e Q11 v p → IsOpen v ⊎ (HeadRegular net e v × RowsRegular net e v p)
-rows_regular net e (Unknown gap) p f = inl tt
-rows_regular net e v p f = inr f
-
-pub rows_confluence : (net : Net) (e : Earlier) (v : Verdict) (p : Proof) → IsFormedOf net e Q12 v p → IsOpen v ⊎ (HeadConfluence net v × RowsConfluence net e v p)
-rows_confluence net e (Unknown gap) p f = inl tt
-rows_confluence net e v p f = inr f
-
-pub rows_concordant : (net : Net) (e : Earlier) (v : Verdict) (p : Proof) → IsFormedOf net e Q14 v p → IsOpen v ⊎ RowsConcordant net v p
-rows_concordant net e (Unknown gap) p f = inl tt
-rows_concordant net e v p f = inr f.1
-
-pub rows_strongly : (net : Net) (e : Earlier) (v : Verdict) (p : Proof) → IsFormedOf net e Q15 v p → IsOpen v ⊎ RowsConcordant net v p
-rows_strongly net e (Unknown gap) p f = inl tt
-rows_strongly net e v p f = inr f.1
 
 -- ---- what is kept
 
@@ -209,7 +141,7 @@ strong_labelled net facts h held = let f = formed_on net [] facts.earlier Q2 h.f
 
 -- a verdict on strong classes has no more classes than there are complexes
 strong_counted : (net : Net) (e : Earlier) (v : Verdict) → IsFormedVerdict net e Q2 v → count_of v ≤ length net.complexes
-strong_counted net e (Strong count terminal label exit) h = h.0.0.1
+strong_counted net e (Strong count terminal label exit) h = h.0.0.0.1
 strong_counted net e (Unknown (Wide system class index basis)) h = absurd h.0
 strong_counted net e (Unknown (Budget nodes)) h = absurd h.0
 strong_counted net e (Unknown (Rests question)) h = absurd h.0
@@ -220,7 +152,7 @@ strong_classes net facts h held = let f = formed_on net [] facts.earlier Q2 h.fo
 
 -- a verdict on strong classes has no more terminal classes than there are complexes
 pub terminal_few : (net : Net) (e : Earlier) (v : Verdict) → IsFormedVerdict net e Q2 v → terminal_of v ≤ length net.complexes
-terminal_few net e (Strong count terminal label exit) h = omega (arith, h.0.0.1, h.0.1.1)
+terminal_few net e (Strong count terminal label exit) h = omega (arith, h.0.0.0.1, h.0.0.1.1)
 terminal_few net e (Unknown (Wide system class index basis)) h = absurd h.0
 terminal_few net e (Unknown (Budget nodes)) h = absurd h.0
 terminal_few net e (Unknown (Rests question)) h = absurd h.0
@@ -231,7 +163,7 @@ strong_few net facts h held = let f = formed_on net [] facts.earlier Q2 h.formed
 
 -- a verdict on linkage classes labels each complex, and has no more classes than complexes
 linkage_long : (net : Net) (e : Earlier) (v : Verdict) → IsFormedVerdict net e Q1 v → (length (labels_of v) ≡ length net.complexes) × (count_of v ≤ length net.complexes)
-linkage_long net e (Classes count label) h = (h.1.long, h.0.1)
+linkage_long net e (Classes count label) h = (h.1.long, h.0.0.1)
 linkage_long net e (Unknown (Wide system class index basis)) h = absurd h.0
 linkage_long net e (Unknown (Budget nodes)) h = absurd h.0
 linkage_long net e (Unknown (Rests question)) h = absurd h.0

@@ -15,7 +15,6 @@ mod Outside
 mod ClassRanks
 mod BaseForms
 mod ClassTerminals
-mod Theorems
 mod InOrder
 mod Rounds
 mod SideMarks

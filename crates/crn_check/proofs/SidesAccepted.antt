@@ -13,7 +13,7 @@ use Rattle.crn_cert.specs.Questions.{Q1, Q11, on, labels_of}
 use Rattle.crn_cert.specs.Says.{IsTrueOf}
 use Rattle.crn_cert.specs.Tests.{AllHold}
 use Rattle.crn_cert.specs.Valid.{head_tests, row_tests, tests_of}
-use Rattle.crn_cert.proofs.CallerLemmas.{hold_parts}
+use Rattle.crn_cert.proofs.CallerLemmas.{hold_parts, sides_formed}
 use Rattle.crn_shape.specs.Sides.{AreSides}
 use Rattle.crn_shape.proofs.CallerLemmas.{tested_sides}
 use Rattle.crn_check.specs.Check.{HoldsNeeds}
@@ -28,7 +28,7 @@ labelled net v h = absurd h
 -- the rows of a yes to question 11 whose tests below its head hold
 pub sides_accepted : (net : Net) (facts : KeptFacts) (sides : List (List ℤ)) → IsNetwork net → AreFactsOf net facts → HoldsNeeds facts.earlier 11 → IsFormedOf net facts.earlier Q11 Yes (Sides sides) → AllHold (row_tests net facts.earlier Q11 Yes (Sides sides)) → AreSides net sides
 sides_accepted net facts sides n h needs f t =
-    tested_sides net facts.earlier 1 sides n (strong_true net facts h needs.1.0) (labelled net (on facts.earlier Q1) (linkage_true net facts h needs.0)) f.1 t
+    tested_sides net facts.earlier 1 sides n (strong_true net facts h needs.1.0) (labelled net (on facts.earlier Q1) (linkage_true net facts h needs.0)) (sides_formed net facts.earlier sides f) t
 
 -- those of an answer whose tests all hold
 pub sides_of_answer : (net : Net) (facts : KeptFacts) (a : Answer) (sides : List (List ℤ)) → IsNetwork net → AreFactsOf net facts → HoldsNeeds facts.earlier 11 → IsFormed net facts.earlier Q11 a → AllHold (tests_of net facts.earlier Q11 a) → a.verdict ≡ Yes → a.proof ≡ Sides sides → AreSides net sides

@@ -1,6 +1,6 @@
 ghost use Rattle.std.specs.Prelude.{◌⊎◌, length};
-ghost use Rattle.crn_cert.specs.Formed.{RowsConcordant};
-ghost use Rattle.crn_cert.specs.Questions.{IsOpen};
+ghost use Rattle.crn_cert.specs.Formed.{IsFormedOf};
+ghost use Rattle.crn_cert.specs.Questions.{Earlier, Q14, Q15};
 ghost use Rattle.crn_cert.specs.Ranges.{AreFree};
 ghost use Rattle.crn_cert.specs.Valid.{table_rows};
 ghost use Rattle.crn_ctree.specs.Problem.{table_of};
@@ -36,7 +36,9 @@ pub(crate) fn check_concordance(
     verdict: &Verdict,
     proof: &Proof,
 ) -> Result<(), CheckFault>
-    requires rows { IsOpen verdict.now ⊎ RowsConcordant net.now verdict.now proof.now }
+    requires formed { (earlier : Earlier)
+        × (IsFormedOf net.now earlier Q14 verdict.now proof.now
+        ⊎ IsFormedOf net.now earlier Q15 verdict.now proof.now) }
     requires treeless { HoldsNoTree proof.now }
     ensures { Judges (table_rows net.now (table_of net.now table) verdict.now proof.now) result }
 {

@@ -1,6 +1,6 @@
 ghost use Rattle.std.specs.Prelude.{◌+◌, ◌-◌, ◌⊎◌, length};
-ghost use Rattle.crn_cert.specs.Formed.{HeadConfluence, RowsConfluence};
-ghost use Rattle.crn_cert.specs.Questions.{IsOpen};
+ghost use Rattle.crn_cert.specs.Formed.{IsFormedOf};
+ghost use Rattle.crn_cert.specs.Questions.{Q12};
 ghost use Rattle.crn_cert.specs.Ranges.{AreFree, AreFreeRows, IsFrom};
 ghost use Rattle.crn_cert.specs.Valid.{confluence_head, confluence_rows, linkage_count};
 ghost use Rattle.crn_check.specs.Check.{Judges};
@@ -143,9 +143,7 @@ pub(crate) fn check_confluence(
     requires linkage { HoldsOn facts.now.earlier 1 }
     requires strong { HoldsOn facts.now.earlier 2 }
     requires weak { HoldsOn facts.now.earlier 4 }
-    requires rows { IsOpen verdict.now
-        ⊎ (HeadConfluence net.now verdict.now
-        × RowsConfluence net.now facts.now.earlier verdict.now proof.now) }
+    requires formed { IsFormedOf net.now facts.now.earlier Q12 verdict.now proof.now }
     ensures { Judges (confluence_rows net.now facts.now.earlier verdict.now proof.now) result }
 {
     match (verdict, proof) {

@@ -2,8 +2,8 @@ ghost use Rattle.std.specs.Prelude.{◌≡◌, ◌↔◌, ◌≤◌, ◌⊎◌, 
 ghost use Rattle.crn_vec.specs.Deficiency.{class_members};
 ghost use Rattle.crn_vec.specs.Network.{IsNetwork};
 ghost use Rattle.crn_vec.specs.declared.limits.TheConstants.{MAX_COMPLEXES};
-ghost use Rattle.crn_cert.specs.Questions.{Q5, on, rank_of, count_of, IsOpen};
-ghost use Rattle.crn_cert.specs.Formed.{HeadDeficiency, RowsDeficiency};
+ghost use Rattle.crn_cert.specs.Questions.{Q5, Q6, on, rank_of, count_of};
+ghost use Rattle.crn_cert.specs.Formed.{IsFormedOf};
 ghost use Rattle.crn_cert.specs.Valid.{linkage, linkage_count, class_places, IsLeft, IsClassNumber, AreClassNumbers, class_rank_tests, deficiency_head, deficiency_rows};
 ghost use Rattle.crn_check.specs.Check.{Judges};
 ghost use Rattle.crn_check.specs.Facts.{AreFactsOf, HoldsOn};
@@ -169,10 +169,7 @@ pub(crate) fn check_deficiency(
     requires network { IsNetwork net.now }
     requires facts { AreFactsOf net.now facts.now }
     requires held { HoldsOn facts.now.earlier 1 }
-    requires rows { let earlier = facts.now.earlier in
-        IsOpen verdict.now
-        ⊎ (HeadDeficiency net.now earlier verdict.now
-        × RowsDeficiency net.now earlier verdict.now proof.now) }
+    requires formed { IsFormedOf net.now facts.now.earlier Q6 verdict.now proof.now }
     ensures { Judges (deficiency_rows net.now facts.now.earlier verdict.now proof.now) result }
 {
     match (verdict, proof) {

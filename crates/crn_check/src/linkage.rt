@@ -1,5 +1,7 @@
 ghost use Rattle.std.specs.Prelude.{◌≡◌, length};
-ghost use Rattle.crn_cert.specs.Formed.{IsForest, RowsLinkage};
+ghost use Rattle.crn_cert.specs.Questions.{Earlier, Q1};
+ghost use Rattle.crn_cert.specs.Formed.{IsFormedOf};
+ghost use Rattle.crn_cert.specs.Parts.{IsForest};
 ghost use Rattle.crn_cert.specs.Valid.{linkage_rows};
 ghost use Rattle.crn_check.specs.Check.{Judges};
 ghost use Rattle.crn_check.specs.Inner.Tests.{link_tests};
@@ -40,7 +42,8 @@ pub(crate) fn check_linkage(
     verdict: &Verdict,
     proof: &Proof,
 ) -> Result<(), CheckFault>
-    requires { RowsLinkage net.now verdict.now proof.now }
+    requires { (earlier : Earlier)
+        × IsFormedOf net.now earlier Q1 verdict.now proof.now }
     ensures { Judges (linkage_rows net.now verdict.now proof.now) result }
 {
     match (verdict, proof) {

@@ -1,7 +1,7 @@
-ghost use Rattle.std.specs.Prelude.{◌≡◌, ◌≢◌, ◌≤◌, ◌⊎◌, ◌↔◌, IsTrue, length, sum};
+ghost use Rattle.std.specs.Prelude.{◌≡◌, ◌≢◌, ◌≤◌, ◌↔◌, IsTrue, length, sum};
 ghost use Rattle.crn_vec.specs.Deficiency.{AreAtMostOne};
-ghost use Rattle.crn_cert.specs.Formed.{HeadOne};
-ghost use Rattle.crn_cert.specs.Questions.{Q6, IsOpen, deficiencies_of, on};
+ghost use Rattle.crn_cert.specs.Formed.{HeadMayBe};
+ghost use Rattle.crn_cert.specs.Questions.{Q6, Q10, deficiencies_of, on};
 ghost use Rattle.crn_cert.specs.Valid.{IsFirstLarge, WithDeficiencies, one_head};
 ghost use Rattle.crn_check.specs.Check.{Judges};
 ghost use Rattle.crn_check.specs.Facts.{AreFactsOf, HoldsOn};
@@ -131,7 +131,7 @@ pub(crate) fn check_one_head(
     requires linkage { HoldsOn facts.now.earlier 1 }
     requires strong { HoldsOn facts.now.earlier 2 }
     requires deficiencies { HoldsOn facts.now.earlier 6 }
-    requires head { IsOpen verdict.now ⊎ HeadOne net.now facts.now.earlier verdict.now }
+    requires head { HeadMayBe net.now facts.now.earlier Q10 verdict.now }
     ensures { Judges (one_head facts.now.earlier verdict.now) result }
 {
     match verdict {

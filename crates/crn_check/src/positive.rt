@@ -3,10 +3,10 @@ ghost use Rattle.crn_vec.specs.Network.{reaction_vector};
 ghost use Rattle.crn_vec.specs.Vectors.{dot};
 ghost use Rattle.crn_vec.specs.Rank.{combination_at};
 ghost use Rattle.crn_vec.specs.Deficiency.{IsPositive, IsPositiveDependence, IsConservationLaw, vectors};
-ghost use Rattle.crn_cert.specs.Questions.{IsOpen};
+ghost use Rattle.crn_cert.specs.Questions.{Earlier, Q7, Q8};
 ghost use Rattle.crn_cert.specs.Ranges.{AreFree};
 ghost use Rattle.crn_cert.specs.Says.{RuleOutDependence, RuleOutConservation};
-ghost use Rattle.crn_cert.specs.Formed.{RowsPositive};
+ghost use Rattle.crn_cert.specs.Formed.{IsFormedOf};
 ghost use Rattle.crn_cert.specs.Valid.{dependence_rows, conservation_rows};
 ghost use Rattle.crn_check.specs.Check.{Judges};
 
@@ -125,8 +125,7 @@ pub(crate) fn check_dependence(
     verdict: &Verdict,
     proof: &Proof,
 ) -> Result<(), CheckFault>
-    requires { let reactions = length net.now.reactions in
-        IsOpen verdict.now ⊎ RowsPositive reactions (length net.now.names) verdict.now proof.now }
+    requires { (earlier : Earlier) × IsFormedOf net.now earlier Q7 verdict.now proof.now }
     ensures { Judges (dependence_rows net.now verdict.now) result }
 {
     let _ = proof;
@@ -147,8 +146,7 @@ pub(crate) fn check_conservation(
     verdict: &Verdict,
     proof: &Proof,
 ) -> Result<(), CheckFault>
-    requires { let reactions = length net.now.reactions in
-        IsOpen verdict.now ⊎ RowsPositive (length net.now.names) reactions verdict.now proof.now }
+    requires { (earlier : Earlier) × IsFormedOf net.now earlier Q8 verdict.now proof.now }
     ensures { Judges (conservation_rows net.now verdict.now) result }
 {
     let _ = proof;

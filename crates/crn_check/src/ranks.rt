@@ -1,7 +1,8 @@
 ghost use Rattle.std.specs.Prelude.{◌<◌, ◌^◌, ◌⊎◌, length};
 ghost use Rattle.crn_vec.specs.Network.{IsNetwork};
-ghost use Rattle.crn_cert.specs.Formed.{IsRankProof, RowsRank};
-ghost use Rattle.crn_cert.specs.Questions.{IsOpen};
+ghost use Rattle.crn_cert.specs.Formed.{IsFormedOf};
+ghost use Rattle.crn_cert.specs.Parts.{IsRankProof};
+ghost use Rattle.crn_cert.specs.Questions.{Earlier, Q5};
 ghost use Rattle.crn_cert.specs.RankTests.{rank_tests};
 ghost use Rattle.crn_cert.specs.Valid.{rank_rows};
 ghost use Rattle.crn_check.specs.Check.{Judges};
@@ -42,7 +43,8 @@ pub(crate) fn check_members(
 // The tests of the records on the rank.
 pub(crate) fn check_rank(net: &Network, verdict: &Verdict, proof: &Proof) -> Result<(), CheckFault>
     requires network { IsNetwork net.now }
-    requires rows { IsOpen verdict.now ⊎ RowsRank net.now verdict.now proof.now }
+    requires formed { (earlier : Earlier)
+        × IsFormedOf net.now earlier Q5 verdict.now proof.now }
     ensures { Judges (rank_rows net.now verdict.now proof.now) result }
 {
     match (verdict, proof) {

@@ -1,6 +1,7 @@
 ghost use Rattle.std.specs.Prelude.{◌≡◌, ◌↔◌, ◌⊎◌, IsTrue, length};
-ghost use Rattle.crn_cert.specs.Formed.{HeadRegular, IsWalkList, RowsRegular};
-ghost use Rattle.crn_cert.specs.Questions.{IsOpen};
+ghost use Rattle.crn_cert.specs.Formed.{HeadMayBe, IsFormedOf};
+ghost use Rattle.crn_cert.specs.Data.{IsWalkOf};
+ghost use Rattle.crn_cert.specs.Questions.{Q11};
 ghost use Rattle.crn_cert.specs.Ranges.{AreFrom, IsFrom};
 ghost use Rattle.crn_cert.specs.Valid.{IsWithinTerminal, ends_at, regular_head, regular_rows};
 ghost use Rattle.crn_check.specs.Check.{Judges};
@@ -46,7 +47,7 @@ fn is_allowed(net: &Network, facts: &Facts, verdict: &Verdict) -> bool
     requires facts { AreFactsOf net.now facts.now }
     requires strong { HoldsOn facts.now.earlier 2 }
     requires dependence { HoldsOn facts.now.earlier 7 }
-    requires head { HeadRegular net.now facts.now.earlier verdict.now }
+    requires head { HeadMayBe net.now facts.now.earlier Q11 verdict.now }
     ensures { IsTrue result ↔ IsAllowed net.now facts.now.earlier verdict.now }
 {
     let dependence = facts.verdict(7);
@@ -66,7 +67,7 @@ fn check_allowed(net: &Network, facts: &Facts, verdict: &Verdict) -> Result<(), 
     requires linkage { HoldsOn facts.now.earlier 1 }
     requires strong { HoldsOn facts.now.earlier 2 }
     requires dependence { HoldsOn facts.now.earlier 7 }
-    requires head { HeadRegular net.now facts.now.earlier verdict.now }
+    requires head { HeadMayBe net.now facts.now.earlier Q11 verdict.now }
     ensures { Judges (allowed_tests net.now facts.now.earlier verdict.now) result }
 {
     if !have_one_each(net, facts) || !is_allowed(net, facts, verdict) {
@@ -85,7 +86,7 @@ pub(crate) fn check_regular_head(
     requires linkage { HoldsOn facts.now.earlier 1 }
     requires strong { HoldsOn facts.now.earlier 2 }
     requires dependence { HoldsOn facts.now.earlier 7 }
-    requires head { IsOpen verdict.now ⊎ HeadRegular net.now facts.now.earlier verdict.now }
+    requires head { HeadMayBe net.now facts.now.earlier Q11 verdict.now }
     ensures { Judges (regular_head net.now facts.now.earlier verdict.now) result }
 {
     match verdict {
@@ -100,7 +101,7 @@ pub(crate) fn check_regular_head(
 // The test of the walk round a linked pair.
 fn check_walk(net: &Network, reaction: u32, walk: &[u32]) -> Result<(), CheckFault>
     requires number { IsFrom 1 (length net.now.reactions) reaction }
-    requires walk { IsWalkList net.now walk.now }
+    requires walk { IsWalkOf (length net.now.complexes) walk.now }
     ensures { Judges (walk_tests net.now reaction walk.now) result }
 {
     if !is_way_round(net, reaction, walk) {
@@ -119,9 +120,7 @@ pub(crate) fn check_regular(
     requires facts { AreFactsOf net.now facts.now }
     requires linkage { HoldsOn facts.now.earlier 1 }
     requires strong { HoldsOn facts.now.earlier 2 }
-    requires rows { IsOpen verdict.now
-        ⊎ (HeadRegular net.now facts.now.earlier verdict.now
-        × RowsRegular net.now facts.now.earlier verdict.now proof.now) }
+    requires formed { IsFormedOf net.now facts.now.earlier Q11 verdict.now proof.now }
     ensures { Judges (regular_rows net.now facts.now.earlier verdict.now proof.now) result }
 {
     let classes = facts.verdict(2);

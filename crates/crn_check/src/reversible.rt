@@ -1,4 +1,5 @@
-ghost use Rattle.crn_cert.specs.Formed.{HeadReversible, RowsReversible};
+ghost use Rattle.crn_cert.specs.Formed.{HeadMayBe, IsFormedOf};
+ghost use Rattle.crn_cert.specs.Questions.{Earlier, Q3};
 ghost use Rattle.crn_cert.specs.Valid.{reversible_head, reversible_rows};
 ghost use Rattle.crn_check.specs.Check.{Judges};
 
@@ -9,7 +10,7 @@ use crn_net::Network;
 
 // The test of a head on reversibility.
 pub(crate) fn check_reversible_head(net: &Network, verdict: &Verdict) -> Result<(), CheckFault>
-    requires { HeadReversible net.now verdict.now }
+    requires { (earlier : Earlier) × HeadMayBe net.now earlier Q3 verdict.now }
     ensures { Judges (reversible_head net.now verdict.now) result }
 {
     if let Verdict::NoReaction { reaction } = verdict {
@@ -26,7 +27,8 @@ pub(crate) fn check_reverses(
     verdict: &Verdict,
     proof: &Proof,
 ) -> Result<(), CheckFault>
-    requires { RowsReversible net.now verdict.now proof.now }
+    requires { (earlier : Earlier)
+        × IsFormedOf net.now earlier Q3 verdict.now proof.now }
     ensures { Judges (reversible_rows net.now verdict.now proof.now) result }
 {
     match (verdict, proof) {

@@ -1,6 +1,6 @@
 ghost use Rattle.std.specs.Prelude.{◌≡◌, ◌↔◌, ◌<◌, ◌+◌, IsTrue, length};
 ghost use Rattle.crn_cert.specs.ClassTests.{AreSideMarks};
-ghost use Rattle.crn_cert.specs.Formed.{AreSides};
+ghost use Rattle.crn_cert.specs.Parts.{AreSides};
 ghost use Rattle.crn_check.specs.Check.{Judges};
 ghost use Rattle.crn_check.specs.Inner.Ordered.{AreEqualBut, AreZeroOutside, ordered_tests};
 ghost use Rattle.crn_pairs.specs.Pairs.{pairs_to};

@@ -1,6 +1,8 @@
 ghost use Rattle.std.specs.Prelude.{◌≡◌, length};
+ghost use Rattle.crn_cert.specs.Questions.{Earlier, Q2};
 ghost use Rattle.crn_cert.specs.Ranges.{AreFrom};
-ghost use Rattle.crn_cert.specs.Formed.{IsForest, RowsStrong};
+ghost use Rattle.crn_cert.specs.Formed.{IsFormedOf};
+ghost use Rattle.crn_cert.specs.Parts.{IsForest};
 ghost use Rattle.crn_cert.specs.Valid.{strong_rows};
 ghost use Rattle.crn_check.specs.Check.{Judges};
 ghost use Rattle.crn_check.specs.Inner.Tests.{strong_trees, exit_tests};
@@ -72,7 +74,8 @@ pub(crate) fn check_strong(
     verdict: &Verdict,
     proof: &Proof,
 ) -> Result<(), CheckFault>
-    requires { RowsStrong net.now verdict.now proof.now }
+    requires { (earlier : Earlier)
+        × IsFormedOf net.now earlier Q2 verdict.now proof.now }
     ensures { Judges (strong_rows net.now verdict.now proof.now) result }
 {
     match (verdict, proof) {

@@ -1,5 +1,5 @@
 ghost use Rattle.std.specs.Prelude.{◌≡◌, ◌↔◌, ◌≤◌, ◌<◌, suc, IsTrue, length, slice_index};
-ghost use Rattle.crn_cert.specs.Formed.{IsForest};
+ghost use Rattle.crn_cert.specs.Parts.{IsForest};
 ghost use Rattle.crn_cert.specs.ClassTests.{IsFirst, HangsByLink, HangsFrom, HangsTo};
 ghost use Rattle.crn_check.specs.Inner.Trees.{HaveNumbers, IsInTree, AreTrees};
 

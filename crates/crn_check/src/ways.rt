@@ -6,7 +6,7 @@ ghost use Rattle.crn_vec.specs.CutPairs.{IsBetween, IsFreeStep};
 ghost use Rattle.crn_cert.specs.Ranges.{IsFrom};
 ghost use Rattle.crn_cert.specs.Says.{from_zero};
 ghost use Rattle.crn_cert.specs.ClassTests.{IsWayRound};
-ghost use Rattle.crn_cert.specs.Formed.{IsWalkList};
+ghost use Rattle.crn_cert.specs.Data.{IsWalkOf};
 
 use crn_net::Network;
 
@@ -58,7 +58,7 @@ fn leads_round(net: &Network, y: usize, z: usize, walk: &[u32]) -> bool
 // these two.
 pub(crate) fn is_way_round(net: &Network, reaction: u32, walk: &[u32]) -> bool
     requires number { IsFrom 1 (length net.now.reactions) reaction }
-    requires walk { IsWalkList net.now walk.now }
+    requires walk { IsWalkOf (length net.now.complexes) walk.now }
     ensures { IsTrue result ↔ IsWayRound net.now reaction walk.now }
 {
     let r = reaction as usize - 1;

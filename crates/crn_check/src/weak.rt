@@ -1,6 +1,6 @@
 ghost use Rattle.std.specs.Prelude.{◌≡◌};
-ghost use Rattle.crn_cert.specs.Formed.{HeadReversible};
-ghost use Rattle.crn_cert.specs.Questions.{labels_of};
+ghost use Rattle.crn_cert.specs.Formed.{HeadMayBe};
+ghost use Rattle.crn_cert.specs.Questions.{Q4, labels_of};
 ghost use Rattle.crn_cert.specs.Valid.{weak_head};
 ghost use Rattle.crn_check.specs.Check.{Judges};
 ghost use Rattle.crn_check.specs.Facts.{AreFactsOf, HoldsOn};
@@ -30,7 +30,7 @@ pub(crate) fn check_weak_head(
 ) -> Result<(), CheckFault>
     requires facts { AreFactsOf net.now facts.now }
     requires held { HoldsOn facts.now.earlier 2 }
-    requires head { HeadReversible net.now verdict.now }
+    requires head { HeadMayBe net.now facts.now.earlier Q4 verdict.now }
     ensures { Judges (weak_head net.now facts.now.earlier verdict.now) result }
 {
     let labels = labels_in(facts.verdict(2));

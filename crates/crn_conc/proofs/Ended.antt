@@ -22,7 +22,8 @@ use Rattle.crn_cert.specs.Tests.{AllHold}
 use Rattle.crn_cert.specs.Trees.{Plan, places, IsFormedTree}
 use Rattle.crn_cert.specs.Nodes.{Fits}
 use Rattle.crn_cert.specs.TreeTests.{tree_tests}
-use Rattle.crn_cert.specs.Formed.{IsFormed, IsBasisOf}
+use Rattle.crn_cert.specs.Data.{IsBasisOf}
+use Rattle.crn_cert.specs.Formed.{IsFormed}
 use Rattle.crn_cert.specs.Valid.{IsValid}
 use Rattle.crn_cert.specs.Answered.{IsAnswer}
 use Rattle.crn_cert.proofs.CallerLemmas.{valid_answers_are_true, tests_decide_valid_trees, wide_basis, count_places, formed_tree}
@@ -68,12 +69,12 @@ yes_answer : {net : Net} {table : List (List Sign)} {q : Question} → Asks net 
     → AllHold (tree_tests (Fits (concordance (reaction_system net) table)) 1 [] tree) → IsAnswer net budget earlier q (end_answer budget (Refuted tree))
 yes_answer {net} plain budget earlier tree n f t =
     let answer : Answer = end_answer budget (Refuted tree) in
-    let formed : IsFormed net earlier Q14 answer = (tt, f) in
+    let formed : IsFormed net earlier Q14 answer = (record { head = tt; rows = tt; trees = (f, tt) }, (refl, refl)) in
     let valid : IsValid net earlier Q14 answer = t in
     record { formed = formed; valid = valid; answered = valid_answers_are_true Q14 net earlier answer n tt tt formed valid }
 yes_answer {net} strong budget earlier tree n f t =
     let answer : Answer = end_answer budget (Refuted tree) in
-    let formed : IsFormed net earlier Q15 answer = (tt, f) in
+    let formed : IsFormed net earlier Q15 answer = (record { head = tt; rows = tt; trees = (f, tt) }, (refl, refl)) in
     let valid : IsValid net earlier Q15 answer = t in
     record { formed = formed; valid = valid; answered = valid_answers_are_true Q15 net earlier answer n tt tt formed valid }
 
@@ -81,22 +82,22 @@ no_answer : {net : Net} {table : List (List Sign)} {q : Question} → Asks net t
     → IsDiscordant (reaction_system net) table a.list b.list → IsAnswer net budget earlier q (end_answer budget (Found p a b))
 no_answer {net} plain budget earlier p a b n f g d =
     let answer : Answer = end_answer budget (Found p a b) in
-    let formed : IsFormed net earlier Q14 answer = (tt, (f, g)) in
+    let formed : IsFormed net earlier Q14 answer = (record { head = tt; rows = (f, (g, tt)); trees = tt }, (refl, refl)) in
     let valid : IsValid net earlier Q14 answer = (d, tt) in
     record { formed = formed; valid = valid; answered = d }
 no_answer {net} strong budget earlier p a b n f g d =
     let answer : Answer = end_answer budget (Found p a b) in
-    let formed : IsFormed net earlier Q15 answer = (tt, (f, g)) in
+    let formed : IsFormed net earlier Q15 answer = (record { head = tt; rows = (f, (g, tt)); trees = tt }, (refl, refl)) in
     let valid : IsValid net earlier Q15 answer = (d, tt) in
     record { formed = formed; valid = valid; answered = d }
 
 spent_answer : {net : Net} {table : List (List Sign)} {q : Question} → Asks net table q → (budget : ℕ) (earlier : Earlier) → 1 ≤ budget → budget ≤ MAX_BUDGET → PassesBudget (concordance (reaction_system net) table) budget → IsAnswer net budget earlier q (end_answer budget Spent)
-spent_answer plain budget earlier low high p = record { formed = ((low, high), refl); valid = tt; answered = (refl, p) }
-spent_answer strong budget earlier low high p = record { formed = ((low, high), refl); valid = tt; answered = (refl, p) }
+spent_answer plain budget earlier low high p = record { formed = (record { head = ((low, high), tt); rows = tt; trees = tt }, (refl, refl)); valid = tt; answered = (refl, p) }
+spent_answer strong budget earlier low high p = record { formed = (record { head = ((low, high), tt); rows = tt; trees = tt }, (refl, refl)); valid = tt; answered = (refl, p) }
 
 open_answer : {net : Net} {table : List (List Sign)} {q : Question} → Asks net table q → (budget : ℕ) (earlier : Earlier) (index : ℕ) (basis : KeptNums) → IsBasisOf (length net.reactions) (length net.names) index basis.list → NamesWide (reaction_system net) index basis.list → IsAnswer net budget earlier q (wide_answer index basis)
-open_answer plain budget earlier index basis b w = record { formed = ((refl, refl, b), refl); valid = tt; answered = ((refl, refl, b), w) }
-open_answer strong budget earlier index basis b w = record { formed = ((refl, refl, b), refl); valid = tt; answered = ((refl, refl, b), w) }
+open_answer plain budget earlier index basis b w = record { formed = (record { head = ((refl, refl, b), tt); rows = tt; trees = tt }, (refl, refl)); valid = tt; answered = (((refl, refl, b), tt), w) }
+open_answer strong budget earlier index basis b w = record { formed = (record { head = ((refl, refl, b), tt); rows = tt; trees = tt }, (refl, refl)); valid = tt; answered = (((refl, refl, b), tt), w) }
 
 -- ---- by the end of the search
 

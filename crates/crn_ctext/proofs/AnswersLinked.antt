@@ -1,35 +1,35 @@
 -- The records of formed answers to the built questions are formed, and their tests are those of the answers.
-use Rattle.std.proofs.Common.{◌≡◌, ◌≤◌, ◌<◌, ◌+◌, ◌-◌, ◌++◌, ◌∙◌, ℕ, zero, suc, Bool, true, false, List, [], ◌∷◌, length, map, refl, sym, ap, ap₂, subst, inl, inr, arith}
-use Rattle.std.specs.Prelude.{ℤ, Option, pos, nat_abs, min, codes, slice_index}
+use Rattle.std.proofs.Common.{◌≡◌, ◌≤◌, ◌<◌, ◌+◌, ◌++◌, ◌∙◌, ℕ, zero, suc, Bool, true, false, List, [], ◌∷◌, length, map, refl, sym, ap, ap₂, subst, inl, inr, arith}
+use Rattle.std.specs.Prelude.{ℤ, Option, pos, nat_abs, slice_index}
 use Rattle.std.specs.Option.{IsSome, IsSomeAnd}
-use Rattle.std.specs.List.{AllZip, flat_map, range_with_len}
-use Rattle.std.proofs.lemmas.Int.{ints}
+use Rattle.std.specs.List.{AllZip, flat_map}
 use Rattle.std.proofs.lemmas.List.{append-nil, append_cancel_left, length-map}
 use Rattle.crn_vec.specs.Network.{Net}
 use Rattle.crn_vec.specs.Kept.{KeptNums}
 use Rattle.crn_vec.proofs.CallerLemmas.{abs_back}
-use Rattle.crn_cert.specs.Trees.{Plan}
 use Rattle.crn_cert.specs.declared.answer.Gap.TheVariants.{Wide, Budget, Rests}
 use Rattle.crn_cert.specs.declared.answer.Verdict.{Verdict}
-use Rattle.crn_cert.specs.declared.answer.Verdict.TheVariants.{Classes, Strong, Rank, Deficiency, Yes, YesWeak, YesVec, NoReaction, NoVec, NoNumber, NoTerminal, NoClass, NoSum, Unknown}
+use Rattle.crn_cert.specs.declared.answer.Verdict.TheVariants.{Deficiency, Unknown}
 use Rattle.crn_cert.specs.declared.answer.RankProof.{RankProof}
 use Rattle.crn_cert.specs.declared.answer.Proof.{Proof}
-use Rattle.crn_cert.specs.declared.answer.Proof.TheVariants.{Nothing, Forest, Strong as StrongTrees, Back, Rank as RankRows, Ranks}
+use Rattle.crn_cert.specs.declared.answer.Proof.TheVariants.{Nothing, Ranks}
 use Rattle.crn_cert.specs.declared.answer.Answer.{Answer}
-use Rattle.crn_cert.specs.Questions.{Earlier, Question, Q1, Q2, Q3, Q4, Q5, Q6, Q7, Q8, Q9, Q10, on, rank_of}
+use Rattle.crn_cert.specs.Questions.{Earlier, Question, Q1, Q2, Q3, Q4, Q5, Q6, Q7, Q8, Q9, Q10, Q11, Q12, on, rank_of}
 use Rattle.crn_cert.specs.Tests.{Test, test}
-use Rattle.crn_cert.specs.ClassTests.{AreNumbered, AreEven, AreLinkTrees, AreFromTrees, AreToTrees, DoLevelsFall, AreAllExits, zeros_in, AreReverses}
-use Rattle.crn_cert.specs.RankTests.{rank_tests}
-use Rattle.crn_cert.specs.Formed.{IsRankProof, AreClassProofs, IsBasisOf, IsFormedOf, AreFormed}
+use Rattle.crn_cert.specs.Data.{IsBasisOf}
+use Rattle.crn_cert.specs.Formed.{IsFormedOf as IsFormedAnswer, AreFormed}
+use Rattle.crn_ctext.proofs.FormedBefore.{IsFormedOf}
+use Rattle.crn_ctext.proofs.AsBefore.{formed_as_before}
+use Rattle.crn_cert.specs.Parts.{AreClassProofs}
 use Rattle.crn_cert.specs.Ranges.{AreFrom}
 use Rattle.crn_cert.specs.Valid.{linkage_count, class_places, class_rank_tests, AreClassNumbers, AreValid}
 use Rattle.crn_ctext.specs.Records.{Record, ClassWide, Takes, AreNarrow, AreOf, AreRising, Fits}
 use Rattle.crn_ctext.specs.Kinds.{small}
-use Rattle.crn_ctext.specs.Questions.{rank_forms, class_forms, classes as classes_of}
+use Rattle.crn_ctext.specs.Questions.{class_forms, classes as classes_of}
 use Rattle.crn_ctext.specs.Blocks.{below}
 use Rattle.crn_ctext.specs.Documents as documents
 use Rattle.crn_ctext.specs.Answers.{rank_records, head_of, records_below, proof_nodes, records, all_records}
-use Rattle.crn_ctext.specs.Meaning.{Known, lengths, reactions_by_class, rank_proof, class_proofs, shapes_of, sizes_of, verdict_of, meaning}
+use Rattle.crn_ctext.specs.Meaning.{Known, lengths, reactions_by_class, class_proofs, shapes_of, sizes_of, verdict_of, meaning}
 use Rattle.crn_cert.specs.Built.{built}
 use Rattle.crn_ctext.specs.Judged.{AreFormedOf}
 use Rattle.crn_ctext.specs.Linked.{records_of}
@@ -37,198 +37,25 @@ use Rattle.crn_ctext.proofs.AnswersApart.{block_apart, first_same}
 use Rattle.crn_cert.specs.Verdicts.{tight, tight_proof, tight_rank}
 use Rattle.crn_ctext.specs.Same.{AreSame}
 use Rattle.crn_ctext.proofs.Shown.{shown, shown_tight}
-use Rattle.crn_ctext.proofs.Joined.{parts, IsLinked, answer, open_as, IsJoinedFor, LinkFor, joined, same_valid}
-use Rattle.crn_ctext.proofs.KnownBefore.{AreKnown, IsRight, IsStrongTrue, IsTrueIfStrong, after, formed_right, right_tight, known_then, valid_is_true, true_if_strong_tight, true_then}
-use Rattle.crn_ctext.proofs.Linking.{several_fit, small_fits, number_fits, class_fits, without_proof}
+use Rattle.crn_ctext.proofs.Joined.{parts, IsLinked, answer, open_as, IsJoinedAt, LinkFor, joined, same_valid, IsLinkedFor, IsLinkedAfter}
+use Rattle.crn_ctext.proofs.KnownBefore.{AreKnown, IsRight, IsStrongTrue, IsTrueIfStrong, after, formed_right, right_tight, known_then, pairs_known, valid_is_true, true_if_strong_tight, true_then}
+use Rattle.crn_ctext.proofs.Linking.{several_fit}
 use Rattle.crn_ctext.proofs.TablesLinked.{plain_joined, strong_joined}
 use Rattle.crn_ctext.proofs.SignalLinked.{signal_joined}
-use Rattle.crn_ctext.proofs.ConfluenceLinked.{regular_linked, confluence_linked}
 use Rattle.crn_ctext.proofs.MeaningShort.{lists_counted}
-use Rattle.crn_ctext.proofs.RanksLinked.{between, free_fits, rank_fits, rank_said, places_from, sizes_from, classes_fit, classes_said, said_again, tests_said, places_at, number_then, wide_fits}
-use Rattle.crn_cert.specs.Faults.{WrongClasses, WrongNumber, WrongVerdict, WrongWalk}
+use Rattle.crn_ctext.proofs.RanksLinked.{between, places_from, sizes_from, classes_fit, classes_said, said_again, tests_said, places_at, number_then}
+use Rattle.crn_ctext.proofs.BlockLaws.{PairsFor}
+use Rattle.crn_ctext.proofs.BlocksShown.{IsPlain}
+use Rattle.crn_ctext.proofs.BlocksLinked.{linked}
+use Rattle.crn_cert.specs.Faults.{WrongNumber, WrongVerdict}
 
--- ---- linkage classes
+-- ---- answers without trees
 
-linkage_tests : Net → ℕ → (label up depth : List ℕ) → List Test
-linkage_tests net count label up depth = test 1 WrongClasses (AreNumbered label count × AreEven net label) ∷ test 3 WrongClasses (AreLinkTrees net label up depth) ∷ []
+linked_for : (q : Question) → IsPlain q → ((known : Known) → PairsFor q known) → IsLinkedFor q
+linked_for q i pairs known v p f = linked known q v p i (pairs known) ((formed_as_before q known.net known.earlier v p).1 f)
 
-linkage_linked : (known : Known) (v : Verdict) (p : Proof) → IsFormedOf known.net known.earlier Q1 v p → IsLinked known Q1 (answer v p)
-unfolding linkage_tests
-linkage_linked known (Classes count label) (Forest up depth) f =
-    let c = length known.net.complexes in
-    let r = length known.net.reactions in
-    let forest = f.1.1 in
-    record {
-      formed = record {
-        head = (_, inl refl, (refl, (pos count ∷ [], [], refl, ((refl, ((omega (arith, ints, f.0.0), omega (arith, ints, f.0.1)), tt)), tt), refl)));
-        rows = (small_fits (codes "label") c 1 count label.list f.1.0, (small_fits (codes "up") c 0 r up.list forest.names_are, (small_fits (codes "depth") c 0 (c - 1) depth.list forest.depth_is, tt)));
-        trees = refl;
-      };
-      heads = refl;
-      rows = ap₂ (λ (x y : List ℕ). linkage_tests known.net count x y (map nat_abs (map pos depth.list))) (abs_back label.list) (abs_back up.list) ∙ ap (λ (z : List ℕ). linkage_tests known.net count label.list up.list z) (abs_back depth.list);
-      says = ap (λ (x : List ℕ). Classes count (record { list = x; spare = 0 })) (abs_back label.list);
-      shows = ap₂ (λ (x y : List ℕ). (Forest (record { list = x; spare = 0 }) (record { list = y; spare = 0 }), [])) (abs_back up.list) (abs_back depth.list);
-    }
-linkage_linked known (Unknown (Wide system class index basis)) p f = absurd f.0
-linkage_linked known (Unknown (Budget nodes)) p f = absurd f.0
-linkage_linked known (Unknown (Rests question)) p f = absurd f.0
-linkage_linked known (Classes count label) p f = absurd f.1
-linkage_linked known v p f = absurd f.0
-
--- ---- strong classes
-
-strong_tests : Net → ℕ → ℕ → (label from from_depth to to_depth level exit : List ℕ) → List Test
-strong_tests net count terminal label from from_depth to to_depth level exit =
-    test 1 WrongClasses (AreNumbered label count) ∷ test 3 WrongClasses (AreFromTrees net label from from_depth) ∷ test 5 WrongClasses (AreToTrees net label to to_depth) ∷ test 6 WrongClasses (DoLevelsFall net label level)
-    ∷ test 7 WrongClasses (AreAllExits net label exit) ∷ test 7 WrongNumber (zeros_in exit ≡ terminal) ∷ []
-
--- the trees of strong classes without spare room
-trees_shown : (from from_depth to to_depth level : List ℕ) → Proof × List Plan
-trees_shown from from_depth to to_depth level = (StrongTrees (kept from) (kept from_depth) (kept to) (kept to_depth) (kept level), [])
-  where
-    kept : List ℕ → KeptNums
-    kept xs = record { list = xs; spare = 0 }
-
-strong_linked : (known : Known) (v : Verdict) (p : Proof) → IsFormedOf known.net known.earlier Q2 v p → IsLinked known Q2 (answer v p)
-unfolding strong_tests trees_shown
-strong_linked known (Strong count terminal label exit) (StrongTrees from from_depth to to_depth level) f =
-    let net = known.net in
-    let c = length net.complexes in
-    let r = length net.reactions in
-    let a = f.1.2 in
-    let b = f.1.3 in
-    let twice : List ℕ → List ℕ = λ xs. map nat_abs (map pos xs) in
-    record {
-      formed = record {
-        head = (_, inl refl, (refl, (pos count ∷ pos terminal ∷ [], [], refl, ((count, terminal, refl, f.0.1.0, f.0.1.1, f.0.0.1), tt), refl)));
-        rows = (
-          small_fits (codes "label") c 1 count label.list f.1.0,
-          (
-            small_fits (codes "from") c 0 r from.list a.names_are,
-            (
-              small_fits (codes "fromdepth") c 0 (c - 1) from_depth.list a.depth_is,
-              (
-                small_fits (codes "to") c 0 r to.list b.names_are,
-                (
-                  small_fits (codes "todepth") c 0 (c - 1) to_depth.list b.depth_is,
-                  (small_fits (codes "level") count 0 c level.list f.1.4, (small_fits (codes "exit") count 0 r exit.list f.1.1, tt)),
-                ),
-              ),
-            ),
-          ),
-        );
-        trees = refl;
-      };
-      heads = refl;
-      rows = ap₂ (λ (x y : List ℕ). strong_tests net count terminal x y (twice from_depth.list) (twice to.list) (twice to_depth.list) (twice level.list) (twice exit.list)) (abs_back label.list) (abs_back from.list)
-          ∙ ap₂ (λ (x y : List ℕ). strong_tests net count terminal label.list from.list x y (twice to_depth.list) (twice level.list) (twice exit.list)) (abs_back from_depth.list) (abs_back to.list)
-          ∙ ap₂ (λ (x y : List ℕ). strong_tests net count terminal label.list from.list from_depth.list to.list x y (twice exit.list)) (abs_back to_depth.list) (abs_back level.list)
-          ∙ ap (λ (x : List ℕ). strong_tests net count terminal label.list from.list from_depth.list to.list to_depth.list level.list x) (abs_back exit.list);
-      says = ap₂ (λ (x y : List ℕ). Strong count terminal (record { list = x; spare = 0 }) (record { list = y; spare = 0 })) (abs_back label.list) (abs_back exit.list);
-      shows = ap₂ (λ (x y : List ℕ). trees_shown x y (twice to.list) (twice to_depth.list) (twice level.list)) (abs_back from.list) (abs_back from_depth.list)
-          ∙ ap₂ (λ (x y : List ℕ). trees_shown from.list from_depth.list x y (twice level.list)) (abs_back to.list) (abs_back to_depth.list)
-          ∙ ap (λ (x : List ℕ). trees_shown from.list from_depth.list to.list to_depth.list x) (abs_back level.list);
-    }
-strong_linked known (Unknown (Wide system class index basis)) p f = absurd f.0
-strong_linked known (Unknown (Budget nodes)) p f = absurd f.0
-strong_linked known (Unknown (Rests question)) p f = absurd f.0
-strong_linked known (Strong count terminal label exit) p f = absurd f.1
-strong_linked known v p f = absurd f.0
-
--- ---- reversible
-
-reverse_tests : Net → List ℕ → List Test
-reverse_tests net back = test 1 WrongWalk (AreReverses net back) ∷ []
-
-reversible_linked : (known : Known) (v : Verdict) (p : Proof) → IsFormedOf known.net known.earlier Q3 v p → IsLinked known Q3 (answer v p)
-unfolding reverse_tests
-reversible_linked known Yes (Back back) f =
-    let r = length known.net.reactions in
-    record {
-      formed = record { head = (_, inl refl, (refl, refl)); rows = (small_fits (codes "back") r 1 r back.list f.1, tt); trees = refl };
-      heads = refl;
-      rows = ap (λ (x : List ℕ). reverse_tests known.net x) (abs_back back.list);
-      says = refl;
-      shows = ap (λ (x : List ℕ). (Back (record { list = x; spare = 0 }), [])) (abs_back back.list);
-    }
-reversible_linked known (NoReaction n) Nothing f =
-    record {
-      formed = record { head = (_, inr (inl refl), (refl, number_fits (length known.net.reactions) n f.0.0 f.0.1)); rows = tt; trees = refl };
-      heads = refl;
-      rows = refl;
-      says = refl;
-      shows = refl;
-    }
-reversible_linked known (Unknown (Wide system class index basis)) p f = absurd f.0
-reversible_linked known (Unknown (Budget nodes)) p f = absurd f.0
-reversible_linked known (Unknown (Rests question)) p f = absurd f.0
-reversible_linked known Yes p f = absurd f.1
-reversible_linked known (NoReaction n) p f = absurd f.1
-reversible_linked known v p f = absurd f.0
-
--- ---- weakly reversible
-
-weak_linked : (known : Known) (v : Verdict) (p : Proof) → IsFormedOf known.net known.earlier Q4 v p → IsLinked known Q4 (answer v p)
-weak_linked known Yes Nothing f =
-    record {
-      formed = record { head = (_, inl refl, (refl, refl)); rows = tt; trees = refl };
-      heads = refl;
-      rows = refl;
-      says = refl;
-      shows = refl;
-    }
-weak_linked known (NoReaction n) Nothing f =
-    record {
-      formed = record { head = (_, inr (inl refl), (refl, number_fits (length known.net.reactions) n f.0.0 f.0.1)); rows = tt; trees = refl };
-      heads = refl;
-      rows = refl;
-      says = refl;
-      shows = refl;
-    }
-weak_linked known (Unknown (Wide system class index basis)) p f = absurd f.0
-weak_linked known (Unknown (Budget nodes)) p f = absurd f.0
-weak_linked known (Unknown (Rests question)) p f = absurd f.0
-weak_linked known Yes p f = absurd f.1
-weak_linked known (NoReaction n) p f = absurd f.1
-weak_linked known v p f = absurd f.0
-
--- ---- rank
-
-rank_open : (known : Known) (index : ℕ) (basis : KeptNums) → IsBasisOf (length known.net.names) (length known.net.reactions) index basis.list → IsLinked known Q5 (answer (Unknown (Wide 1 0 index basis)) Nothing)
-rank_open known index basis b =
-    record {
-      formed = record { head = (_, inr (inl refl), (refl, wide_fits 1 (length known.net.names) (length known.net.reactions) index basis.list b)); rows = tt; trees = refl };
-      heads = refl;
-      rows = refl;
-      says = ap (λ (x : List ℕ). Unknown (Wide 1 0 index (record { list = x; spare = 0 }))) (abs_back basis.list);
-      shows = refl;
-    }
-
-rank_linked : (known : Known) (v : Verdict) (p : Proof) → IsFormedOf known.net known.earlier Q5 v p → IsLinked known Q5 (answer v p)
-rank_linked known (Rank rank base) (RankRows p) f =
-    let net = known.net in
-    let members = range_with_len 1 (length net.reactions) in
-    let proved : IsRankProof net members rank p = f.1.1 in
-    let d = proved.duals in
-    let duals = d.long in
-    let bare : rank_records p ++ [] ≡ rank_records p = append-nil (rank_records p) in
-    let same : rank_proof rank (rank_records p ++ []) ≡ tight_rank p = ap (λ (rs : List Record). rank_proof rank rs) bare ∙ rank_said rank p duals in
-    record {
-      formed = record {
-        head = (_, inl refl, (refl, number_fits (min (length net.names) (length net.reactions)) rank f.0.0 f.0.1));
-        rows = subst (λ (rs : List Record). AllZip Fits (rank_forms (sizes_of known) rank members) rs) (sym bare) (rank_fits known members rank p proved);
-        trees = refl;
-      };
-      heads = refl;
-      rows = ap (λ (r : RankProof). rank_tests net members 1 r.base.list r.duals r.combs) same;
-      says = ap (λ (x : List ℕ). Rank rank (record { list = x; spare = 0 })) (abs_back p.base.list ∙ sym f.1.0);
-      shows = ap (λ (r : RankProof). shown (RankRows r)) same;
-    }
-rank_linked known (Unknown (Wide system class index basis)) p f = open_as known Q5 system class index basis p 1 0 f.0.0 f.0.1 f.1 (rank_open known index basis f.0.2)
-rank_linked known (Unknown (Budget nodes)) p f = absurd f.0
-rank_linked known (Unknown (Rests question)) p f = absurd f.0
-rank_linked known (Rank rank base) p f = absurd f.1
-rank_linked known v p f = absurd f.0
+regular_linked : IsLinkedAfter true Q11
+regular_linked known v p k f = linked known Q11 v p tt (pairs_known known k) ((formed_as_before Q11 known.net known.earlier v p).1 f)
 
 -- ---- deficiency
 
@@ -337,150 +164,6 @@ deficiency_linked known (Unknown (Rests question)) p f =
 deficiency_linked known (Deficiency total classes) p f = absurd f.1
 deficiency_linked known v p f = absurd f.0
 
--- ---- positive vectors
-
-dependence_open : (known : Known) (index : ℕ) (basis : KeptNums) → IsBasisOf (length known.net.reactions) (length known.net.names) index basis.list → IsLinked known Q7 (answer (Unknown (Wide 2 0 index basis)) Nothing)
-dependence_open known index basis b =
-    record {
-      formed = record { head = (_, inr (inr (inl refl)), (refl, wide_fits 2 (length known.net.reactions) (length known.net.names) index basis.list b)); rows = tt; trees = refl };
-      heads = refl;
-      rows = refl;
-      says = ap (λ (x : List ℕ). Unknown (Wide 2 0 index (record { list = x; spare = 0 }))) (abs_back basis.list);
-      shows = refl;
-    }
-
-dependence_linked : (known : Known) (v : Verdict) (p : Proof) → IsFormedOf known.net known.earlier Q7 v p → IsLinked known Q7 (answer v p)
-dependence_linked known (YesVec vector) Nothing f =
-    record { formed = record { head = (_, inl refl, (refl, refl)); rows = (free_fits (codes "vec") (length known.net.reactions) vector.list f.1, tt); trees = refl }; heads = refl; rows = refl; says = refl; shows = refl }
-dependence_linked known (NoVec multipliers) Nothing f =
-    record { formed = record { head = (_, inr (inl refl), (refl, refl)); rows = (free_fits (codes "cut") (length known.net.names) multipliers.list f.1, tt); trees = refl }; heads = refl; rows = refl; says = refl; shows = refl }
-dependence_linked known (Unknown (Wide system class index basis)) p f = open_as known Q7 system class index basis p 2 0 f.0.0 f.0.1 f.1 (dependence_open known index basis f.0.2)
-dependence_linked known (Unknown (Budget nodes)) p f = absurd f.0
-dependence_linked known (Unknown (Rests question)) p f = absurd f.0
-dependence_linked known (YesVec vector) p f = absurd f.1
-dependence_linked known (NoVec multipliers) p f = absurd f.1
-dependence_linked known v p f = absurd f.0
-
-conservation_open : (known : Known) (index : ℕ) (basis : KeptNums) → IsBasisOf (length known.net.names) (length known.net.reactions) index basis.list → IsLinked known Q8 (answer (Unknown (Wide 1 0 index basis)) Nothing)
-conservation_open known index basis b =
-    record {
-      formed = record { head = (_, inr (inr (inl refl)), (refl, wide_fits 1 (length known.net.names) (length known.net.reactions) index basis.list b)); rows = tt; trees = refl };
-      heads = refl;
-      rows = refl;
-      says = ap (λ (x : List ℕ). Unknown (Wide 1 0 index (record { list = x; spare = 0 }))) (abs_back basis.list);
-      shows = refl;
-    }
-
-conservation_linked : (known : Known) (v : Verdict) (p : Proof) → IsFormedOf known.net known.earlier Q8 v p → IsLinked known Q8 (answer v p)
-conservation_linked known (YesVec vector) Nothing f =
-    record { formed = record { head = (_, inl refl, (refl, refl)); rows = (free_fits (codes "vec") (length known.net.names) vector.list f.1, tt); trees = refl }; heads = refl; rows = refl; says = refl; shows = refl }
-conservation_linked known (NoVec multipliers) Nothing f =
-    record { formed = record { head = (_, inr (inl refl), (refl, refl)); rows = (free_fits (codes "cut") (length known.net.reactions) multipliers.list f.1, tt); trees = refl }; heads = refl; rows = refl; says = refl; shows = refl }
-conservation_linked known (Unknown (Wide system class index basis)) p f = open_as known Q8 system class index basis p 1 0 f.0.0 f.0.1 f.1 (conservation_open known index basis f.0.2)
-conservation_linked known (Unknown (Budget nodes)) p f = absurd f.0
-conservation_linked known (Unknown (Rests question)) p f = absurd f.0
-conservation_linked known (YesVec vector) p f = absurd f.1
-conservation_linked known (NoVec multipliers) p f = absurd f.1
-conservation_linked known v p f = absurd f.0
-
--- ---- the two deficiency theorems
-
-zero_rests : (known : Known) → IsLinked known Q9 (answer (Unknown (Rests 5)) Nothing)
-zero_rests known =
-    record {
-      formed = record { head = (_, inr (inr (inl refl)), (refl, number_then 5 5 5 [] [] (omega arith) (omega arith) refl)); rows = tt; trees = refl };
-      heads = refl;
-      rows = refl;
-      says = refl;
-      shows = refl;
-    }
-
-zero_linked : (known : Known) (v : Verdict) (p : Proof) → IsFormedOf known.net known.earlier Q9 v p → IsLinked known Q9 (answer v p)
-zero_linked known (YesWeak true) Nothing f =
-    record {
-      formed = record { head = (_, inl refl, (refl, number_then 0 1 1 [] [] (omega arith) (omega arith) refl)); rows = tt; trees = refl };
-      heads = refl;
-      rows = refl;
-      says = refl;
-      shows = refl;
-    }
-zero_linked known (YesWeak false) Nothing f =
-    record {
-      formed = record { head = (_, inl refl, (refl, number_then 0 1 0 [] [] (omega arith) (omega arith) refl)); rows = tt; trees = refl };
-      heads = refl;
-      rows = refl;
-      says = refl;
-      shows = refl;
-    }
-zero_linked known (NoNumber d) Nothing f =
-    record {
-      formed = record { head = (_, inr (inl refl), (refl, number_fits (length known.net.complexes) d f.0.0 f.0.1)); rows = tt; trees = refl };
-      heads = refl;
-      rows = refl;
-      says = refl;
-      shows = refl;
-    }
-zero_linked known (Unknown (Wide system class index basis)) p f = absurd f.0
-zero_linked known (Unknown (Budget nodes)) p f = absurd f.0
-zero_linked known (Unknown (Rests question)) p f =
-    subst (λ (x : ℕ). IsLinked known Q9 (answer (Unknown (Rests x)) p)) f.0 (without_proof known Q9 (Unknown (Rests 5)) p f.1 (zero_rests known))
-zero_linked known (YesWeak weak) p f = absurd f.1
-zero_linked known (NoNumber d) p f = absurd f.1
-zero_linked known v p f = absurd f.0
-
-one_rests : (known : Known) → IsLinked known Q10 (answer (Unknown (Rests 6)) Nothing)
-one_rests known =
-    record {
-      formed = record { head = (_, inr (inr (inr (inr (inl refl)))), (refl, number_then 6 6 6 [] [] (omega arith) (omega arith) refl)); rows = tt; trees = refl };
-      heads = refl;
-      rows = refl;
-      says = refl;
-      shows = refl;
-    }
-
-one_linked : (known : Known) (v : Verdict) (p : Proof) → IsFormedOf known.net known.earlier Q10 v p → IsLinked known Q10 (answer v p)
-one_linked known Yes Nothing f =
-    record {
-      formed = record { head = (_, inl refl, (refl, refl)); rows = tt; trees = refl };
-      heads = refl;
-      rows = refl;
-      says = refl;
-      shows = refl;
-    }
-one_linked known (NoTerminal k count) Nothing f =
-    record {
-      formed = record { head = (_, inr (inl refl), (refl, class_fits known k count f.0.0 f.0.1)); rows = tt; trees = refl };
-      heads = refl;
-      rows = refl;
-      says = refl;
-      shows = refl;
-    }
-one_linked known (NoClass k d) Nothing f =
-    record {
-      formed = record { head = (_, inr (inr (inl refl)), (refl, class_fits known k d f.0.0 f.0.1)); rows = tt; trees = refl };
-      heads = refl;
-      rows = refl;
-      says = refl;
-      shows = refl;
-    }
-one_linked known (NoSum x) Nothing f =
-    record {
-      formed = record { head = (_, inr (inr (inr (inl refl))), (refl, number_then 0 (length known.net.complexes) x [] [] (omega arith) f.0.1 refl)); rows = tt; trees = refl };
-      heads = refl;
-      rows = refl;
-      says = refl;
-      shows = refl;
-    }
-one_linked known (Unknown (Wide system class index basis)) p f = absurd f.0
-one_linked known (Unknown (Budget nodes)) p f = absurd f.0
-one_linked known (Unknown (Rests question)) p f =
-    subst (λ (x : ℕ). IsLinked known Q10 (answer (Unknown (Rests x)) p)) f.0 (without_proof known Q10 (Unknown (Rests 6)) p f.1 (one_rests known))
-one_linked known Yes p f = absurd f.1
-one_linked known (NoTerminal k count) p f = absurd f.1
-one_linked known (NoClass k d) p f = absurd f.1
-one_linked known (NoSum x) p f = absurd f.1
-one_linked known v p f = absurd f.0
-
 -- ---- all answers
 
 -- what is known after an answer
@@ -492,31 +175,30 @@ AreLinkedFor b [] = Unit {1}
 AreLinkedFor b (q ∷ qs) = LinkFor b q × AreLinkedFor (after b q) qs
 
 pub built_linked : AreLinkedFor false built
-built_linked =
-    (linkage_linked, (strong_linked, (reversible_linked, (weak_linked, (rank_linked, (deficiency_linked, (dependence_linked, (conservation_linked, (zero_linked, (one_linked, (regular_linked, (confluence_linked, (signal_joined, (plain_joined true, (strong_joined true, tt)))))))))))))))
+built_linked = (linked_for Q1 tt (λ known. tt), (linked_for Q2 tt (λ known. tt), (linked_for Q3 tt (λ known. tt), (linked_for Q4 tt (λ known. tt), (linked_for Q5 tt (λ known. tt), (deficiency_linked, (linked_for Q7 tt (λ known. tt), (linked_for Q8 tt (λ known. tt), (linked_for Q9 tt (λ known. tt), (linked_for Q10 tt (λ known. tt), (regular_linked, (linked_for Q12 tt (λ known. tt), (signal_joined, (plain_joined true, (strong_joined true, tt)))))))))))))))
 
 -- then its verdict is known, without the spares of its lists
-pub earlier_next : (b : Bool) (q : Question) (known : Known) (a : Answer) → AreKnown b known.earlier → IsJoinedFor b q → IsFormedOf known.net known.earlier q a.verdict a.proof → (known_after q known a).earlier ≡ known.earlier ++ (q, tight a.verdict) ∷ []
+pub earlier_next : (b : Bool) (q : Question) (known : Known) (a : Answer) → AreKnown b known.earlier → IsJoinedAt b q → IsFormedAnswer known.net known.earlier q a.verdict a.proof → (known_after q known a).earlier ≡ known.earlier ++ (q, tight a.verdict) ∷ []
 earlier_next b q known a n j f = let s = j.says in ap (λ (v : Verdict). known.earlier ++ (q, v) ∷ []) (s known a.verdict a.proof n f)
 
 -- and the strong classes are known after question 2
-pub known_next : (b : Bool) (q : Question) (known : Known) (a : Answer) → AreKnown b known.earlier → IsJoinedFor b q → IsFormedOf known.net known.earlier q a.verdict a.proof → AreKnown (after b q) (known_after q known a).earlier
+pub known_next : (b : Bool) (q : Question) (known : Known) (a : Answer) → AreKnown b known.earlier → IsJoinedAt b q → IsFormedAnswer known.net known.earlier q a.verdict a.proof → AreKnown (after b q) (known_after q known a).earlier
 known_next b q known a n j f =
     let right : IsRight q (tight a.verdict) = right_tight q a.verdict (formed_right known.net known.earlier q a.verdict a.proof f) in
     subst (λ (es : Earlier). AreKnown (after b q) es) (sym (earlier_next b q known a n j f)) (known_then b q known.earlier (tight a.verdict) n right)
 
 -- later answers are formed after what is known then
-pub formed_next : (b : Bool) (q : Question) (qs : List Question) (known : Known) (a : Answer) (answers : List Answer) → AreKnown b known.earlier → IsJoinedFor b q → IsFormedOf known.net known.earlier q a.verdict a.proof
+pub formed_next : (b : Bool) (q : Question) (qs : List Question) (known : Known) (a : Answer) (answers : List Answer) → AreKnown b known.earlier → IsJoinedAt b q → IsFormedAnswer known.net known.earlier q a.verdict a.proof
     → AreFormed known.net (known.earlier ++ (q, tight a.verdict) ∷ []) qs answers → AreFormed known.net (known_after q known a).earlier qs answers
 formed_next b q qs known a answers n j f more = subst (λ (es : Earlier). AreFormed known.net es qs answers) (sym (earlier_next b q known a n j f)) more
 
 -- after an answer to question 1
-pub linkage_next : (known : Known) (a : Answer) → IsFormedOf known.net known.earlier Q1 a.verdict a.proof → (known_after Q1 known a).earlier ≡ known.earlier ++ (Q1, tight a.verdict) ∷ []
-linkage_next known a f = let l = linkage_linked known a.verdict a.proof f in ap (λ (v : Verdict). known.earlier ++ (Q1, v) ∷ []) l.says
+pub linkage_next : (known : Known) (a : Answer) → IsFormedAnswer known.net known.earlier Q1 a.verdict a.proof → (known_after Q1 known a).earlier ≡ known.earlier ++ (Q1, tight a.verdict) ∷ []
+linkage_next known a f = let l = linked known Q1 a.verdict a.proof tt tt f in ap (λ (v : Verdict). known.earlier ++ (Q1, v) ∷ []) l.says
 
 -- and to question 2
-pub strong_next : (known : Known) (a : Answer) → IsFormedOf known.net known.earlier Q2 a.verdict a.proof → (known_after Q2 known a).earlier ≡ known.earlier ++ (Q2, tight a.verdict) ∷ []
-strong_next known a f = let l = strong_linked known a.verdict a.proof f in ap (λ (v : Verdict). known.earlier ++ (Q2, v) ∷ []) l.says
+pub strong_next : (known : Known) (a : Answer) → IsFormedAnswer known.net known.earlier Q2 a.verdict a.proof → (known_after Q2 known a).earlier ≡ known.earlier ++ (Q2, tight a.verdict) ∷ []
+strong_next known a f = let l = linked known Q2 a.verdict a.proof tt tt f in ap (λ (v : Verdict). known.earlier ++ (Q2, v) ∷ []) l.says
 
 formed_by : (b : Bool) (qs : List Question) → AreLinkedFor b qs → (known : Known) (answers : List Answer) → AreKnown b known.earlier → AreFormed known.net known.earlier qs answers → documents.AreFormed meaning qs known (all_records meaning qs known answers)
 unfolding documents.AreFormed all_records

@@ -32,10 +32,13 @@ pub use Rattle.crn_ctext.proofs.FewNodes.{document_short, document2_short}
 -- The trees of two sign problems whose leaves have tests that hold together give the same and fail first in the same place, and so do steps by their courses.
 pub use Rattle.crn_ctext.proofs.TreesAlike.{IsLike, HoldTogether, like_itself, like_then, trees_like, step_gives_like, step_fails_like}
 -- What records of given forms are, and what a course gives in two parts.
-pub use Rattle.crn_ctext.proofs.PartsAnswered.{zip_none}
+pub use Rattle.crn_ctext.proofs.FieldsTyped.{zip_none}
 pub use Rattle.crn_ctext.proofs.AnswersApart.{zip_long}
-pub use Rattle.crn_ctext.proofs.ConfluenceAnswered.{between_bits}
-pub use Rattle.crn_ctext.proofs.SignalsAnswered.{between_shelves}
+pub use Rattle.crn_ctext.proofs.FieldsTyped.{between_bits}
+pub use Rattle.crn_ctext.proofs.FieldsTyped.{between_shelves}
 pub use Rattle.crn_ctext.proofs.SignalLinked.{vector_then, spent_place, rests_place}
 pub use Rattle.crn_ctext.proofs.RanksLinked.{record_is}
 pub use Rattle.crn_ctext.proofs.TreesAlike.{gives_parts}
+-- The head of a verdict, and its lists with those of its proof, are those of its block.
+pub use Rattle.crn_ctext.proofs.FormedBefore.{HeadMayBe, IsFormedOf, IsSignalGap}
+pub use Rattle.crn_ctext.proofs.AsBefore.{formed_as_before, head_is_before}

@@ -11,7 +11,8 @@ use Rattle.crn_cert.specs.declared.answer.Proof.TheVariants as proof
 use Rattle.crn_cert.specs.declared.answer.Answer.{Answer}
 use Rattle.crn_cert.specs.Questions.{Earlier, Question, Q1, Q2, Q3, Q4, Q5, Q6, Q7, Q8, Q9, Q10, Q11, Q12, Q13, Q14, Q15}
 use Rattle.crn_cert.specs.Built.{built}
-use Rattle.crn_cert.specs.Formed.{RowsMayBe, AreFormed}
+use Rattle.crn_cert.specs.Formed.{IsFormedOf, AreFormed}
+use Rattle.crn_ctext.proofs.AsBefore.{formed_as_before}
 use Rattle.crn_cert.specs.Trees.{Plan, Both, Three, RulesA, RulesB, Level, node_count}
 use Rattle.crn_cert.specs.TreeSizes.{HasFewNodes, HaveFewNodes}
 use Rattle.crn_cert.proofs.CallerLemmas.{IsTreeless}
@@ -69,7 +70,7 @@ signals_few net earlier p (inr (inr t)) h =
 
 -- an answer to the question has no more nodes than its bound, if each of its trees has no more than a budget
 record IsFewFor (q : Question) : Type 0 where
-  few : (net : Net) (earlier : Earlier) (v : Verdict) (p : Proof) → RowsMayBe net earlier q v p → HasFewNodes MAX_BUDGET p → length (proof_nodes p) ≤ node_limit q
+  few : (net : Net) (earlier : Earlier) (v : Verdict) (p : Proof) → IsFormedOf net earlier q v p → HasFewNodes MAX_BUDGET p → length (proof_nodes p) ≤ node_limit q
 
 short_few : (q : Question) → IsShortQuestion q → IsFewFor q
 short_few q s = record {
@@ -90,7 +91,7 @@ few_for Q10 s = short_few Q10 s
 few_for Q11 s = short_few Q11 s
 few_for Q12 s = short_few Q12 s
 few_for Q13 s = record {
-  few = λ net earlier v p h few. signals_few net earlier p (signal_trees net earlier v p h) few;
+  few = λ net earlier v p h few. signals_few net earlier p (signal_trees net earlier v p ((formed_as_before Q13 net earlier v p).0 h).1) few;
 }
 few_for Q14 s = record {
   few = λ net earlier v p h few. one_few MAX_BUDGET net p (tree_or_none net v p (concordant_rows net earlier v p h)) few;
@@ -114,7 +115,7 @@ few_by b (q ∷ qs) links shorts known (a ∷ answers) n f few =
     let nodes = bound.few in (
       parts q known a,
       formed known a.verdict a.proof n f.0,
-      nodes known.net known.earlier a.verdict a.proof f.0.1 few.0,
+      nodes known.net known.earlier a.verdict a.proof f.0 few.0,
       few_by (after b q) qs links.1 shorts.1 (known_after q known a) answers (known_next b q known a n j f.0) (formed_next b q qs known a answers n j f.0 f.1) few.1,
     )
 

@@ -10,7 +10,9 @@ use Rattle.crn_vec.specs.Deficiency.{class_members}
 use Rattle.crn_cert.specs.Questions.{Earlier, Q1, Q2, Q3, Q5, Q6, Q7, Q8}
 use Rattle.crn_cert.specs.Ranges.{IsNarrow, AreFrom, AreFree, AreFreeRows}
 use Rattle.crn_cert.specs.Valid.{linkage, linkage_count, class_places}
-use Rattle.crn_cert.specs.Formed.{IsFormed, IsForest, IsRankProof, AreClassProofs}
+use Rattle.crn_cert.specs.Formed.{IsFormed}
+use Rattle.crn_ctext.proofs.AsBefore.{formed_as_before}
+use Rattle.crn_cert.specs.Parts.{IsForest, IsRankProof, AreClassProofs}
 use Rattle.crn_cert.specs.declared.answer.RankProof.{RankProof}
 use Rattle.crn_cert.specs.declared.answer.Verdict.TheVariants.{Classes, Strong, Rank, Deficiency, Yes, YesVec}
 use Rattle.crn_cert.specs.declared.answer.Proof.TheVariants as proof
@@ -30,7 +32,7 @@ forest net r d names depth e f two some few = record {
 
 pub one_class_formed : (net : Net) (earlier : Earlier) (label up depth : KeptNums) → label.list ≡ 1 ∷ 1 ∷ [] → up.list ≡ 0 ∷ 1 ∷ [] → depth.list ≡ 0 ∷ 1 ∷ [] → length net.complexes ≡ 2 → 1 ≤ length net.reactions
     → IsFormed net earlier Q1 (record { verdict = Classes 1 label; proof = proof.Forest up depth })
-one_class_formed net earlier label up depth l u d two some = (
+one_class_formed net earlier label up depth l u d two some = (formed_as_before Q1 net earlier (Classes 1 label) (proof.Forest up depth)).1 (
   (omega arith, omega (arith, two)),
   (two_from (length net.complexes) 1 1 1 1 label.list l two (omega arith) (omega arith) (omega arith) (omega arith), forest net 1 1 up.list depth.list u d two some (omega arith)),
 )
@@ -38,7 +40,7 @@ one_class_formed net earlier label up depth l u d two some = (
 pub one_strong_formed : (net : Net) (earlier : Earlier) (label exit from from_depth to to_depth level : KeptNums) → label.list ≡ 1 ∷ 1 ∷ [] → exit.list ≡ 0 ∷ [] → from.list ≡ 0 ∷ 1 ∷ [] → from_depth.list ≡ 0 ∷ 1 ∷ []
     → to.list ≡ 0 ∷ 2 ∷ [] → to_depth.list ≡ 0 ∷ 1 ∷ [] → level.list ≡ 0 ∷ [] → length net.complexes ≡ 2 → length net.reactions ≡ 2
     → IsFormed net earlier Q2 (record { verdict = Strong 1 1 label exit; proof = proof.Strong from from_depth to to_depth level })
-one_strong_formed net earlier label exit from from_depth to to_depth level l e f g t u v two both = (
+one_strong_formed net earlier label exit from from_depth to to_depth level l e f g t u v two both = (formed_as_before Q2 net earlier (Strong 1 1 label exit) (proof.Strong from from_depth to to_depth level)).1 (
   ((omega arith, omega (arith, two)), (omega arith, omega arith)),
   (
     two_from (length net.complexes) 1 1 1 1 label.list l two (omega arith) (omega arith) (omega arith) (omega arith),
@@ -52,7 +54,7 @@ one_strong_formed net earlier label exit from from_depth to to_depth level l e f
 pub two_strong_formed : (net : Net) (earlier : Earlier) (label exit from from_depth to to_depth level : KeptNums) → label.list ≡ 1 ∷ 2 ∷ [] → exit.list ≡ 1 ∷ 0 ∷ [] → from.list ≡ 0 ∷ 0 ∷ [] → from_depth.list ≡ 0 ∷ 0 ∷ []
     → to.list ≡ 0 ∷ 0 ∷ [] → to_depth.list ≡ 0 ∷ 0 ∷ [] → level.list ≡ 1 ∷ 0 ∷ [] → length net.complexes ≡ 2 → length net.reactions ≡ 1
     → IsFormed net earlier Q2 (record { verdict = Strong 2 1 label exit; proof = proof.Strong from from_depth to to_depth level })
-two_strong_formed net earlier label exit from from_depth to to_depth level l e f g t u v two one = (
+two_strong_formed net earlier label exit from from_depth to to_depth level l e f g t u v two one = (formed_as_before Q2 net earlier (Strong 2 1 label exit) (proof.Strong from from_depth to to_depth level)).1 (
   ((omega arith, omega (arith, two)), (omega arith, omega arith)),
   (
     two_from (length net.complexes) 1 2 1 2 label.list l two (omega arith) (omega arith) (omega arith) (omega arith),
@@ -64,7 +66,7 @@ two_strong_formed net earlier label exit from from_depth to to_depth level l e f
 )
 
 pub two_reverses_formed : (net : Net) (earlier : Earlier) (back : KeptNums) → back.list ≡ 2 ∷ 1 ∷ [] → length net.reactions ≡ 2 → IsFormed net earlier Q3 (record { verdict = Yes; proof = proof.Back back })
-two_reverses_formed net earlier back b two = (tt, two_from (length net.reactions) 1 (length net.reactions) 2 1 back.list b two (omega arith) (omega (arith, two)) (omega arith) (omega (arith, two)))
+two_reverses_formed net earlier back b two = (formed_as_before Q3 net earlier Yes (proof.Back back)).1 (tt, two_from (length net.reactions) 1 (length net.reactions) 2 1 back.list b two (omega arith) (omega (arith, two)) (omega arith) (omega (arith, two)))
 
 -- ---- ranks and deficiencies
 
@@ -94,7 +96,7 @@ one_rank_proof net members p m b d c two = record {
 pub one_rank_formed : (net : Net) (earlier : Earlier) (base : KeptNums) (p : RankProof) → base.list ≡ 1 ∷ [] → p.base.list ≡ 1 ∷ [] → p.duals ≡ (negsuc 0 ∷ pos 1 ∷ []) ∷ [] → p.combs ≡ (pos 1 ∷ negsuc 0 ∷ []) ∷ []
     → length net.names ≡ 2 → length net.reactions ≡ 2 → IsFormed net earlier Q5 (record { verdict = Rank 1 base; proof = proof.Rank p })
 one_rank_formed net earlier base p a b d c two both =
-    ((omega arith, le-min (omega (arith, two)) (omega (arith, both))), (a ∙ sym b, one_rank_proof net (range_with_len 1 (length net.reactions)) p (ap (λ (n : ℕ). range_with_len 1 n) both) b d c two))
+    (formed_as_before Q5 net earlier (Rank 1 base) (proof.Rank p)).1 ((omega arith, le-min (omega (arith, two)) (omega (arith, both))), (a ∙ sym b, one_rank_proof net (range_with_len 1 (length net.reactions)) p (ap (λ (n : ℕ). range_with_len 1 n) both) b d c two))
 
 -- the class of both complexes has both reactions
 first_label : (y : ℕ) → y < 2 → slice_index (1 ∷ 1 ∷ []) y ≡ 1
@@ -121,7 +123,7 @@ pub one_deficiency_formed : (net : Net) (earlier : Earlier) (classes : KeptNums)
 one_deficiency_formed net earlier classes list p k e b d c n names two both one l =
     let members = class_places net earlier 1 in
     let rank : length (class_members (linkage earlier) 1) - 1 - 0 ≡ 1 = ap (λ (labels : List ℕ). length (class_members labels 1) - 1 - 0) l in
-    let proved : IsRankProof net members (length (class_members (linkage earlier) 1) - 1 - 0) p = subst (λ (r : ℕ). IsRankProof net members r p) (sym rank) (one_rank_proof net members p (class_of_both net earlier n two both l) b d c names) in (
+    let proved : IsRankProof net members (length (class_members (linkage earlier) 1) - 1 - 0) p = subst (λ (r : ℕ). IsRankProof net members r p) (sym rank) (one_rank_proof net members p (class_of_both net earlier n two both l) b d c names) in (formed_as_before Q6 net earlier (Deficiency 0 classes) (proof.Ranks list)).1 (
       ((omega arith, omega arith), one_from (linkage_count earlier) 0 (length net.complexes) 0 classes.list k one (omega arith) (omega arith)),
       subst (λ (ds : List ℕ). AreClassProofs net earlier 1 ds list) (sym k) (subst (λ (ps : List RankProof). AreClassProofs net earlier 1 (0 ∷ []) ps) (sym e) (proved, tt)),
     )
@@ -129,7 +131,7 @@ one_deficiency_formed net earlier classes list p k e b d c n names two both one 
 -- ---- positive vectors
 
 pub two_dependent_formed : (net : Net) (earlier : Earlier) (vector : KeptInts) → vector.list ≡ pos 1 ∷ pos 1 ∷ [] → length net.reactions ≡ 2 → IsFormed net earlier Q7 (record { verdict = YesVec vector; proof = proof.Nothing })
-two_dependent_formed net earlier vector v both = (tt, subst (AreFree (length net.reactions)) (sym v) (two_free (length net.reactions) (pos 1) (pos 1) both one_narrow one_narrow))
+two_dependent_formed net earlier vector v both = (formed_as_before Q7 net earlier (YesVec vector) proof.Nothing).1 (tt, subst (AreFree (length net.reactions)) (sym v) (two_free (length net.reactions) (pos 1) (pos 1) both one_narrow one_narrow))
 
 pub two_conserved_formed : (net : Net) (earlier : Earlier) (vector : KeptInts) → vector.list ≡ pos 1 ∷ pos 1 ∷ [] → length net.names ≡ 2 → IsFormed net earlier Q8 (record { verdict = YesVec vector; proof = proof.Nothing })
-two_conserved_formed net earlier vector v two = (tt, subst (AreFree (length net.names)) (sym v) (two_free (length net.names) (pos 1) (pos 1) two one_narrow one_narrow))
+two_conserved_formed net earlier vector v two = (formed_as_before Q8 net earlier (YesVec vector) proof.Nothing).1 (tt, subst (AreFree (length net.names)) (sym v) (two_free (length net.names) (pos 1) (pos 1) two one_narrow one_narrow))

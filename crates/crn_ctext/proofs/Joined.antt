@@ -13,7 +13,9 @@ use Rattle.crn_cert.specs.declared.answer.Answer.{Answer}
 use Rattle.crn_cert.specs.Questions.{Question, Q1, Q2, Q3, Q4, Q5, Q6, Q7, Q8, Q9, Q10, Q11, Q12, Q13, Q14, Q15}
 use Rattle.crn_cert.specs.Verdicts.{tight}
 use Rattle.crn_cert.specs.Tests.{AllHold}
-use Rattle.crn_cert.specs.Formed.{IsFormedOf}
+use Rattle.crn_ctext.proofs.FormedBefore.{IsFormedOf}
+use Rattle.crn_cert.specs.Formed.{IsFormedOf as IsFormedAnswer}
+use Rattle.crn_ctext.proofs.AsBefore.{formed_as_before}
 use Rattle.crn_cert.specs.Valid.{head_tests, row_tests, IsValid}
 use Rattle.crn_cert.proofs.CallerLemmas.{hold_append, hold_parts}
 use Rattle.crn_ctext.specs.Records.{Record}
@@ -118,22 +120,53 @@ none_due : (t : Bool) → unless {A = Problem} t [] ≡ []
 none_due true = refl
 none_due false = refl
 
-pub joined : (b : Bool) (q : Question) → LinkFor b q → IsJoinedFor b q
-joined b Q1 l = linked_joins b Q1 (λ known h. none_due (is_open h)) l
-joined b Q2 l = linked_joins b Q2 (λ known h. none_due (is_open h)) l
-joined b Q3 l = linked_joins b Q3 (λ known h. none_due (is_open h)) l
-joined b Q4 l = linked_joins b Q4 (λ known h. none_due (is_open h)) l
-joined b Q5 l = linked_joins b Q5 (λ known h. none_due (is_open h)) l
-joined b Q6 l = linked_joins b Q6 (λ known h. none_due (is_open h)) l
-joined b Q7 l = linked_joins b Q7 (λ known h. none_due (is_open h)) l
-joined b Q8 l = linked_joins b Q8 (λ known h. none_due (is_open h)) l
-joined b Q9 l = linked_joins b Q9 (λ known h. none_due (is_open h)) l
-joined b Q10 l = linked_joins b Q10 (λ known h. none_due (is_open h)) l
-joined b Q11 l = linked_after_joins b Q11 (λ known h. none_due (is_open h)) l
-joined b Q12 l = linked_joins b Q12 (λ known h. none_due (is_open h)) l
-joined b Q13 l = l
-joined b Q14 l = l
-joined b Q15 l = l
+joined_before : (b : Bool) (q : Question) → LinkFor b q → IsJoinedFor b q
+joined_before b Q1 l = linked_joins b Q1 (λ known h. none_due (is_open h)) l
+joined_before b Q2 l = linked_joins b Q2 (λ known h. none_due (is_open h)) l
+joined_before b Q3 l = linked_joins b Q3 (λ known h. none_due (is_open h)) l
+joined_before b Q4 l = linked_joins b Q4 (λ known h. none_due (is_open h)) l
+joined_before b Q5 l = linked_joins b Q5 (λ known h. none_due (is_open h)) l
+joined_before b Q6 l = linked_joins b Q6 (λ known h. none_due (is_open h)) l
+joined_before b Q7 l = linked_joins b Q7 (λ known h. none_due (is_open h)) l
+joined_before b Q8 l = linked_joins b Q8 (λ known h. none_due (is_open h)) l
+joined_before b Q9 l = linked_joins b Q9 (λ known h. none_due (is_open h)) l
+joined_before b Q10 l = linked_joins b Q10 (λ known h. none_due (is_open h)) l
+joined_before b Q11 l = linked_after_joins b Q11 (λ known h. none_due (is_open h)) l
+joined_before b Q12 l = linked_joins b Q12 (λ known h. none_due (is_open h)) l
+joined_before b Q13 l = l
+joined_before b Q14 l = l
+joined_before b Q15 l = l
+
+-- the same by the blocks of answers
+pub record IsJoinedAt (b : Bool) (q : Question) : Type 1 where
+  pub formed : (known : Known) (v : Verdict) (p : Proof) → AreKnown b known.earlier → IsFormedAnswer known.net known.earlier q v p → IsFormed meaning q known (records q (shapes_of known) (answer v p)) (parts q known (answer v p))
+  pub there : (known : Known) (v : Verdict) (p : Proof) → AreKnown b known.earlier → IsFormedAnswer known.net known.earlier q v p → IsValid known.net known.earlier q (answer v p)
+      → documents.IsValid meaning q known (records q (shapes_of known) (answer v p)) (parts q known (answer v p))
+  pub back : (known : Known) (v : Verdict) (p : Proof) → AreKnown b known.earlier → IsStrongTrue b known → IsFormedAnswer known.net known.earlier q v p
+      → documents.IsValid meaning q known (records q (shapes_of known) (answer v p)) (parts q known (answer v p)) → IsValid known.net known.earlier q (answer v p)
+  pub says : (known : Known) (v : Verdict) (p : Proof) → AreKnown b known.earlier → IsFormedAnswer known.net known.earlier q v p
+      → verdict_of q (sizes_of known) (head_of q v) (records_below (shapes_of known) (answer v p)) ≡ tight v
+  pub shows : (known : Known) (v w : Verdict) (p r : Proof) → AreKnown b known.earlier → IsFormedAnswer known.net known.earlier q v p → IsFormedAnswer known.net known.earlier q w r
+      → head_of q v ≡ head_of q w → records_below (shapes_of known) (answer v p) ≡ records_below (shapes_of known) (answer w r) → proof_nodes p ≡ proof_nodes r → shown p ≡ shown r
+
+before : (q : Question) (known : Known) (v : Verdict) (p : Proof) → IsFormedAnswer known.net known.earlier q v p → IsFormedOf known.net known.earlier q v p
+before q known v p f = (formed_as_before q known.net known.earlier v p).0 f
+
+pub joined : (b : Bool) (q : Question) → LinkFor b q → IsJoinedAt b q
+joined b q l =
+    let j = joined_before b q l in
+    let formed = j.formed in
+    let there = j.there in
+    let back = j.back in
+    let says = j.says in
+    let shows = j.shows in
+    record {
+      formed = λ known v p k f. formed known v p k (before q known v p f);
+      there = λ known v p k f valid. there known v p k (before q known v p f) valid;
+      back = λ known v p k t f valid. back known v p k t (before q known v p f) valid;
+      says = λ known v p k f. says known v p k (before q known v p f);
+      shows = λ known v w p r k f g head rows nodes. shows known v w p r k (before q known v p f) (before q known w r g) head rows nodes;
+    }
 
 -- ---- the parts of one block
 

@@ -49,10 +49,10 @@ IsRight q v = Unit {0}
 
 pub formed_right : (net : Net) (earlier : Earlier) (q : Question) (v : Verdict) (p : Proof) → IsFormedOf net earlier q v p → IsRight q v
 formed_right net earlier Q2 (Strong count terminal label exit) p f = tt
-formed_right net earlier Q2 (Unknown (Wide system class index basis)) p f = absurd f.0
-formed_right net earlier Q2 (Unknown (Budget nodes)) p f = absurd f.0
-formed_right net earlier Q2 (Unknown (Rests question)) p f = absurd f.0
-formed_right net earlier Q2 v p f = absurd f.0
+formed_right net earlier Q2 (Unknown (Wide system class index basis)) p f = absurd f.0.head
+formed_right net earlier Q2 (Unknown (Budget nodes)) p f = absurd f.0.head
+formed_right net earlier Q2 (Unknown (Rests question)) p f = absurd f.0.head
+formed_right net earlier Q2 v p f = absurd f.0.head
 formed_right net earlier q v p f = tt
 
 pub strong_tight : (v : Verdict) → IsStrong v → IsStrong (tight v)

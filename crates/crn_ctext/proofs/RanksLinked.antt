@@ -1,23 +1,24 @@
 -- Ranks as records: those of a formed proof fit its forms, say the proof, and follow from the forms; so for each linkage class.
-use Rattle.std.proofs.Common.{◌≡◌, ◌≢◌, ◌≤◌, ◌<◌, ◌+◌, ◌-◌, ◌==◌, ◌++◌, ◌∙◌, ℕ, zero, suc, List, [], ◌∷◌, length, map, take, drop, refl, sym, ap, ap₂, subst, inl, inr, arith}
-use Rattle.std.specs.Prelude.{ℤ, pos, negsuc, nat_abs, codes, replicate, slice_index, slice_index_or}
-use Rattle.std.specs.List.{AllByRecursion, AllZip, filter, flat_map, range_with_len}
+use Rattle.std.proofs.Common.{◌≡◌, ◌≢◌, ◌≤◌, ◌<◌, ◌+◌, ◌-◌, ◌++◌, ◌∙◌, ℕ, zero, suc, List, [], ◌∷◌, length, map, take, drop, refl, sym, ap, ap₂, subst, inl, inr, arith}
+use Rattle.std.specs.Prelude.{ℤ, pos, codes, replicate, slice_index}
+use Rattle.std.specs.List.{AllByRecursion, AllZip, flat_map, range_with_len}
 use Rattle.std.proofs.lemmas.Int.{ints}
 use Rattle.std.proofs.lemmas.List.{append-nil, length-append, length-map, take_at, drop_at}
 use Rattle.std.proofs.Math.Numerals.{add-one}
 use Rattle.crn_vec.specs.Lists.{IsIn, IsAscending}
 use Rattle.crn_vec.specs.Network.{Net}
 use Rattle.crn_vec.specs.Deficiency.{class_members}
-use Rattle.crn_vec.proofs.CallerLemmas.{eq_or, above_in, above_ascending, all_from, abs_back, all_in}
+use Rattle.crn_vec.proofs.CallerLemmas.{eq_or, above_in, above_ascending, all_from, abs_back}
 use Rattle.crn_cert.specs.declared.answer.RankProof.{RankProof}
 use Rattle.crn_cert.specs.Questions.{Earlier}
 use Rattle.crn_cert.specs.Tests.{Test}
 use Rattle.crn_cert.specs.Ranges.{AreFrom, AreFree, AreFreeRows}
-use Rattle.crn_cert.specs.Formed.{IsRankProof, AreClassProofs, IsBasisOf}
+use Rattle.crn_cert.specs.Data.{IsBasisOf}
+use Rattle.crn_cert.specs.Parts.{IsRankProof, AreClassProofs}
 use Rattle.crn_cert.specs.RankTests.{rank_tests}
 use Rattle.crn_cert.specs.Valid.{linkage, class_places, class_rank_tests}
 use Rattle.crn_cert.proofs.CallerLemmas.{class_ascending}
-use Rattle.crn_ctext.specs.Records.{Record, Form, Field, Rising, Members, Takes, AreNarrow, AreOf, AreBetween, AreRising, Fits}
+use Rattle.crn_ctext.specs.Records.{Record, Form, Field, Rising, Members, Takes, AreNarrow, AreOf, AreBetween, Fits}
 use Rattle.crn_ctext.specs.Kinds.{small, just, record_form, free_form}
 use Rattle.crn_ctext.specs.Questions.{rank_forms, class_forms}
 use Rattle.crn_ctext.specs.Documents.{one_word}
@@ -30,13 +31,6 @@ use Rattle.crn_cert.specs.Verdicts.{tight_rank}
 pub between : (least greatest : ℕ) (xs : List ℕ) → AllByRecursion (λ x. (least ≤ x) × (x ≤ greatest)) xs → AreBetween (pos least) (pos greatest) (map pos xs)
 between least greatest [] p = tt
 between least greatest (x ∷ xs) p = ((omega (arith, ints, p.0.0), omega (arith, ints, p.0.1)), between least greatest xs p.1)
-
-pub naturals_back : (least greatest : ℕ) (zs : List ℤ) → AreBetween (pos least) (pos greatest) zs → (xs : List ℕ) × (zs ≡ map pos xs) × AllByRecursion (λ x. (least ≤ x) × (x ≤ greatest)) xs
-naturals_back least greatest [] b = ([], refl, tt)
-naturals_back least greatest (negsuc n ∷ zs) b = absurd (omega (arith, ints, b.0.0))
-naturals_back least greatest (pos n ∷ zs) b =
-    let more = naturals_back least greatest zs b.1 in
-    (n ∷ more.0, ap (λ (t : List ℤ). pos n ∷ t) more.1, ((omega (arith, ints, b.0.0), omega (arith, ints, b.0.1)), more.2))
 
 pub record_is : (r : Record) (words : List (List ℕ)) (numbers : List ℤ) → r.words ≡ words → r.numbers ≡ numbers → r ≡ record { words = words; numbers = numbers }
 record_is r words numbers w n = ap₂ (λ (ws : List (List ℕ)) (zs : List ℤ). record { words = ws; numbers = zs }) w n
@@ -62,10 +56,6 @@ no_more (x ∷ xs) (y ∷ ys) a b h = elim (eq_or x y) [
     past other r (inl e) = omega (arith, e, first other)
     past other r (inr i) = omega (arith, first other, above_in x xs a r i)
 
--- the reactions of a class by labels
-abbrev places_by : Net → List ℕ → ℕ → List ℕ
-places_by net labels k = filter (λ r. slice_index labels (slice_index_or net.reactions (r - 1) (0, 0)).0 == k) (range_with_len 1 (length net.reactions))
-
 -- ---- rows of free numbers
 
 pub free_fits : (word : List ℕ) (count : ℕ) (zs : List ℤ) → AreFree count zs → Fits (free_form word count) (one_word word zs)
@@ -90,17 +80,6 @@ free_rows_fit word count width rows a =
     let each = a.each in
     subst (λ (n : ℕ). AllZip Fits (replicate n (free_form word width)) (map (one_word word) rows)) long (rows_fit word width rows each)
 
-pub free_rows_back : (word : List ℕ) (count width : ℕ) (rows : List Record) → AllZip Fits (replicate count (free_form word width)) rows → (vs : List (List ℤ)) × (rows ≡ map (one_word word) vs) × AreFreeRows count width vs
-free_rows_back word zero width [] z = ([], refl, record { long = refl; each = tt })
-free_rows_back word zero width (r ∷ rows) z = absurd z
-free_rows_back word (suc n) width [] z = absurd z
-free_rows_back word (suc n) width (r ∷ rows) z =
-    let one = free_row word width r z.0 in
-    let more = free_rows_back word n width rows z.1 in
-    let long = more.2.long in
-    let each = more.2.each in
-    (r.numbers ∷ more.0, ap₂ (λ (x : Record) (xs : List Record). x ∷ xs) one.0 more.1, record { long = ap suc long; each = (one.1, each) })
-
 -- ---- forms one after another
 
 zip_both : (forms more : List Form) (rows rest : List Record) → AllZip Fits forms rows → AllZip Fits more rest → AllZip Fits (forms ++ more) (rows ++ rest)
@@ -108,13 +87,6 @@ zip_both [] more [] rest p q = q
 zip_both [] more (r ∷ rows) rest p q = absurd p
 zip_both (form ∷ forms) more [] rest p q = absurd p
 zip_both (form ∷ forms) more (r ∷ rows) rest p q = (p.0, zip_both forms more rows rest p.1 q)
-
-zip_split : (forms more : List Form) (rows : List Record) → AllZip Fits (forms ++ more) rows → (prefix : List Record) × (back : List Record) × (rows ≡ prefix ++ back) × AllZip Fits forms prefix × AllZip Fits more back
-zip_split [] more rows z = ([], rows, refl, tt, z)
-zip_split (form ∷ forms) more [] z = absurd z
-zip_split (form ∷ forms) more (r ∷ rows) z =
-    let rest = zip_split forms more rows z.1 in
-    (r ∷ rest.0, rest.1, ap (λ (t : List Record). r ∷ t) rest.2, (z.0, rest.3), rest.4)
 
 -- ---- a rank
 
@@ -124,14 +96,6 @@ proof_with base duals combs = record { base = record { list = base; spare = 0 };
 
 base_fits : (rank : ℕ) (members base : List ℕ) → length base ≡ rank → IsAscending base → ((r : ℕ) → IsIn r base → IsIn r members) → Fits (record_form (codes "base") (Members rank members ∷ [])) (small_record (codes "base") base)
 base_fits rank members base long up from = (refl, (map pos base, [], sym (append-nil (map pos base)), ((base, refl, long, up, all_from (λ r. IsIn r members) base from), tt), refl))
-
-base_row : (rank : ℕ) (members : List ℕ) (r : Record) → Fits (record_form (codes "base") (Members rank members ∷ [])) r
-    → (base : List ℕ) × (r ≡ small_record (codes "base") base) × (length base ≡ rank) × IsAscending base × ((k : ℕ) → IsIn k base → IsIn k members)
-base_row rank members r f =
-    let p = f.1 in
-    let t = p.3.0 in
-    let all : r.numbers ≡ map pos t.0 = p.2 ∙ ap (λ (x : List ℤ). p.0 ++ x) p.4 ∙ append-nil p.0 ∙ t.1 in
-    (t.0, record_is r (codes "base" ∷ []) (map pos t.0) f.0 all, t.2, t.3, λ k i. all_in (λ k. IsIn k members) t.0 k t.4 i)
 
 pub rank_fits : (known : Known) (members : List ℕ) (rank : ℕ) (p : RankProof) → IsRankProof known.net members rank p → AllZip Fits (rank_forms (sizes_of known) rank members) (rank_records p)
 rank_fits known members rank p f =
@@ -146,20 +110,6 @@ rank_fits known members rank p f =
       zip_both (replicate rank (free_form (codes "dual") (length known.net.names))) (replicate other (free_form (codes "comb") (1 + rank))) (map (one_word (codes "dual")) p.duals) (map (one_word (codes "comb")) p.combs)
           (free_rows_fit (codes "dual") rank (length known.net.names) p.duals duals) last,
     )
-
--- the records are those of a formed proof
-pub rank_back : (known : Known) (members : List ℕ) (rank : ℕ) (rows : List Record) → AllZip Fits (rank_forms (sizes_of known) rank members) rows
-    → (base : List ℕ) × (duals : List (List ℤ)) × (combs : List (List ℤ)) × (rows ≡ rank_records (proof_with base duals combs)) × IsRankProof known.net members rank (proof_with base duals combs)
-rank_back known members rank [] z = absurd z
-rank_back known members rank (r ∷ rows) z =
-    let other = length members - rank in
-    let first = base_row rank members r z.0 in
-    let parts = zip_split (replicate rank (free_form (codes "dual") (length known.net.names))) (replicate other (free_form (codes "comb") (1 + rank))) rows z.1 in
-    let duals = free_rows_back (codes "dual") rank (length known.net.names) parts.0 parts.3 in
-    let combs = free_rows_back (codes "comb") other (1 + rank) parts.1 parts.4 in
-    let all : rows ≡ map (one_word (codes "dual")) duals.0 ++ map (one_word (codes "comb")) combs.0 = parts.2 ∙ ap₂ (λ (x y : List Record). x ++ y) duals.1 combs.1 in
-    let narrow : AreFreeRows other (suc rank) combs.0 = subst (λ (w : ℕ). AreFreeRows other w combs.0) (let w : 1 + rank ≡ suc rank = omega arith in w) combs.2 in
-    (first.0, duals.0, combs.0, ap₂ (λ (x : Record) (xs : List Record). x ∷ xs) first.1 all, record { long = first.2; ascending = first.3; from = first.4; duals = duals.2; combs = narrow })
 
 lists_back : (us vs : List (List ℤ)) → lists (map (one_word (codes "dual")) us ++ map (one_word (codes "comb")) vs) ≡ us ++ vs
 lists_back [] [] = refl
@@ -216,16 +166,6 @@ classes_fit known k (d ∷ ds) (p ∷ ps) f =
     let members = class_places known.net known.earlier k in
     let more = subst (λ (j : ℕ). AllZip Fits (forms_from known j ds) (flat_map rank_records ps)) (next k) (classes_fit known (suc k) ds ps f.1) in
     zip_both (rank_forms (sizes_of known) (rank_at known.earlier k d) members) (forms_from known (k + 1) ds) (rank_records p) (flat_map rank_records ps) (rank_fits known members (rank_at known.earlier k d) p f.0) more
-
-pub classes_back : (known : Known) (k : ℕ) (ds : List ℕ) (rows : List Record) → AllZip Fits (forms_from known k ds) rows → (ps : List RankProof) × (rows ≡ flat_map rank_records ps) × AreClassProofs known.net known.earlier k ds ps
-classes_back known k [] [] z = ([], refl, tt)
-classes_back known k [] (r ∷ rows) z = absurd z
-classes_back known k (d ∷ ds) rows z =
-    let members = class_places known.net known.earlier k in
-    let parts = zip_split (rank_forms (sizes_of known) (rank_at known.earlier k d) members) (forms_from known (k + 1) ds) rows z in
-    let first = rank_back known members (rank_at known.earlier k d) parts.0 parts.3 in
-    let more = classes_back known (suc k) ds parts.1 (subst (λ (j : ℕ). AllZip Fits (forms_from known j ds) parts.1) (sym (next k)) parts.4) in
-    (proof_with first.0 first.1 first.2 ∷ more.0, parts.2 ∙ ap₂ (λ (x y : List Record). x ++ y) first.3 more.1, (first.4, more.2))
 
 abbrev proofs_from : Net → Earlier → ℕ → List ℕ → List Record → List RankProof
 proofs_from net earlier k ds rs = class_proofs (sizes_from earlier k (length ds)) (places_from net earlier k (length ds)) (map pos ds) rs
@@ -295,34 +235,3 @@ wide_fits system columns rows index basis b =
     let all = columns + rows in
     number_then system system system (open_fields columns rows) (map pos (0 ∷ index ∷ basis)) (omega arith) (omega arith) (number_then 0 0 0 (basis_fields columns rows) (map pos (index ∷ basis)) (omega arith) (omega arith)
     (number_then 1 all index (Rising columns all ∷ []) (map pos basis) at.0 at.1 (rising_fits columns all basis members up)))
-
--- the first number, and the others
-pub number_back : (least greatest : ℕ) (fields : List Field) (zs : List ℤ) → FitFields (small 1 least greatest ∷ fields) zs → (n : ℕ) × (rest : List ℤ) × (zs ≡ pos n ∷ rest) × ((least ≤ n) × (n ≤ greatest)) × FitFields fields rest
-number_back least greatest fields zs f = by f.0 f.2 f.3.0.0 f.3.0.1
-  where
-    by : (prefix : List ℤ) → zs ≡ prefix ++ f.1 → length prefix ≡ 1 → AreBetween (pos least) (pos greatest) prefix → (n : ℕ) × (rest : List ℤ) × (zs ≡ pos n ∷ rest) × ((least ≤ n) × (n ≤ greatest)) × FitFields fields rest
-    by [] e l b = absurd (omega (arith, l))
-    by (x ∷ y ∷ prefix) e l b = absurd (omega (arith, l))
-    by (negsuc n ∷ []) e l b = absurd (omega (arith, ints, b.0.0))
-    by (pos n ∷ []) e l b = (n, f.1, e, (omega (arith, ints, b.0.0), omega (arith, ints, b.0.1)), f.4)
-
-pub rising_back : (count greatest : ℕ) (zs : List ℤ) → (length zs ≡ count) × AreRising greatest zs → (xs : List ℕ) × (zs ≡ map pos xs) × AreFrom count 1 greatest xs × IsAscending xs
-rising_back count greatest zs t =
-    let r = t.1 in
-    let back = naturals_back 1 greatest zs r.3 in
-    let same : back.0 ≡ r.0 = sym (abs_back back.0) ∙ ap (λ (t : List ℤ). map nat_abs t) (sym back.1 ∙ r.1) ∙ abs_back r.0 in
-    (back.0, back.1, record { long = sym (length-map back.0 pos) ∙ sym (ap length back.1) ∙ t.0; each = back.2 }, subst IsAscending (sym same) r.2)
-
-pub wide_back : (system columns rows : ℕ) (zs : List ℤ) → FitFields (just system ∷ just 0 ∷ small 1 1 (columns + rows) ∷ Rising columns (columns + rows) ∷ []) zs
-    → (index : ℕ) × (basis : List ℕ) × (zs ≡ map pos (system ∷ 0 ∷ index ∷ basis)) × IsBasisOf columns rows index basis
-wide_back system columns rows zs f =
-    let all = columns + rows in
-    let a = number_back system system (open_fields columns rows) zs f in
-    let b = number_back 0 0 (basis_fields columns rows) a.1 a.4 in
-    let c = number_back 1 all (Rising columns all ∷ []) b.1 b.4 in
-    let p = c.4 in
-    let r = rising_back columns all p.0 p.3.0 in
-    let last : c.1 ≡ map pos r.0 = p.2 ∙ ap (λ (t : List ℤ). p.0 ++ t) p.4 ∙ append-nil p.0 ∙ r.1 in
-    let first : pos a.0 ≡ pos system = ap pos (omega (arith, a.3.0, a.3.1)) in
-    let second : pos b.0 ≡ pos 0 = ap pos (omega (arith, b.3.1)) in
-    (c.0, r.0, a.2 ∙ ap₂ (λ (x : ℤ) (xs : List ℤ). x ∷ xs) first (b.2 ∙ ap₂ (λ (x : ℤ) (xs : List ℤ). x ∷ xs) second (c.2 ∙ ap (λ (xs : List ℤ). pos c.0 ∷ xs) last)), record { coordinate = c.3; members = r.2; ascending = r.3 })

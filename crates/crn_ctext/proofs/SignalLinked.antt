@@ -1,5 +1,5 @@
 -- Answers on signals and their records: a signal, one tree or two, or none.
-use Rattle.std.proofs.Common.{◌≡◌, ◌⊎◌, ◌≤◌, ◌<◌, ◌+◌, ◌++◌, ◌∙◌, ℕ, Bool, true, false, List, [], ◌∷◌, length, map, refl, sym, ap, ap₂, subst, inl, inr, arith}
+use Rattle.std.proofs.Common.{◌≡◌, ◌⊎◌, ◌≤◌, ◌<◌, ◌+◌, ◌++◌, ◌∙◌, ℕ, Bool, true, false, List, [], ◌∷◌, length, refl, sym, ap, ap₂, subst, inl, inr, arith}
 use Rattle.std.specs.Prelude.{ℤ, pos, negsuc, Option, Some, None, codes}
 use Rattle.std.specs.Option.{IsSome, IsSomeAnd}
 use Rattle.std.specs.List.{AllByRecursion, AllZip}
@@ -8,9 +8,8 @@ use Rattle.std.proofs.lemmas.List.{append-nil}
 use Rattle.crn_vec.specs.Kept.{KeptInts, KeptNums}
 use Rattle.crn_vec.specs.Network.{Net}
 use Rattle.crn_vec.specs.NetSystems.{reaction_system}
-use Rattle.crn_vec.specs.Concordance.{sign}
 use Rattle.crn_vec.specs.Signals.{Shape, signals}
-use Rattle.crn_vec.specs.NetSignals.{IsSignalOf, IsShapeOf}
+use Rattle.crn_vec.specs.NetSignals.{IsShapeOf}
 use Rattle.crn_vec.specs.declared.signs.Sign.{Sign}
 use Rattle.crn_vec.specs.declared.limits.TheConstants.{MAX_BUDGET}
 use Rattle.crn_cert.specs.declared.answer.Gap.TheVariants.{Wide, Budget, Rests}
@@ -19,12 +18,14 @@ use Rattle.crn_cert.specs.declared.answer.Verdict.TheVariants.{Yes, YesVec, YesS
 use Rattle.crn_cert.specs.declared.answer.Proof.{Proof}
 use Rattle.crn_cert.specs.declared.answer.Proof.TheVariants.{Nothing, One, Two}
 use Rattle.crn_cert.specs.Questions.{Earlier, Q2, Q4, Q12, Q13, on, terminal_of, vector_given, IsYes}
-use Rattle.crn_cert.specs.Tests.{Test, test, AllHold}
+use Rattle.crn_cert.specs.Tests.{AllHold}
 use Rattle.crn_cert.specs.Trees.{Plan, node_count, IsFormedTree}
 use Rattle.crn_cert.specs.Nodes.{Said, Splits, Flats, CutsA, CutsB, Fits as FitsNode}
 use Rattle.crn_cert.specs.TreeTests.{tree_tests}
 use Rattle.crn_cert.specs.Says.{IsTrueOf, by_turn, IsTurn, IsShelf}
-use Rattle.crn_cert.specs.Formed.{IsBasisOf, AreSignalRows, IsSignalTree, IsFormedOf, RowsMayBe}
+use Rattle.crn_cert.specs.Data.{IsBasisOf}
+use Rattle.crn_ctext.proofs.FormedBefore.{IsFormedOf, RowsMayBe}
+use Rattle.crn_cert.specs.Parts.{AreSignalRows, IsSignalTree}
 use Rattle.crn_cert.specs.Valid.{pair_places, HasVector, IsSignalNode, IsNodeOf, IsValid}
 use Rattle.crn_cert.proofs.CallerLemmas.{shape_count, hold_append, hold_parts}
 use Rattle.crn_ctext.specs.Records.{Record, Form, Turn, AreBetween, Takes, Fits}
@@ -45,7 +46,6 @@ use Rattle.crn_ctext.proofs.TreesRead.{valid_tree_is_formed}
 use Rattle.crn_ctext.proofs.AnswersApart.{tree_apart}
 use Rattle.crn_ctext.proofs.TreeRecords.{FormedAt, AreLeafTests, tree_formed, tree_good, tree_true, tests_true, true_tests, from_some_leaf, plans_one}
 use Rattle.crn_ctext.proofs.TablesLinked.{at_root, some_nodes}
-use Rattle.crn_cert.specs.Faults.{BadEvidence}
 
 -- ---- yes and vectors
 
@@ -53,11 +53,6 @@ pub yes_is : (v : Verdict) → IsYes v → is_yes v ≡ true
 yes_is Yes y = refl
 yes_is (YesVec vector) y = refl
 yes_is v y = absurd y
-
-pub is_yes_then : (v : Verdict) → is_yes v ≡ true → IsYes v
-is_yes_then Yes e = tt
-is_yes_then (YesVec vector) e = tt
-is_yes_then v e = absurd cc
 
 pub no_is : (v : Verdict) → (IsYes v → ⊥) → is_yes v ≡ false
 no_is Yes n = absurd (n tt)
@@ -72,9 +67,6 @@ pub vector_then : (v : Verdict) → has_vector v ≡ true → IsSome (vector_giv
 vector_then (YesVec vector) e = refl
 vector_then v e = absurd cc
 
-pub same_type : {A B : Type 0} → A ≡ B → A → B
-same_type e a = subst (λ (X : Type 0). X) e a
-
 -- whether the network is weakly reversible, by verdicts that say the same
 pub weak_known : (known : Known) → IsYes (on known.earlier Q4) → is_yes (on known.earlier Q4) ≡ true
 weak_known known y = yes_is (on known.earlier Q4) y
@@ -83,9 +75,6 @@ pub not_weak_known : (known : Known) → (IsYes (on known.earlier Q4) → ⊥) �
 not_weak_known known n = no_is (on known.earlier Q4) n
 
 -- ---- a signal
-
-abbrev signal_tests : Net → ℤ → (shelves mu : List ℤ) → ℤ → List ℤ → Option (List ℤ) → List {1} Test
-signal_tests net turn shelves mu level weights given = test 4 BadEvidence (IsSomeAnd given (λ g. IsSignalOf net (by_turn turn g) (map sign shelves) mu level weights)) ∷ []
 
 turn_takes : (turn : ℤ) → IsTurn turn → Takes Turn (turn ∷ [])
 turn_takes turn (inl e) = inl (ap (λ (x : ℤ). x ∷ []) e)
@@ -255,13 +244,6 @@ tree_known known turn t k f =
     let n = length net.names in
     let c = length net.complexes in
     subst (λ (ps : List ℕ). IsFormedTree (terminal_of (on known.earlier Q2) + n) (c + length ps) n [] t) (sym (same_pairs known k)) f
-
-pub known_tree : (known : Known) (turn : ℤ) (t : Plan) → IsStrong (on known.earlier Q2) → FormedAt (signal_problem known turn) [] t → IsSignalTree known.net known.earlier t
-known_tree known turn t k f =
-    let net = known.net in
-    let n = length net.names in
-    let c = length net.complexes in
-    subst (λ (ps : List ℕ). IsFormedTree (terminal_of (on known.earlier Q2) + n) (c + length ps) n [] t) (same_pairs known k) f
 
 leaf_tests : (known : Known) → (turn : ℤ) → AreLeafTests (signal_problem known turn) (IsNodeOf known.net known.earlier turn)
 leaf_tests known turn = record {

@@ -24,7 +24,8 @@ use Rattle.crn_cert.specs.Tests.{AllHold}
 use Rattle.crn_cert.specs.Trees.{Plan, Both, Three, RulesA, RulesB, Level, IsFormedTree}
 use Rattle.crn_cert.specs.Nodes.{Fits as FitsNode}
 use Rattle.crn_cert.specs.TreeTests.{tree_tests}
-use Rattle.crn_cert.specs.Formed.{IsBasisOf, IsFormedOf, RowsConcordant}
+use Rattle.crn_cert.specs.Data.{IsBasisOf}
+use Rattle.crn_ctext.proofs.FormedBefore.{IsFormedOf, RowsConcordant}
 use Rattle.crn_cert.specs.Valid.{IsValid}
 use Rattle.crn_ctext.specs.Records.{Record}
 use Rattle.crn_ctext.specs.Blocks.{Problem}

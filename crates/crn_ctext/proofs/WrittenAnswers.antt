@@ -14,12 +14,16 @@ use Rattle.crn_ctext.specs.Shares.{as_share}
 use Rattle.crn_cert.specs.Trees.{Plan, Both, Three, RulesA, RulesB, Level}
 use Rattle.crn_vec.specs.Network.{Net, IsNetwork}
 use Rattle.crn_vec.proofs.CallerLemmas.{all_append}
-use Rattle.crn_cert.proofs.CallerLemmas.{shares_fit as cut_shares_fit, IsTreeless, rows_linkage, rows_strong, rows_reversible, rows_weak, rows_rank, rows_deficiency, rows_dependence, rows_conservation, rows_zero, rows_one, rows_regular, rows_confluence}
+use Rattle.crn_cert.proofs.CallerLemmas.{shares_fit as cut_shares_fit, IsTreeless, treeless}
 use Rattle.crn_ctext.proofs.TablesLinked.{TableRows, tree_or_none}
 use Rattle.crn_ctext.proofs.SignalLinked.{signal_trees}
 use Rattle.crn_ctext.proofs.CutLists.{one_tree_cuts, signal_cuts}
 use Rattle.crn_cert.specs.Built.{built}
-use Rattle.crn_cert.specs.Formed.{AreFormed, RowsMayBe, RowsLinkage, RowsStrong, IsFormed as IsFormedAnswer}
+use Rattle.crn_cert.specs.Formed.{AreFormed, IsFormedOf, IsFormed as IsFormedAnswer}
+use Rattle.crn_ctext.proofs.FormedBefore.{RowsMayBe, RowsLinkage, RowsStrong}
+use Rattle.crn_ctext.proofs.AsBefore.{formed_as_before}
+use Rattle.crn_cert.specs.declared.head_kind.HeadKind.{HeadKind}
+use Rattle.crn_cert.specs.Table.{trees}
 use Rattle.crn_cert.specs.Questions.{Earlier, Question, Q1, Q2, Q3, Q4, Q5, Q6, Q7, Q8, Q9, Q10, Q11, Q12, Q13, Q14, Q15, on}
 use Rattle.crn_cert.specs.Valid.{pair_places}
 use Rattle.crn_cert.specs.declared.answer.Verdict.{Verdict}
@@ -100,7 +104,7 @@ sees_second net earlier v p h = sees_strong net v p h
 
 -- a formed answer to the question has no trees
 abbrev pub IsShortQuestion : Question → Type 0
-IsShortQuestion q = (net : Net) (earlier : Earlier) (v : Verdict) (p : Proof) → RowsMayBe net earlier q v p → IsTreeless p
+IsShortQuestion q = (net : Net) (earlier : Earlier) (v : Verdict) (p : Proof) → IsFormedOf net earlier q v p → IsTreeless p
 
 -- the same of each question but those on signals and on concordance, whose answers may have trees
 abbrev pub ShortFor : Question → Type 0
@@ -111,7 +115,7 @@ ShortFor q = IsShortQuestion q
 
 -- the cuts of a formed answer to the question may be shared
 record IsPlainFor (q : Question) : Type 0 where
-  cuts : (net : Net) (earlier : Earlier) (v : Verdict) (p : Proof) → IsNetwork net → RowsMayBe net earlier q v p → AllByRecursion (IsShareable MAX_NUMBERS) (cuts_in p)
+  cuts : (net : Net) (earlier : Earlier) (v : Verdict) (p : Proof) → IsNetwork net → IsFormedOf net earlier q v p → AllByRecursion (IsShareable MAX_NUMBERS) (cuts_in p)
 
 -- a proof without trees has no cuts
 no_cuts : (p : Proof) → IsTreeless p → cuts_in p ≡ []
@@ -131,17 +135,23 @@ short_plain q s = record {
   cuts = λ net earlier v p n h. subst (AllByRecursion (IsShareable MAX_NUMBERS)) (sym (no_cuts p (s net earlier v p h))) tt;
 }
 
-pub concordant_rows : (net : Net) (earlier : Earlier) (v : Verdict) (p : Proof) → RowsMayBe net earlier Q14 v p → TableRows net v p
-concordant_rows net earlier (Unknown gap) p h = h
-concordant_rows net earlier v p h = h
+concordant_by : (net : Net) (earlier : Earlier) (v : Verdict) (p : Proof) → RowsMayBe net earlier Q14 v p → TableRows net v p
+concordant_by net earlier (Unknown gap) p h = h
+concordant_by net earlier v p h = h
 
-pub strongly_rows : (net : Net) (earlier : Earlier) (v : Verdict) (p : Proof) → RowsMayBe net earlier Q15 v p → TableRows net v p
-strongly_rows net earlier (Unknown gap) p h = h
-strongly_rows net earlier v p h = h
+pub concordant_rows : (net : Net) (earlier : Earlier) (v : Verdict) (p : Proof) → IsFormedOf net earlier Q14 v p → TableRows net v p
+concordant_rows net earlier v p h = concordant_by net earlier v p ((formed_as_before Q14 net earlier v p).0 h).1
+
+strongly_by : (net : Net) (earlier : Earlier) (v : Verdict) (p : Proof) → RowsMayBe net earlier Q15 v p → TableRows net v p
+strongly_by net earlier (Unknown gap) p h = h
+strongly_by net earlier v p h = h
+
+pub strongly_rows : (net : Net) (earlier : Earlier) (v : Verdict) (p : Proof) → IsFormedOf net earlier Q15 v p → TableRows net v p
+strongly_rows net earlier v p h = strongly_by net earlier v p ((formed_as_before Q15 net earlier v p).0 h).1
 
 signal_plain : IsPlainFor Q13
 signal_plain = record {
-  cuts = λ net earlier v p n h. signal_cuts net earlier p n (signal_trees net earlier v p h);
+  cuts = λ net earlier v p n h. signal_cuts net earlier p n (signal_trees net earlier v p ((formed_as_before Q13 net earlier v p).0 h).1);
 }
 
 concordant_plain : IsPlainFor Q14
@@ -178,10 +188,14 @@ cuts_by net earlier (q ∷ qs) [] n s h = absurd h
 cuts_by net earlier (q ∷ qs) (a ∷ xs) n s h =
     let p = plain_for q s.0 in
     let cuts = p.cuts in
-    all_append (IsShareable MAX_NUMBERS) (cuts_in a.proof) (all_cuts xs) (cuts net earlier a.verdict a.proof n h.0.1) (cuts_by net (earlier ++ (q, tight a.verdict) ∷ []) qs xs n s.1 h.1)
+    all_append (IsShareable MAX_NUMBERS) (cuts_in a.proof) (all_cuts xs) (cuts net earlier a.verdict a.proof n h.0) (cuts_by net (earlier ++ (q, tight a.verdict) ∷ []) qs xs n s.1 h.1)
+
+-- no tree follows a head of the question
+short : (q : Question) → ((net : Net) (earlier : Earlier) (kind : HeadKind) → trees net earlier q kind ≡ []) → IsShortQuestion q
+short q none net earlier v p f = treeless net earlier q v p (none net earlier) f
 
 pub built_short : AllByRecursion ShortFor built
-built_short = (rows_linkage, (rows_strong, (rows_reversible, (rows_weak, (rows_rank, (rows_deficiency, (rows_dependence, (rows_conservation, (rows_zero, (rows_one, (rows_regular, (rows_confluence, (tt, (tt, (tt, tt)))))))))))))))
+built_short = (short Q1 (λ net earlier kind. refl), (short Q2 (λ net earlier kind. refl), (short Q3 (λ net earlier kind. refl), (short Q4 (λ net earlier kind. refl), (short Q5 (λ net earlier kind. refl), (short Q6 (λ net earlier kind. refl), (short Q7 (λ net earlier kind. refl), (short Q8 (λ net earlier kind. refl), (short Q9 (λ net earlier kind. refl), (short Q10 (λ net earlier kind. refl), (short Q11 (λ net earlier kind. refl), (short Q12 (λ net earlier kind. refl), (tt, (tt, (tt, tt)))))))))))))))
 
 -- the cuts of formed answers of a network may be shared
 pub cuts_shareable : (net : Net) (xs : List Answer) → IsNetwork net → AreFormed net [] built xs → AllByRecursion (IsShareable MAX_NUMBERS) (all_cuts xs)
@@ -239,9 +253,9 @@ all_written net (a ∷ b ∷ xs) h =
     let start : Known = meaning.start net in
     let pairs = strong_pairs net b.verdict in
     let p = pairs_then net a b h.0 h.1.0 in (
-      same_rows (shapes_of start) (shapes_with pairs) a.proof (sees_first net [] a.verdict a.proof h.0.1),
+      same_rows (shapes_of start) (shapes_with pairs) a.proof (sees_first net [] a.verdict a.proof ((formed_as_before Q1 net [] a.verdict a.proof).0 h.0).1),
       (
-        same_rows (shapes_of (after_answer Q1 start a)) (shapes_with pairs) b.proof (sees_second net ((Q1, tight a.verdict) ∷ []) b.verdict b.proof h.1.0.1),
+        same_rows (shapes_of (after_answer Q1 start a)) (shapes_with pairs) b.proof (sees_second net ((Q1, tight a.verdict) ∷ []) b.verdict b.proof ((formed_as_before Q2 net ((Q1, tight a.verdict) ∷ []) b.verdict b.proof).0 h.1.0).1),
         written_after pairs (Q3 ∷ Q4 ∷ Q5 ∷ Q6 ∷ Q7 ∷ Q8 ∷ Q9 ∷ Q10 ∷ Q11 ∷ Q12 ∷ Q13 ∷ Q14 ∷ Q15 ∷ []) (after_answer Q2 (after_answer Q1 start a) b) xs p.0 p.1,
       ),
     )

@@ -26,6 +26,7 @@ use Rattle.crn_cert.specs.Valid.{linkage, linkage_count, classes_to, class_place
 use Rattle.crn_ctext.specs.Records.{Record}
 use Rattle.crn_ctext.specs.Questions.{Sizes, Shapes, heads, class_rank, later_numbers}
 use Rattle.crn_ctext.specs.Blocks.{Meaning, Problem, place_of, is_open}
+pub use Rattle.crn_cert.specs.Questions.{is_yes, has_vector}
 
 -- what is known before a block: the network, and the verdicts of the blocks before it
 pub record Known : Type 0 where
@@ -33,17 +34,6 @@ pub record Known : Type 0 where
   pub earlier : Earlier
 
 -- ---- the sizes of forms
-
--- a yes of question 4, 7 or 11
-abbrev pub is_yes : Verdict → Bool
-is_yes Yes = true
-is_yes (YesVec vector) = true
-is_yes verdict = false
-
--- a vector of the confluence space is given
-abbrev pub has_vector : Verdict → Bool
-has_vector (YesVec vector) = true
-has_vector verdict = false
 
 -- the linked pairs within terminal classes, if the strong classes are known
 abbrev pub pairs_by : Known → Verdict → List ℕ

@@ -11,7 +11,8 @@ use Rattle.crn_cert.specs.Questions.{Earlier, Question, Q2, Q5, Q6, Q9, on, IsOp
 use Rattle.crn_cert.specs.Ranges.{IsFrom, AreFrom}
 use Rattle.crn_cert.specs.Says.{AreLinkageClasses, AreStrongClasses}
 use Rattle.crn_cert.specs.ClassTests.{AreNumbered, AreFromTrees, AreToTrees, DoLevelsFall, AreAllExits, zeros_in}
-use Rattle.crn_cert.specs.Formed.{IsForest, IsFormed}
+use Rattle.crn_cert.specs.Formed.{IsFormed}
+use Rattle.crn_cert.specs.Parts.{IsForest}
 use Rattle.crn_cert.specs.Valid.{IsValid}
 use Rattle.crn_cert.specs.Licensed.{IsTrueOrLicensed}
 use Rattle.crn_cert.specs.Law.{IsTrueOrOpen}
@@ -26,10 +27,10 @@ true_or_open net budget earlier q v h = h
 
 -- the answer to a question that rests on the rank, if the rank is open
 pub deficiencies_rest : (net : Net) (budget : ℕ) (earlier : Earlier) → IsOpen (on earlier Q5) → IsAnswer net budget earlier Q6 (record { verdict = Unknown (Rests 5); proof = Nothing })
-deficiencies_rest net budget earlier h = record { formed = (refl, refl); valid = tt; answered = (refl, h, tt) }
+deficiencies_rest net budget earlier h = record { formed = (record { head = ((omega arith, omega arith), tt); rows = tt; trees = tt }, (refl, refl)); valid = tt; answered = (refl, h, tt) }
 
 pub zero_rests : (net : Net) (budget : ℕ) (earlier : Earlier) → IsOpen (on earlier Q5) → IsAnswer net budget earlier Q9 (record { verdict = Unknown (Rests 5); proof = Nothing })
-zero_rests net budget earlier h = record { formed = (refl, refl); valid = tt; answered = (refl, h, tt) }
+zero_rests net budget earlier h = record { formed = (record { head = ((omega arith, omega arith), tt); rows = tt; trees = tt }, (refl, refl)); valid = tt; answered = (refl, h, tt) }
 
 -- right labels that are numbered, with their count
 pub linkage_right : (net : Net) (classes : LinkageData) → AreFrom (length net.complexes) 1 classes.count classes.label.list → AreRightLabels net.reactions classes.label.list → AreNumbered classes.label.list classes.count
@@ -47,6 +48,7 @@ strong_right net classes n count terminals labels numbered from_forest from_tree
       verdict = Strong classes.count classes.terminal classes.label classes.exit;
       proof = StrongTrees classes.from classes.from_depth classes.to classes.to_depth classes.level;
     } in
-    let formed : IsFormed net [] Q2 answer = ((count, terminals), (labels, exit_numbers, from_forest, to_forest, levels)) in
+    let formed : IsFormed net [] Q2 answer =
+    (record { head = ((count, terminals), tt); rows = (labels, (from_forest.names_are, (from_forest.depth_is, (to_forest.names_are, (to_forest.depth_is, (levels, (exit_numbers, tt))))))); trees = tt }, (refl, refl)) in
     let valid : IsValid net [] Q2 answer = (numbered, (from_trees, (to_trees, (falls, (exits, (zeros, tt)))))) in
     valid_answers_are_true Q2 net [] answer n tt tt formed valid

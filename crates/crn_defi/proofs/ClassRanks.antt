@@ -15,7 +15,7 @@ use Rattle.crn_vec.specs.Elementary.{NamesWide}
 use Rattle.crn_vec.specs.NetSystems.{class_system}
 use Rattle.crn_vec.proofs.CallerLemmas.{filter_few}
 use Rattle.crn_rank.specs.Rank.{AreMembers, member_matrix, ProvesRank}
-use Rattle.crn_cert.specs.Formed.{IsRankProof, IsClassProof, AreClassProofs}
+use Rattle.crn_cert.specs.Parts.{IsRankProof, IsClassProof, AreClassProofs}
 use Rattle.crn_cert.specs.Valid.{linkage, class_places, IsClassNumber, AreClassNumbers, class_rank_tests}
 use Rattle.crn_cert.proofs.CallerLemmas.{hold_append}
 use Rattle.crn_defi.specs.Inner.ClassRanks.{reactions_of, IsClass, IsClassRank, AreClassRanks}

@@ -18,12 +18,13 @@ use Rattle.crn_cert.specs.declared.answer.Proof.TheVariants.{Nothing, Ranks}
 use Rattle.crn_cert.specs.Questions.{Earlier, Q5, Q6, on, rank_of}
 use Rattle.crn_cert.specs.Ranges.{IsFrom}
 use Rattle.crn_cert.specs.Says.{AreLinkageClasses}
-use Rattle.crn_cert.specs.Formed.{IsFormed, IsWideGap, IsBasisOf}
+use Rattle.crn_cert.specs.Data.{IsBasisOf}
+use Rattle.crn_cert.specs.Formed.{IsFormed, IsWideGap}
 use Rattle.crn_cert.specs.Valid.{linkage, linkage_count, IsValid, IsLeft}
 use Rattle.crn_cert.specs.Licensed.{IsClassWide}
 use Rattle.crn_cert.specs.Answered.{IsAnswer}
 use Rattle.crn_cert.specs.Given.{GiveRank}
-use Rattle.crn_cert.proofs.CallerLemmas.{wide_basis}
+use Rattle.crn_cert.proofs.CallerLemmas.{wide_basis, classes_are_formed}
 use Rattle.crn_defi.specs.Inner.ClassRanks.{reactions_of, IsClass, AreClassRanks}
 use Rattle.crn_defi.proofs.Places.{reactions_count}
 use Rattle.crn_defi.proofs.Counted.{number_of_classes}
@@ -56,7 +57,7 @@ given_by : (net : Net) (budget : ℕ) (earlier : Earlier) (total rank : ℕ) (ds
 given_by net budget earlier total rank ds proofs n known r h ranks long left =
     let answer : Answer = record { verdict = Deficiency total ds; proof = Ranks proofs } in
     let formed : IsFormed net earlier Q6 answer =
-    (((omega arith, omega (arith, left)), record { long = long; each = class_bounds net (linkage earlier) 1 ds.list proofs h.labelled ranks }), class_proofs net earlier 1 ds.list proofs ranks) in
+    classes_are_formed net earlier total ds proofs (omega arith, omega (arith, left)) (record { long = long; each = class_bounds net (linkage earlier) 1 ds.list proofs h.labelled ranks }) (class_proofs net earlier 1 ds.list proofs ranks) in
     let classes : (j : ℕ) → 1 ≤ j → j < 1 + length ds.list → IsClass (linkage earlier) j = λ j from below. class_at (linkage earlier) (linkage_count earlier) h.count_is j from (omega (arith, below, long)) in
     let valid : IsValid net earlier Q6 answer =
     (rank_known earlier rank known, ((left_is net earlier total rank known left, class_numbers net earlier 1 ds.list proofs n h.labelled classes ranks), class_tests net earlier 1 1 ds.list proofs ranks)) in
@@ -80,9 +81,9 @@ wide_by net budget earlier rank class index basis known h from wide =
     let a = class_system net labels class in
     let rows : length a.rows ≡ length (reactions_of net labels class) = length-map (class_reactions net labels class) (reaction_vector net) ∙ sym (reactions_count net labels class) in
     let basis_is : IsBasisOf (length net.names) (length (reactions_of net labels class)) index basis.list = wide_basis a (length net.names) (length (reactions_of net labels class)) index basis.list refl rows wide in
-    let gap : IsWideGap net earlier Q6 3 class index basis.list = (refl, from, basis_is) in
+    let gap : IsWideGap net earlier Q6 3 class index basis.list = ((refl, from, basis_is), tt) in
     let of_class : IsClassWide net class basis.list index = record { labels = labels; labelled = h.labelled; wide = wide } in
-    record { formed = (gap, refl); valid = tt; answered = (gap, (rank_known earlier rank known, of_class)) }
+    record { formed = (record { head = gap; rows = tt; trees = tt }, (refl, refl)); valid = tt; answered = (gap, (rank_known earlier rank known, of_class)) }
 
 pub deficiencies_wide : (net : Net) (budget : ℕ) (earlier : Earlier) (count rank class index : ℕ) (labels : List ℕ) (basis : KeptNums) → GiveRank earlier labels count rank → AreLinkageClasses net count labels → IsFrom 1 count class
     → NamesWide (class_system net labels class) index basis.list → IsAnswer net budget earlier Q6 (record { verdict = Unknown (Wide 3 class index basis); proof = Nothing })

@@ -81,7 +81,7 @@ split_ready net earlier count links strong_count terminal labels exit_list level
     let most : n ≤ length net.complexes =
     omega (arith, h.is, count_by-le-length (is_terminal_in labels exit_list links k) (range_with_len 1 (length exit_list)), length-range_with_len 1 (length exit_list), s.classes, few) in
     let before : HaveOneBefore earlier k = λ j from less. terminals_same earlier links count labels exit_list g j ∙ h.before j from (omega (arith, less)) in (
-      (((h.from.0, omega (arith, h.from.1, g.count_is)), (several, most)), tt),
+      (record { head = ((h.from.0, omega (arith, h.from.1, g.count_is)), ((several, most), tt)); rows = tt; trees = tt }, (refl, refl)),
       ((terminals_same earlier links count labels exit_list g k ∙ h.is, several, before), tt),
     )
 
@@ -121,18 +121,18 @@ after_ready : (net : Net) (earlier : Earlier) (count : ℕ) (links : List ℕ) (
     → HaveOneUpTo labels exit_list links (length exit_list) count → AreDeficiencies net total ds.list → GiveClasses earlier links count labels exit_list → on earlier Q6 ≡ tight (Deficiency total ds) → IsVerdictOn total ds.list v → IsFormed net earlier Q10 (plain v) × IsValid net earlier Q10 (plain v)
 after_ready net earlier count links strong_count terminal labels exit_list total ds Yes known one d g e h =
     let has = with_known earlier total ds (λ t cs. AreAtMostOne cs × (sum cs ≡ t)) e h in
-    ((tt, tt), ((one_earlier earlier links count labels exit_list g one, has), tt))
+    ((record { head = tt; rows = tt; trees = tt }, (refl, refl)), ((one_earlier earlier links count labels exit_list g one, has), tt))
 after_ready net earlier count links strong_count terminal labels exit_list total ds (NoClass k x) known one d g e h =
     let has = with_known earlier total ds (λ t cs. IsFirstLarge k x cs) e h.first in
     let long = deficiencies_count net count total links ds.list strong_count terminal labels exit_list known d in
     let most : x ≤ length net.complexes = omega (arith, deficiency_few net total ds.list (k - 1) d (omega (arith, h.from.0, h.from.1)), h.first.0) in
-    ((((h.from.0, omega (arith, h.from.1, long, g.count_is)), (h.first.1, most)), tt), ((one_earlier earlier links count labels exit_list g one, has), tt))
+    ((record { head = ((h.from.0, omega (arith, h.from.1, long, g.count_is)), ((h.first.1, most), tt)); rows = tt; trees = tt }, (refl, refl)), ((one_earlier earlier links count labels exit_list g one, has), tt))
 after_ready net earlier count links strong_count terminal labels exit_list total ds (NoSum x) known one d g e h =
     let has = with_known earlier total ds (λ t cs. AreAtMostOne cs × (sum cs ≡ x) × (x ≢ t)) e h in
     let long = deficiencies_count net count total links ds.list strong_count terminal labels exit_list known d in
     let l = known.linkage_is in
     let most : x ≤ length net.complexes = omega (arith, sum_few ds.list h.0, h.1, long, labels_few net links count known.network l.labelled.long l.count_is) in
-    (((omega arith, most), tt), ((one_earlier earlier links count labels exit_list g one, has), tt))
+    ((record { head = ((omega arith, most), tt); rows = tt; trees = tt }, (refl, refl)), ((one_earlier earlier links count labels exit_list g one, has), tt))
 after_ready net earlier count links strong_count terminal labels exit_list total ds v known one d g e h = absurd h
 
 after_answered : (net : Net) (budget : ℕ) (earlier : Earlier) (total : ℕ) (ds : List ℕ) (v : Verdict) → IsVerdictOn total ds v → IsTrueOrOpen net Q10 v → IsTrueOrLicensed net budget earlier Q10 v
@@ -156,7 +156,7 @@ after_given net budget earlier count links strong_count terminal labels exit_lis
 after_given net budget earlier count links strong_count terminal labels exit_list (Unknown gap) v known one six g e h =
     let open_six : IsOpen (on earlier Q6) = subst IsOpen (sym e) tt in
     let rests : IsAnswer net budget earlier Q10 (plain (Unknown (Rests 6))) = record {
-      formed = (refl, refl);
+      formed = (record { head = ((omega arith, omega arith), tt); rows = tt; trees = tt }, (refl, refl));
       valid = tt;
       answered = (refl, open_six, one_terminal_each net count links strong_count terminal labels exit_list known one);
     } in

@@ -26,7 +26,7 @@ use Rattle.crn_ctext.specs.Blocks.{AfterBlocks, Problem, asks_all, asks_trees, c
 use Rattle.crn_ctext.specs.Steps.{StepGives}
 use Rattle.crn_io.specs.Device.{SourceSeen}
 use Rattle.crn_vec.proofs.CallerLemmas.{and_first}
-use Rattle.crn_ctext.proofs.CallerLemmas.{zip_long}
+use Rattle.crn_ctext.proofs.CallerLemmas.{zip_long, formed_as_before}
 use Rattle.crn_document.specs.declared.reading.Reading.{Reading}
 use Rattle.crn_document.specs.declared.fault.CheckStop.{CheckStop}
 use Rattle.crn_document.specs.Inner.Steps.{StepIs}
@@ -168,7 +168,7 @@ other_answer P net earlier n head rs a is p =
 pub answer_formed : (net : Net) (n : ℕ) (facts : KeptFacts) (head : List ℤ) (rows : List (List ℤ)) (h : Record) (rs : List Record) (a : Answer) → (AsksForTree n → said.number head 0 ≡ tree_place n → ⊥) → IsBuilt n → IsKnown net (before n) facts → HeadHolds net facts.earlier n head → IsBlock net facts.earlier n head rows h rs → IsAnswerOf net facts.earlier n head rs a → IsFormed net facts.earlier (asked n) a
 answer_formed net n facts head rows h rs a other built known hold b is =
     let f = said_facts net n facts head h built known b.is_head in
-    same_answer (λ v p. IsFormedOf net facts.earlier (asked n) v p) net facts.earlier n head rs a is (let g = f.formed in g rs other hold b.fit)
+    same_answer (λ v p. IsFormedOf net facts.earlier (asked n) v p) net facts.earlier n head rs a is ((formed_as_before (asked n) net facts.earlier (said_verdict n head rs) (said_proof net facts.earlier n head rs)).1 (let g = f.formed in g rs other hold b.fit))
 
 pub answer_holds : (net : Net) (earlier : Earlier) (n : ℕ) (head : List ℤ) (rs : List Record) (a : Answer) → IsAnswerOf net earlier n head rs a → AllHold (tests_of net earlier (asked n) a) → AllHold (row_tests net earlier (asked n) (said_verdict n head rs) (said_proof net earlier n head rs))
 answer_holds net earlier n head rs a is h =

@@ -8,9 +8,9 @@ use Rattle.crn_vec.specs.Lists.{IsAscending}
 use Rattle.crn_vec.specs.Network.{Net, IsNetwork}
 use Rattle.crn_vec.specs.declared.limits.TheConstants.{MAX_COMPLEXES}
 use Rattle.crn_vec.proofs.CallerLemmas.{abs_back}
-use Rattle.crn_ctext.proofs.CallerLemmas.{zip_long, record_is}
+use Rattle.crn_ctext.proofs.CallerLemmas.{zip_long, record_is, HeadMayBe, IsFormedOf}
 use Rattle.crn_cert.specs.Questions.{Earlier}
-use Rattle.crn_cert.specs.Formed.{HeadMayBe, IsFormedOf, IsBasisOf}
+use Rattle.crn_cert.specs.Data.{IsBasisOf}
 use Rattle.crn_cert.specs.Tests.{AllHold}
 use Rattle.crn_cert.specs.Valid.{head_tests, row_tests, linkage, linkage_count, class_places, pair_places}
 use Rattle.crn_cert.specs.Verdicts.{tight}

@@ -8,7 +8,7 @@ use Rattle.crn_vec.specs.Network.{Net, IsNetwork}
 use Rattle.crn_vec.specs.declared.limits.TheConstants.{MAX_COMPLEXES}
 use Rattle.crn_ctext.proofs.CallerLemmas.{zip_long, between_bits}
 use Rattle.crn_cert.specs.Questions.{Earlier}
-use Rattle.crn_cert.specs.Formed.{IsWalkList}
+use Rattle.crn_cert.specs.Data.{IsWalkOf}
 use Rattle.crn_cert.specs.Valid.{linkage, linkage_count, pair_places, side_tests}
 use Rattle.crn_cert.specs.ConfluenceTests.{tie_tests}
 use Rattle.crn_cert.specs.Ranges.{AreFree, AreFreeRows, AreBits}
@@ -125,7 +125,7 @@ regular_dependence_facts net earlier = record {
 abbrev walk_form : ℕ → Form
 walk_form c = record_form (codes "walk") (Several 2 c (pos 1) (pos c) ∷ [])
 
-walk_list : (net : Net) (rs : List Record) → AllZip Fits (walk_form (length net.complexes) ∷ []) rs → IsWalkList net (map nat_abs (row rs 0))
+walk_list : (net : Net) (rs : List Record) → AllZip Fits (walk_form (length net.complexes) ∷ []) rs → IsWalkOf (length net.complexes) (map nat_abs (row rs 0))
 walk_list net [] f = absurd f
 walk_list net (x ∷ y ∷ rs) f = absurd f.1
 walk_list net (x ∷ []) f =

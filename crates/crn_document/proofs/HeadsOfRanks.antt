@@ -13,9 +13,9 @@ use Rattle.crn_cert.specs.declared.answer.Proof.TheVariants.{Ranks}
 use Rattle.crn_cert.specs.declared.answer.RankProof.{RankProof}
 use Rattle.crn_vec.specs.Network.{Net, IsNetwork}
 use Rattle.crn_vec.specs.declared.limits.TheConstants.{MAX_COMPLEXES, MAX_REACTIONS}
-use Rattle.crn_ctext.proofs.CallerLemmas.{zip_none, zip_long}
+use Rattle.crn_ctext.proofs.CallerLemmas.{zip_none, zip_long, HeadMayBe}
 use Rattle.crn_cert.specs.Questions.{Earlier, Q6}
-use Rattle.crn_cert.specs.Formed.{HeadMayBe, AreClassProofs}
+use Rattle.crn_cert.specs.Parts.{AreClassProofs}
 use Rattle.crn_cert.specs.Valid.{linkage, linkage_count, class_places, class_rank_tests}
 use Rattle.crn_ctext.specs.Records.{Record, Form, AreRising, ClassWide, Fits, AreOf, AreBetween}
 use Rattle.crn_ctext.specs.Kinds.{small, just}

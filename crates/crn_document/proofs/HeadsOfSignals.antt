@@ -18,10 +18,10 @@ use Rattle.crn_document.proofs.Fields.{Holds, one_field, one_number}
 use Rattle.crn_document.proofs.Ranks.{free_row}
 use Rattle.crn_document.proofs.HeadFacts.{Facts, one_small, wide_numbers, wide_small, wide_basis, same_facts, as_form, FactsAt}
 use Rattle.std.proofs.Common.{Bool, true, false}
-use Rattle.crn_ctext.proofs.CallerLemmas.{zip_long, between_shelves, vector_then, spent_place, rests_place}
+use Rattle.crn_ctext.proofs.CallerLemmas.{zip_long, between_shelves, vector_then, spent_place, rests_place, IsSignalGap}
 use Rattle.crn_cert.specs.Ranges.{IsNarrow}
 use Rattle.crn_cert.specs.Says.{IsTurn}
-use Rattle.crn_cert.specs.Formed.{AreSignalRows, IsSignalGap}
+use Rattle.crn_cert.specs.Parts.{AreSignalRows}
 use Rattle.crn_cert.specs.Valid.{HasVector}
 use Rattle.crn_cert.specs.Questions.{Q2, Q12, Q13, on, terminal_of}
 use Rattle.crn_ctext.specs.Records.{Small, Turn}

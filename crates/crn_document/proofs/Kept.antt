@@ -137,7 +137,7 @@ vector_after net n facts v built known twelve holds some =
 
 formed_sides : (net : Net) (e : Earlier) (p : Proof) → IsFormedOf net e Q11 Yes p → (sides : List (List ℤ)) × (p ≡ Sides sides)
 formed_sides net e (Sides sides) f = (sides, refl)
-formed_sides net e p f = absurd f.1
+formed_sides net e p f = absurd (let e = f.1.1 in cc)
 
 pub sides_shown : (net : Net) (n : ℕ) (facts : KeptFacts) (a : Answer) (kept : List (List ℤ)) → IsBuilt n → IsKnown net (before n) facts → n ≡ 11 → IsFormed net facts.earlier (asked n) a → AllHold (tests_of net facts.earlier (asked n) a) → ((sides : List (List ℤ)) → a.proof ≡ Sides sides → kept ≡ sides) → a.verdict ≡ Yes → AreSides net kept
 sides_shown net n facts a kept built known eleven formed holds same said =
@@ -192,11 +192,11 @@ pub record SignalKnown (earlier : Earlier) (n : ℕ) (turn : ℤ) : Type 0 where
 pub signal_known : (net : Net) (e : Earlier) (n : ℕ) (a : Answer) (turn : ℤ) (shelves mu : KeptInts) (level : ℤ) (weights : KeptInts) → IsBuilt n → a.verdict ≡ YesSignal turn shelves mu level weights → IsFormed net e (asked n) a → AllHold (head_tests net e (asked n) a.verdict) → SignalKnown e n turn
 signal_known net e n a turn shelves mu level weights built is formed heads =
     let v : Verdict = YesSignal turn shelves mu level weights in
-    let may : HeadMayBe net e (asked n) v = subst (λ (w : Verdict). HeadMayBe net e (asked n) w) is formed.0 in
+    let may : HeadMayBe net e (asked n) v = subst (λ (w : Verdict). HeadMayBe net e (asked n) w) is formed.0.head in
     let tests : AllHold (head_tests net e (asked n) v) = subst (λ (w : Verdict). AllHold (head_tests net e (asked n) w)) is heads in
     let q = signal_only net e turn shelves mu level weights n built may in record {
       question = q;
-      turn_is = subst (λ (m : ℕ). HeadMayBe net e (asked m) v) q may;
+      turn_is = (subst (λ (m : ℕ). HeadMayBe net e (asked m) v) q may).0;
       vector = (subst (λ (m : ℕ). AllHold (head_tests net e (asked m) v)) q tests).0.0;
     }
 

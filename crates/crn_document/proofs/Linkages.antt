@@ -31,7 +31,7 @@ use Rattle.crn_ctext.specs.Meaning.{Known, lengths, pairs_by, pairs_of}
 
 -- the number of classes and the labels that a verdict on linkage classes says
 linkage_fits : (net : Net) (e : Earlier) (v : Verdict) → IsFormedVerdict net e Q1 v → (length (labels_of v) ≤ length net.complexes) × (count_of v ≤ length net.complexes)
-linkage_fits net e (Classes count label) h = (let l = h.1.long in omega (arith, l), h.0.1)
+linkage_fits net e (Classes count label) h = (let l = h.1.long in omega (arith, l), h.0.0.1)
 linkage_fits net e (Unknown (Wide system class index basis)) h = absurd h.0
 linkage_fits net e (Unknown (Budget nodes)) h = absurd h.0
 linkage_fits net e (Unknown (Rests question)) h = absurd h.0

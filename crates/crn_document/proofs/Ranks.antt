@@ -15,7 +15,7 @@ use Rattle.crn_cert.specs.Questions.{Earlier}
 use Rattle.crn_cert.specs.Tests.{Test}
 use Rattle.crn_cert.specs.Ranges.{AreFree, AreFreeRows}
 use Rattle.crn_cert.specs.RankTests.{rank_tests, dual_tests, comb_tests}
-use Rattle.crn_cert.specs.Formed.{IsRankProof, AreClassProofs}
+use Rattle.crn_cert.specs.Parts.{IsRankProof, AreClassProofs}
 use Rattle.crn_cert.specs.Valid.{linkage, class_places, class_rank_tests, AreClassNumbers}
 use Rattle.crn_ctext.specs.Records.{Record, Form, Fits, Free, Members}
 use Rattle.crn_ctext.specs.Kinds.{record_form, free_form}

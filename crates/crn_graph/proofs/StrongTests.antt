@@ -8,7 +8,7 @@ use Rattle.crn_vec.proofs.CallerLemmas.{leads_keeps, leads_here, leads_step, lea
 use Rattle.crn_cert.proofs.CallerLemmas.{named_in}
 use Rattle.crn_cert.specs.Says.{IsReactionNumber}
 use Rattle.crn_cert.specs.Ranges.{IsFrom, AreFrom}
-use Rattle.crn_cert.specs.Formed.{IsForest}
+use Rattle.crn_cert.specs.Parts.{IsForest}
 use Rattle.crn_cert.specs.ClassTests.{AreNumbered, AreFromTrees, AreToTrees, of_class, DoLevelsFall, GoesOut}
 use Rattle.crn_graph.specs.declared.arcs.Arc.{Arc}
 use Rattle.crn_graph.specs.declared.arcs.Way.TheVariants.{Along, Against}

@@ -8,7 +8,7 @@ use Rattle.crn_vec.specs.Vectors.{entry}
 use Rattle.crn_vec.specs.CutPairs.{IsOnSide, IsCutPair}
 use Rattle.crn_cert.specs.Ranges.{AreBits}
 use Rattle.crn_cert.specs.Says.{IsReactionNumber}
-use Rattle.crn_cert.specs.Formed.{IsWalkList}
+use Rattle.crn_cert.specs.Data.{IsWalkOf}
 use Rattle.crn_cert.specs.ClassTests.{AreSideMarks, IsWayRound}
 use Rattle.crn_graph.specs.declared.pair.CutPair.{CutPair}
 use Rattle.crn_graph.specs.declared.pair.CutPair.TheVariants.{Side, Walk}
@@ -30,7 +30,7 @@ pub record HasWayRound (net : Net) (r : ℕ) (walk : List ℕ) : Type 0 where
   pub z : ℕ
   pub goes : IsReactionNumber net r y z
   pub no_pair : IsCutPair net.reactions y z → ⊥
-  pub listed : IsWalkList net walk
+  pub listed : IsWalkOf (length net.complexes) walk
   pub way : IsWayRound net r walk
 
 -- the pair of reaction r is a cut pair with this side, or it is not one, as this walk shows

@@ -2,7 +2,7 @@ ghost use Rattle.std.specs.Prelude.{◌≡◌, ◌≤◌, ◌<◌, ◌+◌, leng
 ghost use Rattle.crn_vec.specs.declared.limits.TheConstants.{MAX_COMPLEXES};
 ghost use Rattle.crn_vec.specs.Linkage.{AreRightLabels};
 ghost use Rattle.crn_cert.specs.Ranges.{IsFrom, AreFrom};
-ghost use Rattle.crn_cert.specs.Formed.{IsForest};
+ghost use Rattle.crn_cert.specs.Parts.{IsForest};
 ghost use Rattle.crn_cert.specs.ClassTests.{AreNumbered, AreEven, AreLinkTrees};
 ghost use Rattle.crn_graph.specs.Inner.Search.{IsBlank};
 ghost use Rattle.crn_graph.specs.Inner.Linkage.{IsReturning, AreClassesTo};

@@ -2,7 +2,7 @@ ghost use Rattle.std.specs.Prelude.{◌≡◌, ◌≤◌, ◌<◌, ◌-◌, ℕ,
 ghost use Rattle.crn_vec.specs.declared.limits.TheConstants.{MAX_COMPLEXES};
 ghost use Rattle.crn_vec.specs.Strong.{AreRightStrongLabels};
 ghost use Rattle.crn_cert.specs.Ranges.{IsFrom, AreFrom};
-ghost use Rattle.crn_cert.specs.Formed.{IsForest};
+ghost use Rattle.crn_cert.specs.Parts.{IsForest};
 ghost use Rattle.crn_cert.specs.ClassTests.{AreNumbered, AreFromTrees, AreToTrees, DoLevelsFall, AreAllExits, of_class, zeros_in};
 ghost use Rattle.crn_graph.specs.declared.arcs.Arc.{Arc};
 ghost use Rattle.crn_graph.specs.Inner.Arcs.{AreArcsWithin};

@@ -12,7 +12,7 @@ use Rattle.crn_farkas.specs.declared.fault.Stop.{Stop}
 use Rattle.crn_farkas.specs.declared.fault.Stop.TheVariants.{Wide, NoMemory}
 use Rattle.crn_cert.specs.declared.answer.RankProof.{RankProof}
 use Rattle.crn_cert.specs.Tests.{AllHold}
-use Rattle.crn_cert.specs.Formed.{IsRankProof}
+use Rattle.crn_cert.specs.Parts.{IsRankProof}
 use Rattle.crn_cert.specs.RankTests.{vectors_of, rank_tests}
 
 -- an ascending list of reactions of the network

@@ -21,11 +21,11 @@ use Rattle.crn_cert.specs.Ranges.{IsNarrow, AreFree, AreFreeRows}
 use Rattle.crn_cert.specs.Says.{AreLinkageClasses, AreStrongClasses}
 use Rattle.crn_cert.specs.Tests.{AllHold}
 use Rattle.crn_cert.specs.ConfluenceTests.{IsInSpace, DoTerminalsGather, least_from, others_than, tie_tests}
-use Rattle.crn_cert.specs.Formed.{IsBasisOf}
+use Rattle.crn_cert.specs.Data.{IsBasisOf}
 use Rattle.crn_cert.specs.Valid.{linkage, linkage_count, strong, exits}
 use Rattle.crn_cert.specs.Answered.{IsAnswer}
 use Rattle.crn_cert.specs.Given.{GiveClasses}
-use Rattle.crn_cert.proofs.CallerLemmas.{wide_basis}
+use Rattle.crn_cert.proofs.CallerLemmas.{wide_basis, vector_is_formed, zero_is_formed}
 use Rattle.crn_tab.specs.Tableau.{AreSmall}
 use Rattle.crn_reg.specs.Inner.Spaces.{IsSolution, IsFirstPlace, IsTieOf, AreTies, numbers_but, IsLine, ArePlane, IsOnlyZero}
 use Rattle.crn_reg.specs.Inner.Normal.{IsSameOrNegative, GathersFirst}
@@ -157,7 +157,7 @@ line_answer net budget earlier links count strong_count terminal labels exit_lis
     let hold_at : AllHold (tie_tests net links count (λ d. d ≡ place) 2 (others_than net place) ties) = ties_hold net links count place (λ d. d ≡ place) 2 (others_than net place) ties (λ d lt f. f) line.ties_are in
     let hold : AllHold (tie_tests net links count (λ d. d ≡ least_from 0 g) 2 (others_than net (least_from 0 g)) ties) = subst (λ (c : ℕ). AllHold (tie_tests net links count (λ d. d ≡ c) 2 (others_than net c) ties)) (sym least) hold_at in
     record {
-      formed = (tt, (free_by n g kept.solution.long kept.small, ties_free net links count (linkage_count earlier) place (n - 1) ties e.gives.count_is (but_count place n line.inside) line.ties_are));
+      formed = vector_is_formed net earlier vector ties (free_by n g kept.solution.long kept.small) (ties_free net links count (linkage_count earlier) place (n - 1) ties e.gives.count_is (but_count place n line.inside) line.ties_are);
       valid = (
         e.yes',
         (
@@ -193,7 +193,7 @@ zero_answer net budget earlier links count strong_count terminal labels exit_lis
     let zip : AllZip (IsTieOf a n) (range_with_len 0 n) ties = subst (λ (cs : List ℕ). AllZip (IsTieOf a n) cs ties) all only.ties_are in
     let hold : AllHold (tie_tests net links count (λ d. ⊥) 1 (range_with_len 0 n) ties) = ties_hold net links count n (λ d. ⊥) 1 (range_with_len 0 n) ties (λ d lt f. omega (arith, lt, f)) zip in
     record {
-      formed = (tt, ties_free net links count (linkage_count earlier) n n ties e.gives.count_is (ap length all ∙ length-range_with_len 0 n) only.ties_are);
+      formed = zero_is_formed net earlier ties (ties_free net links count (linkage_count earlier) n n ties e.gives.count_is (ap length all ∙ length-range_with_len 0 n) only.ties_are);
       valid = (e.yes', by_given earlier links count labels exit_list (λ ls m. AllHold (tie_tests net ls m (λ d. ⊥) 1 (range_with_len 0 n) ties)) e.gives hold);
       answered = (k.regular, λ g s. only.none g (solution_by_space net links count g k.linkage_is s));
     }
@@ -213,8 +213,12 @@ plane_answer net budget earlier links count strong_count terminal labels exit_li
     by_given earlier links count labels exit_list (λ ls m. IsInSpace net ls m y) e.gives (tests_by_solution net links count y k.network s) in
     record {
       formed = (
-        ((plane.from, omega (arith, plane.less, plane.inside)), (omega (arith, plane.from, plane.less), plane.inside), λ f. omega (arith, f, plane.less)),
-        (free_by n g kg.solution.long kg.small, free_by n h kh.solution.long kh.small),
+        record {
+          head = (((plane.from, omega (arith, plane.less, plane.inside)), (omega (arith, plane.from, plane.less), plane.inside), λ f. omega (arith, f, plane.less)), tt);
+          rows = (free_by n g kg.solution.long kg.small, (free_by n h kh.solution.long kh.small, tt));
+          trees = tt;
+        },
+        (refl, refl),
       );
       valid = (
         e.yes',
@@ -246,7 +250,7 @@ open_answer net budget earlier links count strong_count terminal labels exit_lis
     let rows : length a.rows ≡ length net.names + linkage_count earlier = row_count net links count ∙ ap (λ (m : ℕ). length net.names + m) (sym e.gives.count_is) in
     let form : IsBasisOf (length net.complexes) (length net.names + linkage_count earlier) index basis.list = wide_basis a (length net.complexes) (length net.names + linkage_count earlier) index basis.list refl rows wide in
     record {
-      formed = ((refl, refl, form), refl);
+      formed = (record { head = ((refl, refl, form), tt); rows = tt; trees = tt }, (refl, refl));
       valid = tt;
-      answered = ((refl, refl, form), (e.yes', record { labels = links; count = count; labelled = k.linkage_is.labelled; count_is = k.linkage_is.count_is; wide = wide }));
+      answered = (((refl, refl, form), tt), (e.yes', record { labels = links; count = count; labelled = k.linkage_is.labelled; count_is = k.linkage_is.count_is; wide = wide }));
     }

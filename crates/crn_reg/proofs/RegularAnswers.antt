@@ -19,12 +19,12 @@ use Rattle.crn_cert.specs.Ranges.{IsFrom, AreBits}
 use Rattle.crn_cert.specs.Says.{AreStrongClasses, IsCycle, from_zero}
 use Rattle.crn_cert.specs.Tests.{AllHold}
 use Rattle.crn_cert.specs.ClassTests.{AreSideMarks}
-use Rattle.crn_cert.specs.Formed.{AreSides}
+use Rattle.crn_cert.specs.Parts.{AreSides}
 use Rattle.crn_cert.specs.Valid.{linkage, linkage_count, exits, ends_at, is_within_terminal, is_least_of_pair, pair_places, side_tests, HaveOneEach, IsFirstSplit}
 use Rattle.crn_cert.specs.Law.{IsTrueOrOpen}
 use Rattle.crn_cert.specs.Answered.{IsAnswer}
 use Rattle.crn_cert.specs.Given.{GiveClasses}
-use Rattle.crn_cert.proofs.CallerLemmas.{pair_places_are_pairs, range_bounds}
+use Rattle.crn_cert.proofs.CallerLemmas.{pair_places_are_pairs, range_bounds, sides_are_formed}
 use Rattle.crn_graph.specs.Pair.{HasSide, HasWayRound}
 use Rattle.crn_pairs.specs.Pairs.{pairs_to, is_pair}
 use Rattle.crn_reg.specs.Inner.Verdicts.{plain, by_dependence}
@@ -97,7 +97,7 @@ yes_answer net budget earlier links labels exit_list pairs count v sides k h =
     let places : AllZip (HasSide net) (pair_places net earlier) sides = subst (λ (rs : List ℕ). AllZip (HasSide net) rs sides) (sym e) h in
     let yes : IsYes (on earlier Q7) = subst IsYes (sym k.seven) tt in
     record {
-      formed = (tt, sides_are net (pair_places net earlier) sides places);
+      formed = sides_are_formed net earlier sides (sides_are net (pair_places net earlier) sides places);
       valid = ((k.each, yes), side_tests_hold net earlier links 1 (pair_places net earlier) sides k.gives.labels_are k.labelled places);
       answered = record { terminal = k.one; dependent = (v.list, k.true_seven); cut_pairs = all_cut_pairs net pairs sides k.are h };
     }
@@ -106,7 +106,7 @@ rests : (net : Net) (budget : ℕ) (earlier : Earlier) (links labels exit_list p
     → IsAnswer net budget earlier Q11 (plain (Unknown (Rests 7)))
 rests net budget earlier links labels exit_list pairs count gap sides k h =
     let open_seven : IsOpen (on earlier Q7) = subst IsOpen (sym k.seven) tt in
-    record { formed = (refl, refl); valid = tt; answered = (refl, open_seven, (k.one, all_cut_pairs net pairs sides k.are h)) }
+    record { formed = (record { head = ((omega arith, omega arith), tt); rows = tt; trees = tt }, (refl, refl)); valid = tt; answered = (refl, open_seven, (k.one, all_cut_pairs net pairs sides k.are h)) }
 
 pub sides_answer : (net : Net) (budget : ℕ) (earlier : Earlier) (links labels exit_list pairs : List ℕ) (count : ℕ) (q7 : Verdict) (sides : List (List ℤ)) → Ready net earlier links labels exit_list pairs count q7 → (IsNo q7 → ⊥) → AllZip (HasSide net) pairs sides
     → IsAnswer net budget earlier Q11 (by_dependence q7 sides)
@@ -149,7 +149,10 @@ cycle_answer net budget earlier links labels exit_list pairs count q7 r walk k n
     let within = (and_cases (is_within_terminal earlier (ends_at net r)) (is_least_of_pair net r) f.1).0 in
     let seven : IsYes (on earlier Q7) ⊎ IsOpen (on earlier Q7) = subst (λ (v : Verdict). IsYes v ⊎ IsOpen v) (sym k.seven) (yes_or_open net q7 k.true_seven nay) in
     record {
-      formed = ((b.0, most), h.listed);
+      formed = (
+        record { head = ((b.0, most), tt); rows = (h.listed, tt); trees = tt },
+        (refl, refl),
+      );
       valid = ((k.each, seven, (b.0, most, within)), (h.way, tt));
       answered = (k.one, cycle_is net pairs walk.list r k.are i h);
     }
@@ -158,10 +161,10 @@ cycle_answer net budget earlier links labels exit_list pairs count q7 r walk k n
 
 pub split_answer : (net : Net) (budget : ℕ) (earlier : Earlier) (class number : ℕ) → IsFrom 1 (linkage_count earlier) class → IsFrom 2 (length net.complexes) number → IsFirstSplit earlier class number → IsFirstSplitClass net class number
     → IsAnswer net budget earlier Q11 (plain (NoTerminal class number))
-split_answer net budget earlier class number place many tests split = record { formed = ((place, many), tt); valid = (tests, tt); answered = split }
+split_answer net budget earlier class number place many tests split = record { formed = (record { head = (place, (many, tt)); rows = tt; trees = tt }, (refl, refl)); valid = (tests, tt); answered = split }
 
 pub dependence_answer : (net : Net) (budget : ℕ) (earlier : Earlier) → HasOneTerminalEach net → HaveOneEach earlier → IsNo (on earlier Q7) → (IsPositivelyDependent net → ⊥) → IsAnswer net budget earlier Q11 (plain NoDependence)
-dependence_answer net budget earlier one each fails none = record { formed = (tt, tt); valid = ((each, fails), tt); answered = (one, none) }
+dependence_answer net budget earlier one each fails none = record { formed = (record { head = tt; rows = tt; trees = tt }, (refl, refl)); valid = ((each, fails), tt); answered = (one, none) }
 
 -- a true or open verdict that gives no multipliers is not a no
 pub not_a_no : (net : Net) (q7 : Verdict) → IsTrueOrOpen net Q7 q7 → ((m : KeptInts) → q7 ≡ NoVec m → ⊥) → IsNo q7 → ⊥

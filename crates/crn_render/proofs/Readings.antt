@@ -28,8 +28,8 @@ strong_readable net earlier Q2 count terminal label exit p = (p.1.0.long, omega 
 strong_readable net earlier q count terminal label exit p = absurd p.0
 
 reaction_readable : (net : Net) (earlier : Earlier) (q : Question) (r : ℕ) → IsFormedVerdict net earlier q (NoReaction r) → IsReadable net (NoReaction r)
-reaction_readable net earlier Q3 r p = p.0
-reaction_readable net earlier Q4 r p = p.0
+reaction_readable net earlier Q3 r p = p.0.0
+reaction_readable net earlier Q4 r p = p.0.0
 reaction_readable net earlier q r p = absurd p.0
 
 cycle_readable : (net : Net) (earlier : Earlier) (q : Question) (r : ℕ) (walk : KeptNums) → IsFormedVerdict net earlier q (NoCycle r walk) → IsReadable net (NoCycle r walk)

@@ -8,7 +8,7 @@ use Rattle.crn_vec.specs.Deficiency.{IsLabelled}
 use Rattle.crn_vec.specs.Sums.{AreMarks}
 use Rattle.crn_vec.proofs.CallerLemmas.{all_at, one_ne_zero}
 use Rattle.crn_cert.specs.ClassTests.{AreSideMarks}
-use Rattle.crn_cert.specs.Formed.{AreSides as AreFormedSides}
+use Rattle.crn_cert.specs.Parts.{AreSides as AreFormedSides}
 use Rattle.crn_cert.specs.Questions.{Earlier, Q2, on}
 use Rattle.crn_cert.specs.Ranges.{AreBits}
 use Rattle.crn_cert.specs.Says.{IsTrueOf, from_zero}

@@ -31,11 +31,12 @@ use Rattle.crn_cert.specs.Tests.{AllHold}
 use Rattle.crn_cert.specs.Trees.{Plan, Both, Three, RulesA, RulesB, Level, node_count, IsFormedTree}
 use Rattle.crn_cert.specs.Nodes.{Said, Fits}
 use Rattle.crn_cert.specs.TreeTests.{tree_tests}
-use Rattle.crn_cert.specs.Formed.{IsSignalTree, IsWideGap, AreSignalRows}
+use Rattle.crn_cert.specs.Formed.{IsWideGap}
+use Rattle.crn_cert.specs.Parts.{IsSignalTree, AreSignalRows}
 use Rattle.crn_cert.specs.Valid.{IsSignalNode, IsNodeOf, HasVector, pair_places}
 use Rattle.crn_cert.specs.Licensed.{IsSignalWide, PassForSignals}
 use Rattle.crn_cert.specs.Answered.{IsAnswer}
-use Rattle.crn_cert.proofs.CallerLemmas.{tests_decide_valid_trees, leaves_nothing, shapes_exist, tops_are_counted, hold_append, hold_parts, count_places, formed_tree}
+use Rattle.crn_cert.proofs.CallerLemmas.{tests_decide_valid_trees, leaves_nothing, shapes_exist, tops_are_counted, hold_append, hold_parts, count_places, formed_tree, signal_trees_fit, vector_is_given}
 use Rattle.crn_cert.proofs.CallerLemmas.{wide_basis, none_at_all}
 use Rattle.crn_sign.specs.declared.end.SearchEnd.TheVariants.{Found, Refuted}
 use Rattle.crn_sign.specs.declared.fault.SearchStop.{SearchStop}
@@ -144,7 +145,7 @@ pub one_is : (net : Net) (earlier : Earlier) (g : List ℤ) (weak : Bool) (budge
 one_is net earlier g weak budget tree n regular line normal to not v e =
     let t = tree_for net earlier g budget tree n v.strong_is normal.confluence.space.long e in
     record {
-      formed = (tt, ((λ yes. not (v.weak_is.0 yes)), t.formed));
+      formed = (record { head = tt; rows = tt; trees = signal_trees_fit net earlier (tree ∷ []) ((λ yes. not (v.weak_is.0 yes)), t.formed) }, (refl, refl));
       valid = (has_vector net earlier g weak v, nodes_of net earlier g weak (pos 1) 1 tree v (t.tests 1));
       answered = (regular, line, none_at_all net g n regular line normal.confluence (no_signal net g budget tree n regular e) (λ w. absurd (not (to w))));
     }
@@ -156,7 +157,7 @@ two_is net earlier g budget tree second n regular line normal v e f =
     let u = tree_for net earlier (negative g) budget second n v.strong_is (length-scale (negsuc 0) g ∙ normal.confluence.space.long) f in
     let last = 1 + node_count tree in
     record {
-      formed = (tt, (v.weak_is.1 refl, t.formed, u.formed));
+      formed = (record { head = tt; rows = tt; trees = signal_trees_fit net earlier (tree ∷ second ∷ []) (v.weak_is.1 refl, t.formed, u.formed) }, (refl, refl));
       valid = (
         has_vector net earlier g true v,
         hold_append (tree_tests (IsNodeOf net earlier (pos 1)) 1 [] tree) (tree_tests (IsNodeOf net earlier (negsuc 0)) last [] second)
@@ -171,7 +172,7 @@ pub spent_is : (net : Net) (earlier : Earlier) (g : List ℤ) (weak : Bool) (bud
     → PassForSignals net g budget ⊎ (IsWeaklyReversible net.reactions × HasNoSignal net g × PassForSignals net (negative g) budget)
     → IsAnswer net budget earlier Q13 (spent_answer budget)
 spent_is net earlier g weak budget low high v p = record {
-  formed = ((low, high), refl);
+  formed = (record { head = ((low, high), tt); rows = tt; trees = tt }, (refl, refl));
   valid = tt;
   answered = (refl, given net earlier g weak (λ x. PassForSignals net x budget ⊎ (IsWeaklyReversible net.reactions × HasNoSignal net x × PassForSignals net (negative x) budget)) v p);
 }
@@ -189,9 +190,9 @@ wide_five : (net : Net) (earlier : Earlier) (g : List ℤ) (weak : Bool) (budget
 wide_five net earlier g weak budget index basis s n even v sh h =
     let z = sizes net earlier g s n v.strong_is even sh in
     let b = wide_basis (shelf_matrix s) (length net.names + 1) (length net.complexes + length (pair_places net earlier)) index basis.list (ap (λ (k : ℕ). k + 1) sh.shape.species) z.rows h in
-    let gap : IsWideGap net earlier Q13 5 0 index basis.list = inr (refl, refl, has_vector net earlier g weak v, b) in
+    let gap : IsWideGap net earlier Q13 5 0 index basis.list = (inr (refl, refl, vector_is_given (on earlier Q12) (has_vector net earlier g weak v), b), tt) in
     record {
-      formed = (gap, refl);
+      formed = (record { head = gap; rows = tt; trees = tt }, (refl, refl));
       valid = tt;
       answered = (gap, given net earlier g weak (λ x. IsSignalWide net x 5 basis.list index) v (inr (refl, (s, sh, h))));
     }
@@ -199,9 +200,9 @@ wide_five net earlier g weak budget index basis s n even v sh h =
 wide_two : (net : Net) (earlier : Earlier) (g : List ℤ) (weak : Bool) (budget index : ℕ) (basis : KeptNums) → GiveVector net earlier g weak → NamesWide (reaction_system net) index basis.list → IsAnswer net budget earlier Q13 (wide_answer 2 index basis)
 wide_two net earlier g weak budget index basis v h =
     let b = wide_basis (reaction_system net) (length net.reactions) (length net.names) index basis.list refl (rows_count net) h in
-    let gap : IsWideGap net earlier Q13 2 0 index basis.list = inl (refl, refl, b) in
+    let gap : IsWideGap net earlier Q13 2 0 index basis.list = (inl (refl, refl, b), tt) in
     record {
-      formed = (gap, refl);
+      formed = (record { head = gap; rows = tt; trees = tt }, (refl, refl));
       valid = tt;
       answered = (gap, given net earlier g weak (λ x. IsSignalWide net x 2 basis.list index) v (inl (refl, h)));
     }
@@ -282,7 +283,7 @@ found_is net earlier g weak turn budget count terminal labels exits q pattern a 
     } in
     let made : Answer = record { verdict = YesSignal turn f.shelves f.mu (entry a.list (length net.names)) f.weights; proof = Nothing } in
     let done : IsAnswer net budget earlier Q13 made = record {
-      formed = (is_turn, rows);
+      formed = (record { head = (is_turn, tt); rows = (rows.shelves_are, (rows.mu_is, (rows.level_is, (rows.weights_are, tt)))); trees = tt }, (refl, refl));
       valid = ((has_vector net earlier g weak v, λ t. v.weak_is.1 (by_weak t)), (given net earlier g weak (λ x. IsSignalOf net (by_turn turn x) (map sign f.shelves.list) f.mu.list (entry a.list (length net.names)) f.weights.list) v signal, tt));
       answered = (regular, line, record { turn_is = is_turn; shelves_are = rows.shelves_are.each; g = g; normal = normal; confluence = c; signal = signal });
     } in

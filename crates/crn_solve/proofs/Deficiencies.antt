@@ -33,5 +33,5 @@ gives_rank earlier labels count rank v r l c is = record { labels_are = l; count
 -- an open rank leaves the deficiencies open
 pub rests_given : (net : Net) (budget : ℕ) (earlier : Earlier) (v : Verdict) → IsOpen v → on earlier Q5 ≡ tight v → IsAnswer net budget earlier Q6 (rests_answer 5)
 rests_given net budget earlier v o is =
-    let formed : IsFormed net earlier Q6 (rests_answer 5) = (refl, refl) in
+    let formed : IsFormed net earlier Q6 (rests_answer 5) = (record { head = ((omega arith, omega arith), tt); rows = tt; trees = tt }, (refl, refl)) in
     record { formed = formed; valid = tt; answered = (refl, subst IsOpen (sym is) (subst (λ (A : Type 0). A) (sym (open_tight v)) o), tt) }

@@ -45,13 +45,13 @@ even_if_none net labels none y z i =
 pub weak_yes : (net : Net) (labels : List ℕ) (earlier : Earlier) → IsNetwork net → strong earlier ≡ labels → IsTrueOf net Q2 (on earlier Q2) → AreEven net labels → IsDecidedAnswer net earlier Q4 (record { verdict = Yes; proof = Nothing })
 weak_yes net labels earlier n same known even =
     let answer : Answer = record { verdict = Yes; proof = Nothing } in
-    let formed : IsFormed net earlier Q4 answer = (tt, tt) in
+    let formed : IsFormed net earlier Q4 answer = (record { head = tt; rows = tt; trees = tt }, (refl, refl)) in
     let valid : IsValid net earlier Q4 answer = (subst (AreEven net) (sym same) even, tt) in
     record { formed = formed; valid = valid; true_of = valid_answers_are_true Q4 net earlier answer n (known, tt) tt formed valid; decided = λ o. o }
 
 pub weak_no : (net : Net) (labels : List ℕ) (r : ℕ) (earlier : Earlier) → IsNetwork net → strong earlier ≡ labels → IsTrueOf net Q2 (on earlier Q2) → IsFirstLeaving net labels r → IsDecidedAnswer net earlier Q4 (record { verdict = NoReaction r; proof = Nothing })
 weak_no net labels r earlier n same known h =
     let answer : Answer = record { verdict = NoReaction r; proof = Nothing } in
-    let formed : IsFormed net earlier Q4 answer = (h.from, tt) in
+    let formed : IsFormed net earlier Q4 answer = (record { head = (h.from, tt); rows = tt; trees = tt }, (refl, refl)) in
     let valid : IsValid net earlier Q4 answer = (subst (λ (ls : List ℕ). JoinsTwoLabels net ls r) (sym same) h.leaves, tt) in
     record { formed = formed; valid = valid; true_of = valid_answers_are_true Q4 net earlier answer n (known, tt) tt formed valid; decided = λ o. o }

@@ -51,20 +51,20 @@ pub dependence_decided : (net : Net) (budget : ℕ) (earlier : Earlier) (d : Dec
 dependence_decided net budget earlier (Feasible x) n h =
     let s = positive_solution (reaction_system net) x.list h in
     let answer : Answer = vector_answer (Feasible x) in
-    let formed : IsFormed net earlier Q7 answer = (tt, s.free) in
+    let formed : IsFormed net earlier Q7 answer = (record { head = tt; rows = (s.free, tt); trees = tt }, (refl, refl)) in
     let valid : IsValid net earlier Q7 answer = (dependence net x.list n s, tt) in
     record { formed = formed; valid = valid; answered = valid_answers_are_true Q7 net earlier answer n tt tt formed valid }
 dependence_decided net budget earlier (Infeasible u) n h =
     let c = positive_cut (reaction_system net) u.list h in
     let answer : Answer = vector_answer (Infeasible u) in
-    let formed : IsFormed net earlier Q7 answer = (tt, subst (λ (m : ℕ). AreFree m u.list) (rows_count net) c.free) in
+    let formed : IsFormed net earlier Q7 answer = (record { head = tt; rows = (subst (λ (m : ℕ). AreFree m u.list) (rows_count net) c.free, tt); trees = tt }, (refl, refl)) in
     let valid : IsValid net earlier Q7 answer = (no_dependence net u.list n c, tt) in
     record { formed = formed; valid = valid; answered = valid_answers_are_true Q7 net earlier answer n tt tt formed valid }
 
 pub dependence_wide : (net : Net) (budget : ℕ) (earlier : Earlier) (index : ℕ) (basis : KeptNums) → IsStop (reaction_system net) (positive_kinds (reaction_system net)) (Wide index basis) → IsAnswer net budget earlier Q7 (wide_answer 2 index basis)
 dependence_wide net budget earlier index basis h =
-    let gap : IsWideGap net earlier Q7 2 0 index basis.list = (refl, refl, wide_basis (reaction_system net) (length net.reactions) (length net.names) index basis.list refl (rows_count net) h.0) in
-    record { formed = (gap, refl); valid = tt; answered = (gap, (h.2, h.0)) }
+    let gap : IsWideGap net earlier Q7 2 0 index basis.list = ((refl, refl, wide_basis (reaction_system net) (length net.reactions) (length net.names) index basis.list refl (rows_count net) h.0), tt) in
+    record { formed = (record { head = gap; rows = tt; trees = tt }, (refl, refl)); valid = tt; answered = (gap, (h.2, h.0)) }
 
 -- ---- conservation
 
@@ -89,17 +89,17 @@ pub law_decided : (net : Net) (budget : ℕ) (earlier : Earlier) (d : Decision) 
 law_decided net budget earlier (Feasible x) n h =
     let s = positive_solution (species_system net) x.list h in
     let answer : Answer = vector_answer (Feasible x) in
-    let formed : IsFormed net earlier Q8 answer = (tt, s.free) in
+    let formed : IsFormed net earlier Q8 answer = (record { head = tt; rows = (s.free, tt); trees = tt }, (refl, refl)) in
     let valid : IsValid net earlier Q8 answer = (law net x.list s, tt) in
     record { formed = formed; valid = valid; answered = valid_answers_are_true Q8 net earlier answer n tt tt formed valid }
 law_decided net budget earlier (Infeasible u) n h =
     let c = positive_cut (species_system net) u.list h in
     let answer : Answer = vector_answer (Infeasible u) in
-    let formed : IsFormed net earlier Q8 answer = (tt, subst (λ (m : ℕ). AreFree m u.list) (vectors_count net) c.free) in
+    let formed : IsFormed net earlier Q8 answer = (record { head = tt; rows = (subst (λ (m : ℕ). AreFree m u.list) (vectors_count net) c.free, tt); trees = tt }, (refl, refl)) in
     let valid : IsValid net earlier Q8 answer = (no_law net u.list n c, tt) in
     record { formed = formed; valid = valid; answered = valid_answers_are_true Q8 net earlier answer n tt tt formed valid }
 
 pub law_wide : (net : Net) (budget : ℕ) (earlier : Earlier) (index : ℕ) (basis : KeptNums) → IsStop (species_system net) (positive_kinds (species_system net)) (Wide index basis) → IsAnswer net budget earlier Q8 (wide_answer 1 index basis)
 law_wide net budget earlier index basis h =
-    let gap : IsWideGap net earlier Q8 1 0 index basis.list = (refl, refl, wide_basis (species_system net) (length net.names) (length net.reactions) index basis.list refl (vectors_count net) h.0) in
-    record { formed = (gap, refl); valid = tt; answered = (gap, (h.2, h.0)) }
+    let gap : IsWideGap net earlier Q8 1 0 index basis.list = ((refl, refl, wide_basis (species_system net) (length net.names) (length net.reactions) index basis.list refl (vectors_count net) h.0), tt) in
+    record { formed = (record { head = gap; rows = tt; trees = tt }, (refl, refl)); valid = tt; answered = (gap, (h.2, h.0)) }

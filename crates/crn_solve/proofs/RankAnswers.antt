@@ -16,7 +16,7 @@ use Rattle.crn_cert.specs.declared.answer.Proof.TheVariants.{Rank as RankRows}
 use Rattle.crn_cert.specs.Questions.{Earlier, Q5}
 use Rattle.crn_cert.specs.Formed.{IsFormed, IsWideGap}
 use Rattle.crn_cert.specs.Valid.{IsValid}
-use Rattle.crn_cert.proofs.CallerLemmas.{valid_answers_are_true, all_vectors}
+use Rattle.crn_cert.proofs.CallerLemmas.{valid_answers_are_true, all_vectors, rank_is_formed}
 use Rattle.crn_rank.specs.Rank.{ProvesRank, member_matrix}
 use Rattle.crn_cert.specs.Answered.{IsAnswer}
 use Rattle.crn_solve.specs.Inner.Given.{IsRankAnswer, wide_answer}
@@ -31,7 +31,8 @@ base_few net proof n h = let r = rank_from net (length proof.base.list) n (rank_
 given : (net : Net) (budget : ℕ) (earlier : Earlier) (proof : RankProof) (base : KeptNums) → IsNetwork net → ProvesRank net (all_places net) proof → base.list ≡ proof.base.list → IsAnswer net budget earlier Q5 (record { verdict = Rank (length proof.base.list) base; proof = RankRows proof })
 given net budget earlier proof base n h same =
     let answer : Answer = record { verdict = Rank (length proof.base.list) base; proof = RankRows proof } in
-    let formed : IsFormed net earlier Q5 answer = (rank_from net (length proof.base.list) n (rank_is net proof h), (same, h.formed)) in
+    let formed : IsFormed net earlier Q5 answer =
+    rank_is_formed net earlier (length proof.base.list) base proof (rank_from net (length proof.base.list) n (rank_is net proof h)) same h.formed in
     let valid : IsValid net earlier Q5 answer = h.holds 1 in
     record { formed = formed; valid = valid; answered = valid_answers_are_true Q5 net earlier answer n tt tt formed valid }
 
@@ -48,5 +49,5 @@ all_members net = ap (λ (rows : List (List ℤ)). let a : Mat = record { cols =
 pub rank_wide : (net : Net) (budget : ℕ) (earlier : Earlier) (index : ℕ) (basis : KeptNums) → NamesWide (member_matrix net (all_places net)) index basis.list → IsAnswer net budget earlier Q5 (wide_answer 1 index basis)
 rank_wide net budget earlier index basis h =
     let wide : NamesWide (species_system net) index basis.list = subst (λ (a : Mat). NamesWide a index basis.list) (all_members net) h in
-    let gap : IsWideGap net earlier Q5 1 0 index basis.list = (refl, refl, wide_basis (species_system net) (length net.names) (length net.reactions) index basis.list refl (vectors_count net) wide) in
-    record { formed = (gap, refl); valid = tt; answered = (gap, wide) }
+    let gap : IsWideGap net earlier Q5 1 0 index basis.list = ((refl, refl, wide_basis (species_system net) (length net.names) (length net.reactions) index basis.list refl (vectors_count net) wide), tt) in
+    record { formed = (record { head = gap; rows = tt; trees = tt }, (refl, refl)); valid = tt; answered = (gap, wide) }

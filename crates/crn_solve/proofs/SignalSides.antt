@@ -12,31 +12,32 @@ use Rattle.crn_cert.specs.declared.answer.Verdict.TheVariants.{Yes, YesVec}
 use Rattle.crn_cert.specs.Questions.{Earlier, Q2, Q11, Q12, on, IsYes}
 use Rattle.crn_cert.specs.Ranges.{IsNarrow}
 use Rattle.crn_cert.specs.Says.{IsTrueOf}
-use Rattle.crn_cert.specs.Formed.{RowsConfluence, IsFormedOf, IsFormed}
+use Rattle.crn_cert.specs.Formed.{IsFormedOf, IsFormed}
 use Rattle.crn_cert.specs.Valid.{linkage, IsValid}
 use Rattle.crn_cert.specs.Verdicts.{tight}
 use Rattle.crn_cert.proofs.CallerLemmas.{yes_tight}
 use Rattle.crn_shape.proofs.CallerLemmas.{tested_sides}
 use Rattle.crn_solve.specs.Inner.Sides.{GiveSides}
+use Rattle.crn_cert.proofs.CallerLemmas.{sides_formed}
 
 -- a yes on regularity is there with the sides
 regular_given : (net : Net) (earlier : Earlier) (v : Verdict) (p : Proof) (vector : KeptInts) → IsNetwork net → IsTrueOf net Q2 (on earlier Q2) → IsLabelled net (linkage earlier) → IsFormedOf net earlier Q11 v p → IsValid net earlier Q11 (record { verdict = v; proof = p })
     → IsYes v → AllByRecursion IsNarrow vector.list → GiveSides net (YesVec vector) p
-regular_given net earlier Yes (Sides sides) vector n strong l f h y narrow = (tested_sides net earlier 1 sides n strong l f.1 h.1, narrow)
-regular_given net earlier Yes p vector n strong l f h y narrow = absurd f.1
-regular_given net earlier (YesVec x) p vector n strong l f h y narrow = absurd f.0
+regular_given net earlier Yes (Sides sides) vector n strong l f h y narrow = (tested_sides net earlier 1 sides n strong l (sides_formed net earlier sides f) h.1, narrow)
+regular_given net earlier Yes p vector n strong l f h y narrow = absurd (let e = f.1.1 in cc)
+regular_given net earlier (YesVec x) p vector n strong l f h y narrow = absurd f.0.head
 regular_given net earlier v p vector n strong l f h y narrow = absurd y
 
 -- ---- the vector
 
-vector_narrow : (net : Net) (earlier : Earlier) (vector : KeptInts) (p : Proof) → RowsConfluence net earlier (YesVec vector) p → AllByRecursion IsNarrow vector.list
-vector_narrow net earlier vector (Ties ties) f = f.0.each
-vector_narrow net earlier vector p f = absurd f
+vector_narrow : (net : Net) (earlier : Earlier) (vector : KeptInts) (p : Proof) → IsFormedOf net earlier Q12 (YesVec vector) p → AllByRecursion IsNarrow vector.list
+vector_narrow net earlier vector (Ties ties) f = f.0.rows.0.each
+vector_narrow net earlier vector p f = absurd (let e = f.1.1 in cc)
 
 both_given : (net : Net) (earlier later : Earlier) (regular : Answer) (v : Verdict) (p : Proof) → IsNetwork net → IsTrueOf net Q2 (on earlier Q2) → IsLabelled net (linkage earlier) → IsFormed net earlier Q11 regular → IsValid net earlier Q11 regular → on later Q11 ≡ tight regular.verdict
     → IsFormedOf net later Q12 v p → IsValid net later Q12 (record { verdict = v; proof = p }) → GiveSides net v regular.proof
 both_given net earlier later regular (YesVec vector) p n strong l f h is f12 h12 =
-    regular_given net earlier regular.verdict regular.proof vector n strong l f h (subst (λ (A : Type 0). A) (ap IsYes is ∙ yes_tight regular.verdict) h12.0) (vector_narrow net later vector p f12.1)
+    regular_given net earlier regular.verdict regular.proof vector n strong l f h (subst (λ (A : Type 0). A) (ap IsYes is ∙ yes_tight regular.verdict) h12.0) (vector_narrow net later vector p f12)
 both_given net earlier later regular v p n strong l f h is f12 h12 = tt
 
 -- formed and valid answers to questions 11 and 12 give both

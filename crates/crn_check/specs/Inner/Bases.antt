@@ -8,7 +8,7 @@ use Rattle.crn_vec.specs.Network.{Net, IsNetwork}
 use Rattle.crn_cert.specs.declared.answer.RankProof.{RankProof}
 use Rattle.crn_cert.specs.Questions.{Earlier}
 use Rattle.crn_cert.specs.Ranges.{IsFrom}
-use Rattle.crn_cert.specs.Formed.{IsRankProof}
+use Rattle.crn_cert.specs.Parts.{IsRankProof}
 use Rattle.crn_cert.specs.Valid.{class_places}
 use Rattle.crn_check.specs.declared.members.Members.{Members}
 use Rattle.crn_check.specs.declared.members.Members.TheVariants.{All, OfClass}

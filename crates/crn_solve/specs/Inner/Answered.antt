@@ -1,7 +1,7 @@
 -- For the contracts of private functions alone. What the answer to a question is.
 -- Source: this project's own.
 -- Shapes: `earlier` holds the verdicts on earlier questions. Labels and reactions count from 1.
-use Rattle.std.specs.Prelude.{◌≡◌, ◌≢◌, ◌<◌, ℕ, List, Some, None, slice_index}
+use Rattle.std.specs.Prelude.{◌≡◌, ◌≢◌, ◌<◌, ℕ, List, Some, None, slice_index, length}
 use Rattle.crn_vec.specs.Network.{Net}
 use Rattle.crn_vec.specs.Rank.{IsRank}
 use Rattle.crn_vec.specs.Deficiency.{vectors}
@@ -10,7 +10,7 @@ use Rattle.crn_cert.specs.declared.answer.Verdict.{Verdict}
 use Rattle.crn_cert.specs.Questions.{Earlier, Question, IsOpen, rank_of}
 use Rattle.crn_cert.specs.Ranges.{IsFrom}
 use Rattle.crn_cert.specs.Says.{IsReactionNumber, IsTrueOf}
-use Rattle.crn_cert.specs.Formed.{reactions, IsFormed}
+use Rattle.crn_cert.specs.Formed.{IsFormed}
 use Rattle.crn_cert.specs.Valid.{IsValid}
 
 -- a formed and valid answer that is not open and whose verdict is true
@@ -33,6 +33,6 @@ JoinsTwoLabels net labels r = (y : ℕ) × (z : ℕ) × IsReactionNumber net r y
 
 -- reaction r is the first that joins two complexes of different labels
 pub record IsFirstLeaving (net : Net) (labels : List ℕ) (r : ℕ) : Type 0 where
-  pub from : IsFrom 1 (reactions net) r
+  pub from : IsFrom 1 (length net.reactions) r
   pub leaves : JoinsTwoLabels net labels r
   pub first : (q : ℕ) → q < r → JoinsTwoLabels net labels q → ⊥

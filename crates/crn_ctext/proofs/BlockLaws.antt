@@ -1,0 +1,75 @@
+-- What the forms and the records of documents have to do with blocks.
+use Rattle.std.specs.Prelude.{◌≡◌, List, ◌∷◌, map}
+use Rattle.std.specs.List.{AllZip}
+use Rattle.crn_cert.specs.declared.answer.Verdict.{Verdict}
+use Rattle.crn_cert.specs.declared.answer.Proof.{Proof}
+use Rattle.crn_cert.specs.Questions.{Question, Q11, Q13}
+use Rattle.crn_cert.specs.Valid.{pair_places}
+use Rattle.crn_cert.specs.Data.{Datum}
+use Rattle.crn_cert.specs.Table as table
+use Rattle.crn_cert.specs.Blocks.{FitsHead, FitsRow, block_of}
+use Rattle.crn_cert.specs.Formed.{IsFormedOf}
+use Rattle.crn_cert.specs.declared.head_kind.HeadKind.{HeadKind}
+use Rattle.crn_ctext.specs.Records as records
+use Rattle.crn_ctext.specs.Records.{Record}
+use Rattle.crn_ctext.specs.Answers.{head_of, records_below}
+use Rattle.crn_ctext.specs.Questions.{heads}
+use Rattle.crn_ctext.specs.Blocks.{below}
+use Rattle.crn_ctext.specs.Documents.{IsOneOf}
+use Rattle.crn_ctext.specs.Meaning.{Known, pairs_of, sizes_of, shapes_of}
+use Rattle.crn_ctext.proofs.Forms.{forms, row_form, head_record, row_records}
+
+-- the linked pairs are known where the forms of a question rest on them
+abbrev pub PairsFor : Question → Known → Type 0
+PairsFor Q11 known = pairs_of known ≡ pair_places known.net known.earlier
+PairsFor Q13 known = pairs_of known ≡ pair_places known.net known.earlier
+PairsFor q known = Unit {0}
+
+-- the forms of heads
+abbrev pub HeadsAsBefore : Type 0
+HeadsAsBefore = (known : Known) (q : Question)
+    → PairsFor q known
+    → heads q (sizes_of known) ≡ forms q (table.sizes_of known.net known.earlier)
+
+-- the records of an answer, but for its trees, are those of its block
+abbrev pub AreRecordsOf : Known → Question → Verdict → Proof → Type 0
+AreRecordsOf known q v p = let b = block_of known.net known.earlier v p in
+    head_of q v ∷ records_below (shapes_of known) (record { verdict = v; proof = p })
+    ≡ head_record q b.kind b.head
+    ∷ row_records (table.rows known.net known.earlier q b.kind b.head) b.rows
+
+-- the records of formed answers
+abbrev pub RecordsAsBefore : Type 0
+RecordsAsBefore = (known : Known) (q : Question) (v : Verdict) (p : Proof)
+    → PairsFor q known → IsFormedOf known.net known.earlier q v p
+    → AreRecordsOf known q v p
+
+-- the forms of the records below a head are those of the table
+abbrev pub RowsAsBefore : Type 0
+RowsAsBefore = (known : Known) (q : Question) (kind : HeadKind) (h : List Datum)
+    → PairsFor q known
+    → FitsHead q (table.sizes_of known.net known.earlier) kind h
+    → below q (shapes_of known) (head_record q kind h)
+    ≡ map row_form (table.rows known.net known.earlier q kind h)
+
+-- the head and the records below it are those of a block that fits, but for its trees
+pub record AreOfBlock (known : Known) (q : Question) (h : Record) (rs : List Record) : Type 0 where
+  pub kind : HeadKind
+  pub head : List Datum
+  pub rows : List Datum
+  pub head_fits : FitsHead q (table.sizes_of known.net known.earlier) kind head
+  pub rows_fit : AllZip FitsRow (table.rows known.net known.earlier q kind head) rows
+  pub head_is : h ≡ head_record q kind head
+  pub rows_are : rs ≡ row_records (table.rows known.net known.earlier q kind head) rows
+
+-- a head that fits a form of its question, and records that fit the forms below it, are of a block
+abbrev pub RecordsAreBlocks : Type 0
+RecordsAreBlocks = (known : Known) (q : Question) (h : Record) (rs : List Record)
+    → PairsFor q known → IsOneOf (heads q (sizes_of known)) h
+    → AllZip records.Fits (below q (shapes_of known) h) rs → AreOfBlock known q h rs
+
+-- and the other way round: the records of a block that fits, but for its trees, fit the forms
+abbrev pub BlocksAreRecords : Type 0
+BlocksAreRecords = (known : Known) (q : Question) (h : Record) (rs : List Record)
+    → PairsFor q known → AreOfBlock known q h rs
+    → IsOneOf (heads q (sizes_of known)) h × AllZip records.Fits (below q (shapes_of known) h) rs

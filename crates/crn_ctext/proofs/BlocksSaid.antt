@@ -1,0 +1,119 @@
+-- The verdict that the records of a block say is that of the block.
+use Rattle.std.proofs.Common.{◌≡◌, ◌∙◌, ℕ, List, [], ◌∷◌, length, map, refl, sym, ap, ap₂, subst}
+use Rattle.std.specs.Prelude.{ℤ, pos}
+use Rattle.std.specs.List.{AllZip, range_with_len}
+use Rattle.std.proofs.lemmas.List.{append-nil}
+use Rattle.crn_vec.proofs.CallerLemmas.{abs_back}
+use Rattle.crn_vec.specs.Kept.{KeptNums}
+use Rattle.crn_cert.specs.declared.answer.Gap.TheVariants.{Wide as WideGap}
+use Rattle.crn_cert.specs.declared.answer.Verdict.TheVariants as verdict
+use Rattle.crn_cert.specs.Questions.{Question, Q1, Q2, Q3, Q4, Q5, Q6, Q7, Q8, Q9, Q10, Q11, Q12, Q13, Q14, Q15}
+use Rattle.crn_ctext.specs.Meaning.{Known, nums, verdict_of as said_verdict, sizes_of as said_sizes}
+use Rattle.crn_ctext.proofs.Forms.{head_record, row_records}
+use Rattle.crn_cert.specs.declared.head_kind.HeadKind.{HeadKind}
+use Rattle.crn_cert.specs.declared.head_kind.HeadKind.TheVariants.{Classes, Strong, Rank, Deficiency, Yes, YesWeak, YesVec, YesSignal, No, NoReaction, NoVec, NoNumber, NoTerminal, NoClass, NoSum, NoDependence, NoCycle, NoPair, NotRegular, OnlyZero, Plane, NotApplicable, Wide, Budget, Rests}
+use Rattle.crn_cert.specs.Data.{Datum, Num, Nums, Ints, Led, Basis}
+use Rattle.crn_cert.specs.Table.{Row, rows, rank_rows, fields, sizes_of}
+use Rattle.crn_cert.specs.Blocks.{FitsRow, FitsHead, verdict_of}
+use Rattle.crn_cert.proofs.CallerLemmas.{AllOf, given, fields_in, fields_of, head_back, rows_back}
+
+-- the records of a head and of the rows below it say the verdict of the block
+abbrev pub IsSaid : Known → Question → HeadKind → List Datum → List Datum → Type 0
+IsSaid known q kind h r = said_verdict q (said_sizes known) (head_record q kind h) (row_records (rows known.net known.earlier q kind h) r) ≡ verdict_of kind h r
+
+abbrev HeadOf : Known → Question → HeadKind → Type 0
+HeadOf known q kind = AllOf (fields_in (fields q (sizes_of known.net known.earlier) kind))
+
+abbrev head_by : (known : Known) (q : Question) (kind : HeadKind) → HeadOf known q kind → List Datum
+head_by known q kind a = given (fields_in (fields q (sizes_of known.net known.earlier) kind)) a
+
+abbrev due : (known : Known) (q : Question) (kind : HeadKind) → HeadOf known q kind → List Row
+due known q kind a = rows known.net known.earlier q kind (head_by known q kind a)
+
+by_rows : (known : Known) (q : Question) (kind : HeadKind) (a : HeadOf known q kind) (r : List Datum) → AllZip FitsRow (due known q kind a) r
+    → ((b : AllOf (fields_of (due known q kind a))) → IsSaid known q kind (head_by known q kind a) (given (fields_of (due known q kind a)) b)) → IsSaid known q kind (head_by known q kind a) r
+by_rows known q kind a r f k = let b = rows_back (due known q kind a) r f in subst (λ (r : List Datum). IsSaid known q kind (head_by known q kind a) r) (sym b.1) (k b.0)
+
+abbrev kept : List ℕ → KeptNums
+kept xs = record { list = xs; spare = 0 }
+
+nums_back : (xs : List ℕ) → nums (map pos xs) ≡ kept xs
+nums_back xs = ap (λ (t : List ℕ). kept t) (abs_back xs)
+
+wide_said : (known : Known) (q : Question) (system class index : ℕ) (basis : List ℕ) (r : List Datum) → IsSaid known q Wide (Basis system class index basis ∷ []) r
+wide_said known q system class index basis r = ap (λ (t : List ℤ). verdict.Unknown (WideGap system class index (nums t))) (append-nil (map pos basis)) ∙ ap (λ (k : KeptNums). verdict.Unknown (WideGap system class index k)) (nums_back basis)
+
+deficiency_said : (known : Known) (total : ℕ) (ds : List ℕ) (r : List Datum) → IsSaid known Q6 Deficiency (Led total ds ∷ []) r
+deficiency_said known total ds r = ap (λ (t : List ℤ). verdict.Deficiency total (nums t)) (append-nil (map pos ds)) ∙ ap (λ (k : KeptNums). verdict.Deficiency total k) (nums_back ds)
+
+rank_said : (known : Known) (rank : ℕ) (r : List Datum) → AllZip FitsRow (rank_rows (length known.net.names) rank (range_with_len 1 (length known.net.reactions))) r → IsSaid known Q5 Rank (Num rank ∷ []) r
+rank_said known rank [] f = absurd f
+rank_said known rank (Nums xs ∷ us) f = ap (λ (k : KeptNums). verdict.Rank rank k) (nums_back xs)
+rank_said known rank (d ∷ us) f = absurd f.0
+
+vector_said : (known : Known) (r : List Datum) → AllZip FitsRow (rows known.net known.earlier Q12 YesVec []) r → IsSaid known Q12 YesVec [] r
+vector_said known [] f = absurd f
+vector_said known (Ints zs ∷ us) f = refl
+vector_said known (d ∷ us) f = absurd f.0
+
+-- for each question and kind of head
+said_by : (known : Known) (q : Question) (kind : HeadKind) (a : HeadOf known q kind) (r : List Datum) → FitsHead q (sizes_of known.net known.earlier) kind (head_by known q kind a) → AllZip FitsRow (due known q kind a) r → IsSaid known q kind (head_by known q kind a) r
+said_by known Q1 Classes a r h f = by_rows known Q1 Classes a r f (λ b. ap (λ (x : KeptNums). verdict.Classes a.0 x) (nums_back b.0))
+said_by known Q2 Strong a r h f = by_rows known Q2 Strong a r f (λ b. ap₂ (λ (x y : KeptNums). verdict.Strong a.0.0 a.0.1 x y) (nums_back b.0) (nums_back b.1.1.1.1.1.1.0))
+said_by known Q3 Yes a r h f = refl
+said_by known Q3 NoReaction a r h f = refl
+said_by known Q4 Yes a r h f = refl
+said_by known Q4 NoReaction a r h f = refl
+said_by known Q5 Rank a r h f = rank_said known a.0 r f
+said_by known Q5 Wide a r h f = wide_said known Q5 a.0.0 a.0.1 a.0.2 a.0.3 r
+said_by known Q6 Deficiency a r h f = deficiency_said known a.0.0 a.0.1 r
+said_by known Q6 Wide a r h f = wide_said known Q6 a.0.0 a.0.1 a.0.2 a.0.3 r
+said_by known Q6 Rests a r h f = refl
+said_by known Q7 YesVec a r h f = by_rows known Q7 YesVec a r f (λ b. refl)
+said_by known Q7 NoVec a r h f = by_rows known Q7 NoVec a r f (λ b. refl)
+said_by known Q7 Wide a r h f = wide_said known Q7 a.0.0 a.0.1 a.0.2 a.0.3 r
+said_by known Q8 YesVec a r h f = by_rows known Q8 YesVec a r f (λ b. refl)
+said_by known Q8 NoVec a r h f = by_rows known Q8 NoVec a r f (λ b. refl)
+said_by known Q8 Wide a r h f = wide_said known Q8 a.0.0 a.0.1 a.0.2 a.0.3 r
+said_by known Q9 YesWeak a r h f = refl
+said_by known Q9 NoNumber a r h f = refl
+said_by known Q9 Rests a r h f = refl
+said_by known Q10 Yes a r h f = refl
+said_by known Q10 NoTerminal a r h f = refl
+said_by known Q10 NoClass a r h f = refl
+said_by known Q10 NoSum a r h f = refl
+said_by known Q10 Rests a r h f = refl
+said_by known Q11 Yes a r h f = refl
+said_by known Q11 NoTerminal a r h f = refl
+said_by known Q11 NoDependence a r h f = refl
+said_by known Q11 NoCycle a r h f = by_rows known Q11 NoCycle a r f (λ b. ap (λ (x : KeptNums). verdict.NoCycle a.0 x) (nums_back b.0))
+said_by known Q11 Rests a r h f = refl
+said_by known Q12 YesVec a r h f = vector_said known r f
+said_by known Q12 NotRegular a r h f = refl
+said_by known Q12 OnlyZero a r h f = refl
+said_by known Q12 Plane a r h f = by_rows known Q12 Plane a r f (λ b. refl)
+said_by known Q12 Wide a r h f = wide_said known Q12 a.0.0 a.0.1 a.0.2 a.0.3 r
+said_by known Q12 Rests a r h f = refl
+said_by known Q13 YesSignal a r h f = by_rows known Q13 YesSignal a r f (λ b. refl)
+said_by known Q13 No a r h f = refl
+said_by known Q13 NotApplicable a r h f = refl
+said_by known Q13 Wide a r h f = wide_said known Q13 a.0.0 a.0.1 a.0.2 a.0.3 r
+said_by known Q13 Budget a r h f = refl
+said_by known Q13 Rests a r h f = refl
+said_by known Q14 Yes a r h f = refl
+said_by known Q14 NoPair a r h f = by_rows known Q14 NoPair a r f (λ b. refl)
+said_by known Q14 Wide a r h f = wide_said known Q14 a.0.0 a.0.1 a.0.2 a.0.3 r
+said_by known Q14 Budget a r h f = refl
+said_by known Q15 Yes a r h f = refl
+said_by known Q15 NoPair a r h f = by_rows known Q15 NoPair a r f (λ b. refl)
+said_by known Q15 Wide a r h f = wide_said known Q15 a.0.0 a.0.1 a.0.2 a.0.3 r
+said_by known Q15 Budget a r h f = refl
+said_by known q kind a r h f = absurd h
+
+-- the records of a block say its verdict
+pub block_said : (known : Known) (q : Question) (kind : HeadKind) (h r : List Datum) → FitsHead q (sizes_of known.net known.earlier) kind h → AllZip FitsRow (rows known.net known.earlier q kind h) r → IsSaid known q kind h r
+block_said known q kind h r f g =
+    let a = head_back (fields q (sizes_of known.net known.earlier) kind) h f in
+    let head = subst (λ (h : List Datum). FitsHead q (sizes_of known.net known.earlier) kind h) a.1 f in
+    let below = subst (λ (h : List Datum). AllZip FitsRow (rows known.net known.earlier q kind h) r) a.1 g in
+    subst (λ (h : List Datum). IsSaid known q kind h r) (sym a.1) (said_by known q kind a.0 r head below)

@@ -1,0 +1,76 @@
+-- The formed records of a block are those of a formed answer, which they say.
+use Rattle.std.proofs.Common.{◌≡◌, ◌∙◌, Bool, true, List, [], ◌∷◌, sym, ap, ap₂, subst}
+use Rattle.std.specs.List.{flat_map}
+use Rattle.crn_vec.proofs.CallerLemmas.{head_is, tail_is}
+use Rattle.crn_cert.specs.declared.answer.Verdict.{Verdict}
+use Rattle.crn_cert.specs.declared.answer.Proof.{Proof}
+use Rattle.crn_cert.specs.Questions.{Question, Q11, Q13}
+use Rattle.crn_cert.specs.Table as table
+use Rattle.crn_cert.specs.Blocks.{Block, verdict_of, proof_of, block_of}
+use Rattle.crn_cert.specs.Formed.{IsFormedOf}
+use Rattle.crn_cert.proofs.CallerLemmas.{blocks_are_of_answers}
+use Rattle.crn_ctext.specs.Records.{Record}
+use Rattle.crn_ctext.specs.Documents as documents
+use Rattle.crn_ctext.specs.Documents.{Parts}
+use Rattle.crn_ctext.specs.Answers.{nodes, head_of, records_below, proof_nodes}
+use Rattle.crn_ctext.specs.Meaning.{Known, shapes_of, sizes_of, verdict_of as said_verdict, meaning}
+use Rattle.crn_ctext.proofs.Forms.{head_record, row_records}
+use Rattle.crn_ctext.proofs.BlockLaws.{PairsFor}
+use Rattle.crn_ctext.proofs.KnownBefore.{AreKnown, after, pairs_known}
+use Rattle.crn_ctext.proofs.TreeRecords.{tree_formed, tree_of}
+use Rattle.crn_ctext.proofs.TablesLinked.{at_root}
+use Rattle.crn_ctext.proofs.RecordsDerived.{records_as_before}
+use Rattle.crn_ctext.proofs.BlocksFormed.{OfTrees, formed_are_blocks, answers_formed, nodes_in}
+use Rattle.crn_ctext.proofs.BlocksSaid.{block_said}
+use Rattle.crn_ctext.proofs.Joined.{answer}
+
+pub of_trees : OfTrees
+of_trees = record {
+  there = λ w tree f. tree_formed w w.choices [] tree (at_root w.choices) f;
+  back = λ w rs t. tree_of w w.choices [] rs (at_root w.choices) t;
+}
+
+-- ---- the pairs
+
+-- the questions whose forms rest on the linked pairs come after question 2
+abbrev pub ComesAfter : Bool → Question → Type 0
+ComesAfter b Q11 = b ≡ true
+ComesAfter b Q13 = b ≡ true
+ComesAfter b q = Unit {0}
+
+abbrev pub AreInOrder : Bool → List Question → Type 0
+AreInOrder b [] = Unit {0}
+AreInOrder b (q ∷ qs) = ComesAfter b q × AreInOrder (after b q) qs
+
+pub pairs_for : (b : Bool) (q : Question) (known : Known) → ComesAfter b q → AreKnown b known.earlier → PairsFor q known
+pairs_for b Q11 known o k = pairs_known known (subst (λ (x : Bool). AreKnown x known.earlier) o k)
+pairs_for b Q13 known o k = pairs_known known (subst (λ (x : Bool). AreKnown x known.earlier) o k)
+pairs_for b q known o k = tt
+
+-- ---- a block
+
+-- the records of the head of a block and of the rows below it
+abbrev above_trees : Known → Question → Block → List Record
+above_trees known q b = head_record q b.kind b.head ∷ row_records (table.rows known.net known.earlier q b.kind b.head) b.rows
+
+-- an answer, with the parts of its block
+pub told : (known : Known) (q : Question) (rs : List Record) (p : Parts rs) → PairsFor q known → documents.IsFormed meaning q known rs p
+    → (v : Verdict) × (u : Proof) × IsFormedOf known.net known.earlier q v u × (p.head ≡ head_of q v) × (p.rows ≡ records_below (shapes_of known) (answer v u)) × (p.nodes ≡ proof_nodes u) × (said_verdict q (sizes_of known) p.head p.rows ≡ v)
+told known q rs p e f =
+    let found = formed_are_blocks of_trees known q rs p e f in
+    let b = found.0 in
+    let fits = found.1 in
+    let v = verdict_of b.kind b.head b.rows in
+    let u = proof_of known.net known.earlier q b.kind b.head b.rows b.trees in
+    let formed = answers_formed known q b fits in
+    let same : block_of known.net known.earlier v u ≡ b = blocks_are_of_answers known.net known.earlier q b fits in
+    let above : head_of q v ∷ records_below (shapes_of known) (answer v u) ≡ above_trees known q b = records_as_before known q v u e formed ∙ ap (λ (c : Block). above_trees known q c) same in
+    let rows = row_records (table.rows known.net known.earlier q b.kind b.head) b.rows in (
+      v,
+      u,
+      formed,
+      found.3 ∙ sym (head_is (head_of q v) (head_record q b.kind b.head) (records_below (shapes_of known) (answer v u)) rows above),
+      found.4 ∙ sym (tail_is (head_of q v) (head_record q b.kind b.head) (records_below (shapes_of known) (answer v u)) rows above),
+      found.5 ∙ sym (nodes_in u ∙ ap (λ (c : Block). flat_map nodes c.trees) same),
+      ap₂ (λ (h : Record) (xs : List Record). said_verdict q (sizes_of known) h xs) found.3 found.4 ∙ block_said known q b.kind b.head b.rows fits.head fits.rows,
+    )

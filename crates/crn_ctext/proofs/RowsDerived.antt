@@ -1,0 +1,149 @@
+-- The forms of the records below a head are those of the table.
+use Rattle.std.proofs.Common.{◌≡◌, ◌+◌, ◌-◌, ◌++◌, ◌∙◌, ℕ, zero, suc, Bool, true, false, List, [], ◌∷◌, length, map, refl, sym, ap, ap₂, subst, arith}
+use Rattle.std.specs.Prelude.{ℤ, pos, replicate, codes}
+use Rattle.std.specs.List.{range_with_len}
+use Rattle.std.proofs.lemmas.List.{append-nil}
+use Rattle.crn_vec.specs.Deficiency.{class_members}
+use Rattle.crn_cert.specs.Questions.{Question, Q1, Q2, Q3, Q4, Q5, Q6, Q7, Q8, Q9, Q10, Q11, Q12, Q13, Q14, Q15, on}
+use Rattle.crn_cert.specs.Valid.{linkage, linkage_count, class_places}
+use Rattle.crn_ctext.specs.Records.{Form}
+use Rattle.crn_ctext.specs.Kinds.{free_form}
+use Rattle.crn_ctext.specs.Questions.{class_forms, heads, rows as landed_rows}
+use Rattle.crn_ctext.specs.Blocks.{below, place_of}
+use Rattle.crn_ctext.specs.Meaning.{Known, pairs_of, has_vector, sizes_of, shapes_of}
+use Rattle.crn_cert.specs.declared.head_kind.HeadKind.{HeadKind}
+use Rattle.crn_cert.specs.declared.head_kind.HeadKind.TheVariants.{Classes, Strong, Rank, Deficiency, Yes, YesWeak, YesVec, YesSignal, No, NoReaction, NoVec, NoNumber, NoTerminal, NoClass, NoSum, NoDependence, NoCycle, NoPair, NotRegular, OnlyZero, Plane, NotApplicable, Wide, Budget, Rests}
+use Rattle.crn_cert.specs.Data.{Datum, Members, FreeSeveral, Side}
+use Rattle.crn_cert.specs.Table.{Row, row, rows, rank_rows, rank_in, class_rows, fields, sizes_of as table_sizes}
+use Rattle.crn_cert.specs.Blocks.{FitsHead}
+use Rattle.crn_ctext.proofs.Forms.{head_record}
+use Rattle.crn_ctext.proofs.Forms.{row_form}
+use Rattle.crn_ctext.proofs.BlockLaws.{PairsFor, RowsAsBefore}
+use Rattle.crn_ctext.proofs.HeadsDerived.{counts}
+use Rattle.crn_cert.proofs.CallerLemmas.{AllOf, given, fields_in, head_back}
+
+abbrev pub HeadOf : Known → Question → HeadKind → Type 0
+HeadOf known q kind = AllOf (fields_in (fields q (table_sizes known.net known.earlier) kind))
+
+abbrev pub head_by : (known : Known) (q : Question) (kind : HeadKind) → HeadOf known q kind → List Datum
+head_by known q kind a = given (fields_in (fields q (table_sizes known.net known.earlier) kind)) a
+
+abbrev AreForms : Known → Question → HeadKind → List Datum → Type 0
+AreForms known q kind h = below q (shapes_of known) (head_record q kind h) ≡ map row_form (rows known.net known.earlier q kind h)
+
+-- ---- forms in numbers
+
+times_said : (word : List ℕ) (width count : ℕ) → map row_form (replicate count (row word (FreeSeveral width))) ≡ replicate count (free_form word width)
+times_said word width zero = refl
+times_said word width (suc n) = ap (λ (t : List Form). free_form word width ∷ t) (times_said word width n)
+
+both_said : (rs more : List Row) → map row_form (rs ++ more) ≡ map row_form rs ++ map row_form more
+both_said [] more = refl
+both_said (r ∷ rs) more = ap (λ (t : List Form). row_form r ∷ t) (both_said rs more)
+
+abbrev rank_by : ℕ → ℕ → List ℕ → List Form
+rank_by species rank members = row_form (row (codes "base") (Members rank members)) ∷ replicate rank (free_form (codes "dual") species) ++ replicate (length members - rank) (free_form (codes "comb") (1 + rank))
+
+rank_said : (species rank : ℕ) (members : List ℕ) → map row_form (rank_rows species rank members) ≡ rank_by species rank members
+rank_said species rank members =
+    let n = length members - rank in
+    ap (λ (t : List Form). row_form (row (codes "base") (Members rank members)) ∷ t)
+    (both_said (replicate rank (row (codes "dual") (FreeSeveral species))) (replicate n (row (codes "comb") (FreeSeveral (suc rank))))
+    ∙ ap₂ (λ (x y : List Form). x ++ y) (times_said (codes "dual") species rank) (times_said (codes "comb") (suc rank) n ∙ ap (λ (w : ℕ). replicate n (free_form (codes "comb") w)) (let w : suc rank ≡ 1 + rank = omega arith in w)))
+
+-- the lists of the classes from k on
+abbrev sizes_from : Known → ℕ → ℕ → List ℕ
+sizes_from known k n = map (λ (xs : List ℕ). length xs) (map (λ j. class_members (linkage known.earlier) j) (range_with_len k n))
+
+abbrev places_from : Known → ℕ → ℕ → List (List ℕ)
+places_from known k n = map (λ j. class_places known.net known.earlier j) (range_with_len k n)
+
+classes_said : (known : Known) (k : ℕ) (ds : List ℕ) → class_forms (sizes_of known) (sizes_from known k (length ds)) (places_from known k (length ds)) (map pos ds) ≡ map row_form (class_rows known.net known.earlier k ds)
+classes_said known k [] = refl
+classes_said known k (d ∷ ds) =
+    let s = length known.net.names in
+    let r = rank_in known.net known.earlier k d in
+    let members = class_places known.net known.earlier k in
+    ap₂ (λ (x y : List Form). x ++ y) (sym (rank_said s r members)) (subst (λ (j : ℕ). class_forms (sizes_of known) (sizes_from known j (length ds)) (places_from known j (length ds)) (map pos ds) ≡ map row_form (class_rows known.net known.earlier (suc k) ds)) (let w : suc k ≡ k + 1 = omega arith in w) (classes_said known (suc k) ds))
+    ∙ sym (both_said (rank_rows s r members) (class_rows known.net known.earlier (suc k) ds))
+
+by_classes : (known : Known) (ds : List ℕ) → length ds ≡ linkage_count known.earlier → class_forms (sizes_of known) (shapes_of known).class_complexes (shapes_of known).class_members (map pos ds) ≡ map row_form (class_rows known.net known.earlier 1 ds)
+by_classes known ds e = subst (λ (n : ℕ). class_forms (sizes_of known) (sizes_from known 1 n) (places_from known 1 n) (map pos ds) ≡ map row_form (class_rows known.net known.earlier 1 ds)) e (classes_said known 1 ds)
+
+sides_said : (c : ℕ) (pairs : List ℕ) → map (λ r. row_form (row (codes "side") (Side r c))) pairs ≡ map row_form (map (λ r. row (codes "side") (Side r c)) pairs)
+sides_said c [] = refl
+sides_said c (r ∷ pairs) = ap (λ (t : List Form). row_form (row (codes "side") (Side r c)) ∷ t) (sides_said c pairs)
+
+by_ties : (known : Known) (n : ℕ) → replicate n (free_form (codes "tie") (length known.net.names + length (sizes_of known).class_reactions)) ≡ map row_form (replicate n (row (codes "tie") (FreeSeveral (length known.net.names + linkage_count known.earlier))))
+by_ties known n = ap (λ (k : ℕ). replicate n (free_form (codes "tie") (length known.net.names + k))) (counts known) ∙ sym (times_said (codes "tie") (length known.net.names + linkage_count known.earlier) n)
+
+-- whether system 5 may be wide or not, no record is below an open head
+abbrev open_below : Known → List (List ℕ) → ℕ → Bool → List Form
+open_below known words n b = landed_rows Q13 (shapes_of known) (place_of (heads Q13 (record (sizes_of known) { vector = b })) words) (pos n ∷ [])
+
+budget_said : (known : Known) (n : ℕ) (b : Bool) → open_below known (codes "q13" ∷ codes "open" ∷ codes "budget" ∷ []) n b ≡ []
+budget_said known n true = refl
+budget_said known n false = refl
+
+rests_said : (known : Known) (n : ℕ) (b : Bool) → open_below known (codes "q13" ∷ codes "open" ∷ codes "rests" ∷ []) n b ≡ []
+rests_said known n true = refl
+rests_said known n false = refl
+
+by_kind : (known : Known) (q : Question) (kind : HeadKind) (a : HeadOf known q kind) → PairsFor q known → FitsHead q (table_sizes known.net known.earlier) kind (head_by known q kind a) → AreForms known q kind (head_by known q kind a)
+by_kind known Q1 Classes a e h = refl
+by_kind known Q2 Strong a e h = refl
+by_kind known Q3 Yes a e h = refl
+by_kind known Q3 NoReaction a e h = refl
+by_kind known Q4 Yes a e h = refl
+by_kind known Q4 NoReaction a e h = refl
+by_kind known Q5 Rank a e h = sym (rank_said (length known.net.names) a.0 (range_with_len 1 (length known.net.reactions)))
+by_kind known Q5 Wide a e h = refl
+by_kind known Q6 Deficiency a e h = ap (λ (zs : List ℤ). class_forms (sizes_of known) (shapes_of known).class_complexes (shapes_of known).class_members zs) (append-nil (map pos a.0.1)) ∙ by_classes known a.0.1 (let x = h.0.1 in x.long)
+by_kind known Q6 Wide a e h = refl
+by_kind known Q6 Rests a e h = refl
+by_kind known Q7 YesVec a e h = refl
+by_kind known Q7 NoVec a e h = refl
+by_kind known Q7 Wide a e h = refl
+by_kind known Q8 YesVec a e h = refl
+by_kind known Q8 NoVec a e h = refl
+by_kind known Q8 Wide a e h = refl
+by_kind known Q9 YesWeak a e h = refl
+by_kind known Q9 NoNumber a e h = refl
+by_kind known Q9 Rests a e h = refl
+by_kind known Q10 Yes a e h = refl
+by_kind known Q10 NoTerminal a e h = refl
+by_kind known Q10 NoClass a e h = refl
+by_kind known Q10 NoSum a e h = refl
+by_kind known Q10 Rests a e h = refl
+by_kind known Q11 Yes a e h = sides_said (length known.net.complexes) (pairs_of known) ∙ ap (λ (ps : List ℕ). map row_form (map (λ r. row (codes "side") (Side r (length known.net.complexes))) ps)) e
+by_kind known Q11 NoTerminal a e h = refl
+by_kind known Q11 NoDependence a e h = refl
+by_kind known Q11 NoCycle a e h = refl
+by_kind known Q11 Rests a e h = refl
+by_kind known Q12 YesVec a e h = ap (λ (t : List Form). free_form (codes "vec") (length known.net.complexes) ∷ t) (by_ties known (length known.net.complexes - 1))
+by_kind known Q12 NotRegular a e h = refl
+by_kind known Q12 OnlyZero a e h = by_ties known (length known.net.complexes)
+by_kind known Q12 Plane a e h = refl
+by_kind known Q12 Wide a e h = refl
+by_kind known Q12 Rests a e h = refl
+by_kind known Q13 YesSignal a e h = refl
+by_kind known Q13 No a e h = refl
+by_kind known Q13 NotApplicable a e h = refl
+by_kind known Q13 Wide a e h = refl
+by_kind known Q13 Budget a e h = budget_said known a.0 (has_vector (on known.earlier Q12))
+by_kind known Q13 Rests a e h = rests_said known a.0 (has_vector (on known.earlier Q12))
+by_kind known Q14 Yes a e h = refl
+by_kind known Q14 NoPair a e h = refl
+by_kind known Q14 Wide a e h = refl
+by_kind known Q14 Budget a e h = refl
+by_kind known Q15 Yes a e h = refl
+by_kind known Q15 NoPair a e h = refl
+by_kind known Q15 Wide a e h = refl
+by_kind known Q15 Budget a e h = refl
+by_kind known q kind a e h = absurd h
+
+pub rows_as_before : RowsAsBefore
+rows_as_before known q kind h e f =
+    let a = head_back (fields q (table_sizes known.net known.earlier) kind) h f in
+    let head = subst (λ (h : List Datum). FitsHead q (table_sizes known.net known.earlier) kind h) a.1 f in
+    subst (λ (h : List Datum). AreForms known q kind h) (sym a.1) (by_kind known q kind a.0 e head)

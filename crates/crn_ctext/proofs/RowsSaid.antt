@@ -1,0 +1,100 @@
+-- Records of a block that fits are those of the forms of its question.
+use Rattle.std.proofs.Common.{◌≡◌, ◌-◌, ◌++◌, ℕ, zero, suc, List, [], ◌∷◌, length, map, refl, sym, subst, inl, inr, replicate}
+use Rattle.std.specs.List.{AllByRecursion, AllZip, range_with_len}
+use Rattle.crn_vec.specs.Lists.{IsIn}
+use Rattle.crn_cert.specs.Valid.{class_places, pair_places}
+use Rattle.crn_cert.specs.Questions.{Question, Q1, Q2, Q3, Q5, Q6, Q7, Q8, Q11, Q12, Q13, Q14, Q15}
+use Rattle.crn_ctext.specs.Records as records
+use Rattle.crn_ctext.specs.Records.{Record, Form, AreOf}
+use Rattle.crn_ctext.specs.Blocks.{below}
+use Rattle.crn_ctext.specs.Documents.{IsOneOf}
+use Rattle.crn_ctext.specs.Meaning.{Known, shapes_of}
+use Rattle.crn_cert.specs.declared.head_kind.HeadKind.{HeadKind}
+use Rattle.crn_cert.specs.declared.head_kind.HeadKind.TheVariants.{Classes, Strong, Rank, Deficiency, Yes, YesVec, YesSignal, NoVec, NoCycle, NoPair, OnlyZero, Plane}
+use Rattle.crn_ctext.proofs.Forms.{numbers_of}
+use Rattle.crn_cert.specs.Data.{Datum}
+use Rattle.crn_cert.specs.Table as table
+use Rattle.crn_cert.specs.Table.{Row, Sizes, rank_rows, rank_in, class_rows, rows_by, others}
+use Rattle.crn_cert.specs.Blocks.{FitsRow}
+use Rattle.crn_ctext.proofs.Forms.{row_record, row_records}
+use Rattle.crn_ctext.proofs.Forms.{ways, way_of, forms, row_form}
+use Rattle.crn_ctext.proofs.BlockLaws.{BlocksAreRecords}
+use Rattle.crn_ctext.proofs.FieldsTyped.{Holds}
+use Rattle.crn_ctext.proofs.FieldsSaid.{field_said, head_said}
+use Rattle.crn_ctext.proofs.HeadsDerived.{heads_as_before}
+use Rattle.crn_ctext.proofs.RowsDerived.{rows_as_before}
+
+-- the numbers of a row are ranged in one way only
+abbrev OneWay : Row → Type 0
+OneWay row = ways row.field ≡ way_of (ways row.field) ∷ []
+
+row_said : (row : Row) (d : Datum) → OneWay row → FitsRow row d → records.Fits (row_form row) (row_record row d)
+row_said row d e f = let s = field_said row.field d f in (refl, by s.0 (subst (IsIn s.0) e s.1) s.2)
+  where
+    by : (way : List records.Field) → IsIn way (way_of (ways row.field) ∷ []) → AreOf Holds way (numbers_of d) → AreOf Holds (way_of (ways row.field)) (numbers_of d)
+    by way (inl s) p = subst (λ (w : List records.Field). AreOf Holds w (numbers_of d)) s p
+    by way (inr none) p = absurd none
+
+rows_said : (due : List Row) (ds : List Datum) → AllByRecursion OneWay due → AllZip FitsRow due ds → AllZip records.Fits (map row_form due) (row_records due ds)
+rows_said [] [] a f = tt
+rows_said [] (d ∷ ds) a f = absurd f
+rows_said (row ∷ due) [] a f = absurd f
+rows_said (row ∷ due) (d ∷ ds) a f = (row_said row d a.0 f.0, rows_said due ds a.1 f.1)
+
+-- ---- the rows of the table
+
+again : (n : ℕ) (row : Row) → OneWay row → AllByRecursion OneWay (replicate n row)
+again zero row e = tt
+again (suc n) row e = (e, again n row e)
+
+both : (xs ys : List Row) → AllByRecursion OneWay xs → AllByRecursion OneWay ys → AllByRecursion OneWay (xs ++ ys)
+both [] ys a b = b
+both (x ∷ xs) ys a b = (a.0, both xs ys a.1 b)
+
+of_rank : (species rank : ℕ) (reactions : List ℕ) → AllByRecursion OneWay (rank_rows species rank reactions)
+of_rank species rank reactions = (refl, both (replicate rank _) (replicate (length reactions - rank) _) (again rank _ refl) (again (length reactions - rank) _ refl))
+
+of_classes : (known : Known) (k : ℕ) (ds : List ℕ) → AllByRecursion OneWay (class_rows known.net known.earlier k ds)
+of_classes known k [] = tt
+of_classes known k (d ∷ ds) =
+    both (rank_rows (length known.net.names) (rank_in known.net known.earlier k d) (class_places known.net known.earlier k)) (class_rows known.net known.earlier (suc k) ds)
+    (of_rank (length known.net.names) (rank_in known.net known.earlier k d) (class_places known.net known.earlier k)) (of_classes known (suc k) ds)
+
+each : (f : ℕ → Row) (xs : List ℕ) → ((x : ℕ) → OneWay (f x)) → AllByRecursion OneWay (map f xs)
+each f [] e = tt
+each f (x ∷ xs) e = (e x, each f xs e)
+
+one_ways : (q : Question) (known : Known) (z : Sizes) (kind : HeadKind) (h : List Datum) → AllByRecursion OneWay (rows_by known.net known.earlier z q kind h)
+one_ways Q1 known z Classes h = (refl, (refl, (refl, tt)))
+one_ways Q2 known z Strong h = (refl, (refl, (refl, (refl, (refl, (refl, (refl, tt)))))))
+one_ways Q3 known z Yes h = (refl, tt)
+one_ways Q5 known z Rank h = of_rank z.species (table.first h) (range_with_len 1 z.reactions)
+one_ways Q6 known z Deficiency h = of_classes known 1 (others h)
+one_ways Q7 known z YesVec h = (refl, tt)
+one_ways Q7 known z NoVec h = (refl, tt)
+one_ways Q8 known z YesVec h = (refl, tt)
+one_ways Q8 known z NoVec h = (refl, tt)
+one_ways Q11 known z Yes h = each _ (pair_places known.net known.earlier) (λ r. refl)
+one_ways Q11 known z NoCycle h = (refl, tt)
+one_ways Q12 known z YesVec h = (refl, again (z.complexes - 1) _ refl)
+one_ways Q12 known z OnlyZero h = again z.complexes _ refl
+one_ways Q12 known z Plane h = (refl, (refl, tt))
+one_ways Q13 known z YesSignal h = (refl, (refl, (refl, (refl, tt))))
+one_ways Q14 known z NoPair h = (refl, (refl, tt))
+one_ways Q15 known z NoPair h = (refl, (refl, tt))
+one_ways q known z kind h = tt
+
+-- ---- a block
+
+pub blocks_are_records : BlocksAreRecords
+blocks_are_records known q h rs e b =
+    let kind = b.kind in
+    let head = b.head in
+    let rows = b.rows in
+    let fits = b.head_fits in
+    let due = table.rows known.net known.earlier q kind head in
+    let forms_are = heads_as_before known q e in
+    let one = subst (λ (fs : List Form). IsOneOf fs h) (sym forms_are) (subst (IsOneOf (forms q (table.sizes_of known.net known.earlier))) (sym b.head_is) (head_said q (table.sizes_of known.net known.earlier) kind head fits)) in
+    let said = rows_said due rows (one_ways q known (table.sizes_of known.net known.earlier) kind head) b.rows_fit in
+    let below_is = subst (λ (h : Record). below q (shapes_of known) h ≡ map row_form due) (sym b.head_is) (rows_as_before known q kind head e fits) in
+    (one, subst (λ (fs : List Form). AllZip records.Fits fs rs) (sym below_is) (subst (AllZip records.Fits (map row_form due)) (sym b.rows_are) said))
