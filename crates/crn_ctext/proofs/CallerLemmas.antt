@@ -4,16 +4,20 @@
 pub use Rattle.crn_ctext.proofs.Courses.{each_is_judged, gives_or_fails, gives_one, first_is_one}
 -- What one course after another gives, and where it fails first.
 pub use Rattle.crn_ctext.proofs.Courses.{gives_then, fails_before, fails_then}
+-- What awaits a line, in the parts of a course.
+pub use Rattle.crn_ctext.proofs.Awaited.{awaits_before, awaits_then, awaits_parts}
+-- Bytes of a document that await a line leave the fault open.
+pub use Rattle.crn_ctext.proofs.LeftOpen.{awaited_open}
 -- The course of documents is settled, and the good documents are those that it gives something for.
 pub use Rattle.crn_ctext.proofs.DocumentsGood.{settled, read_documents_are_good, good_documents_are_read}
 -- A call for the next line is a step of the course at which a line is due.
-pub use Rattle.crn_ctext.proofs.DueSteps.{line_is_due, IsNoLine, line_is_missing}
+pub use Rattle.crn_ctext.proofs.DueSteps.{line_is_due, IsNoLine, line_is_missing, line_is_awaited}
 -- A line of a split begins with a known word.
 pub use Rattle.crn_ctext.proofs.TreesWritten.{split_known}
 -- A place counts the same bytes before and after what a course reads.
 pub use Rattle.crn_ctext.proofs.StepsThen.{gives_counts}
 -- Steps of a reader one after another, and the text of a whole document.
-pub use Rattle.crn_ctext.proofs.StepsThen.{step_then, step_fails_then, step_fails_before, step_ends_then, IsWhole, fails_of_a_text, gives_of_a_text}
+pub use Rattle.crn_ctext.proofs.StepsThen.{step_then, step_fails_then, step_fails_before, step_awaits_then, step_awaits_before, step_ends_then, IsWhole, fails_of_a_text, gives_of_a_text}
 -- What is read of a document is its network and its answers, and what these say is true or open.
 pub use Rattle.crn_ctext.proofs.DocumentsGood.{read_is_of}
 pub use Rattle.crn_ctext.proofs.GoodLaws.{good_one, read_true, written_good, shared_good, shares_fit}
@@ -30,7 +34,7 @@ pub use Rattle.crn_ctext.proofs.ShortAnswers.{AllPlain, formed_are_plain, plain_
 -- Documents of formed answers whose trees have few nodes are shorter than the bound.
 pub use Rattle.crn_ctext.proofs.FewNodes.{document_short, document2_short}
 -- The trees of two sign problems whose leaves have tests that hold together give the same and fail first in the same place, and so do steps by their courses.
-pub use Rattle.crn_ctext.proofs.TreesAlike.{IsLike, HoldTogether, like_itself, like_then, trees_like, step_gives_like, step_fails_like}
+pub use Rattle.crn_ctext.proofs.TreesAlike.{IsLike, HoldTogether, like_itself, like_then, trees_like, step_gives_like, step_fails_like, step_awaits_like}
 -- What records of given forms are, and what a course gives in two parts.
 pub use Rattle.crn_ctext.proofs.FieldsTyped.{zip_none}
 pub use Rattle.crn_ctext.proofs.AnswersApart.{zip_long}

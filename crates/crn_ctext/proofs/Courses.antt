@@ -50,7 +50,7 @@ end_breaks_none at code none (line_too_long d l) = none (λ e. absurd (let n : l
 end_breaks_none at code none (otherwise d l o) = none o
 
 -- what holds of the place after a line holds of the place after the same line
-same_after : (P : List ℕ → Place → Type 0) (at : Place) (line l : List ℕ) (after b : Place) → IsLineAt at line after → IsLineAt at l b → P l b → P line after
+pub same_after : (P : List ℕ → Place → Type 0) (at : Place) (line l : List ℕ) (after b : Place) → IsLineAt at line after → IsLineAt at l b → P l b → P line after
 same_after P at line l after b p q h =
     let same = line_is_one at line l after b p q in
     subst (λ (x : List ℕ). P x after) (sym same.0) (subst (λ (y : Place). P l y) (sym same.1) h)

@@ -38,7 +38,7 @@ text_lines version net records = title version ∷ network_line (length net.reac
 abbrev pub document_lines : Net → List (List Record) → List (List ℕ)
 document_lines net answers = text_lines 1 net (all_of answers)
 
-taken_no_end : (n : ℕ) → HasNoEnd (asks_lines n)
+pub taken_no_end : (n : ℕ) → HasNoEnd (asks_lines n)
 unfolding HasNoEnd asks_lines
 taken_no_end zero = tt
 taken_no_end (suc n) = λ line. no_end_then (asks_lines n) (λ lines. Give (line ∷ lines)) (taken_no_end n) (λ lines. give_no_end (line ∷ lines))

@@ -4,11 +4,11 @@ use Rattle.crn_io.specs.declared.next.Next.{Next}
 use Rattle.crn_io.specs.declared.next.Next.TheVariants.{Line, Last, End, LineTooLong, DocumentTooLong, Failed}
 use Rattle.crn_io.specs.declared.lines.TheConstants.{MAX_DOCUMENT}
 use Rattle.crn_io.specs.Device.{SourceSeen}
-use Rattle.crn_io.specs.Lines.{IsLineAt, BreaksLine, LacksLine, early}
+use Rattle.crn_io.specs.Lines.{Place, IsBegun, IsLineAt, BreaksLine, LacksLine, early}
 use Rattle.crn_io.specs.Next.{KeptLines, NextIs, NextGives, place, code_of, DueIs}
-use Rattle.crn_io.proofs.CallerLemmas.{due_is}
+use Rattle.crn_io.proofs.CallerLemmas.{due_is, asked_begun}
 use Rattle.crn_ctext.specs.Course.{due, Gives, FailsFirst}
-use Rattle.crn_ctext.specs.Steps.{IsRest, StepGives, StepFails}
+use Rattle.crn_ctext.specs.Steps.{Awaits, IsRest, StepGives, StepFails, StepAwaits, cut}
 
 -- the bytes that were ahead, those that came off, and what follows
 abbrev AllAhead : List ℕ → List ℕ → List ℕ → Type 0
@@ -24,6 +24,10 @@ gives_line node n old new bytes rest p = (new.line, place (n + 1) new rest, p, (
 fails_line : (node : Bool) (n : ℕ) (old : KeptLines) (bytes : List ℕ) (code : ℕ) → BreaksLine (place n old bytes) (early node) (LacksLine (place n old bytes)) code → FailsFirst (due node) (place n old bytes) n code
 unfolding FailsFirst
 fails_line node n old bytes code p = inl (refl, p)
+
+line_awaited : (node : Bool) (at : Place) → IsBegun at.before at.left → Awaits (due node) at
+unfolding Awaits
+line_awaited node at p = inl p
 
 -- a line that came is the one that is due
 pub line_is_due : (node : Bool) (n : ℕ) (old new : KeptLines) (before now : SourceSeen) → old.taken < MAX_DOCUMENT → NextGives Line old new before now → StepGives (due node) new.line n (n + 1) old new before.left now.left
@@ -44,7 +48,7 @@ shown : (answer : Next) (taken : ℕ) (bytes : List ℕ) (after : Option (List �
 shown Line taken bytes after new rest r q = q
 shown LineTooLong taken bytes after new rest r q = q
 shown DocumentTooLong taken bytes after new rest r q = q
-shown Failed taken bytes after new rest r q = tt
+shown Failed taken bytes after new rest r q = q
 shown Last taken bytes None new rest r q = (q.0, q.1, q.2, q.3, q.4, r)
 shown Last taken bytes (Some left) new rest r q = (q.0, q.1, q.2, q.3, q.4, subst (λ (t : List ℕ). t ≡ []) r q.5)
 shown End taken bytes None new rest r q = (q.0, r)
@@ -68,4 +72,9 @@ line_is_missing answer node n old new before now none lt g = record {
   bound = g.4;
   fails = λ rest r. fails_line node n old (g.0 ++ rest) (code_of (early node) answer) (breaks answer node n old new (g.0 ++ rest) rest none
       (due_is answer node n old new (g.0 ++ rest) rest (old.ahead ++ g.0) lt (all_ahead old.ahead g.0 rest) (shown answer old.taken (old.ahead ++ g.0) now.left new rest r g.2)));
+  awaits = λ begun last e long. line_awaited node (cut (place n old g.0) begun) (asked_begun old.taken (old.ahead ++ g.0) begun last g.5 e long);
 }
+
+-- if the source failed, the line is awaited
+pub line_is_awaited : (node : Bool) (n : ℕ) (old new : KeptLines) (before now : SourceSeen) → NextGives Failed old new before now → StepAwaits (due node) n old before.left now.left
+line_is_awaited node n old new before now g = record { pulled = g.0; off = g.1; bound = g.4; awaits = line_awaited node (place n old g.0) g.2 }

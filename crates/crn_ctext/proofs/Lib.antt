@@ -10,6 +10,7 @@ mod PairsWritten
 mod Counted
 pub mod CallerLemmas
 mod Courses
+mod Awaited
 mod Written
 mod Decided
 mod Spelled
@@ -48,6 +49,7 @@ mod DocumentsRead
 mod MeaningShort
 mod ShortLines
 mod DocumentsGood
+mod LeftOpen
 mod AnswersApart
 mod DocumentsShort
 mod SharesApart

@@ -7,7 +7,8 @@ use Rattle.crn_io.specs.Lines.{Place, IsLineAt, beginning}
 use Rattle.crn_ctext.specs.Course.{Course, Give, Line, Test, End, ◌>>=◌, Gives, FailsFirst}
 use Rattle.crn_io.specs.Next.{KeptLines, place}
 use Rattle.crn_io.specs.declared.lines.TheConstants.{MAX_AHEAD, MAX_DOCUMENT}
-use Rattle.crn_ctext.specs.Steps.{IsRest, StepGives, StepEnds, StepFails}
+use Rattle.crn_ctext.specs.Steps.{IsRest, StepGives, StepEnds, StepFails, StepAwaits, cut}
+use Rattle.crn_ctext.proofs.Awaited.{awaits_before, awaits_then, awaits_after}
 use Rattle.crn_ctext.proofs.Courses.{gives_then, fails_before, fails_then}
 
 -- no byte of a text is lost while a course reads it
@@ -49,11 +50,27 @@ step_fails_then c f x n m line code old mid left between after p q = record {
   bound = bound_then c x n m (MAX_DOCUMENT + MAX_AHEAD) old mid left between p q.pulled q.bound;
   fails = λ rest h. subst (λ (at : Place). FailsFirst (c >>= f) at line code) (sym (in_parts n old p.pulled q.pulled rest))
       (fails_then c f (place n old (p.pulled ++ (q.pulled ++ rest))) (place m mid (q.pulled ++ rest)) x line code (let g = p.gives in g (q.pulled ++ rest)) (let g = q.fails in g rest h));
+  awaits = λ begun last e long. awaits_after c f (place n old (p.pulled ++ q.pulled)) (place m mid q.pulled) x begun last (let g = p.gives in g q.pulled) e
+      (λ more ends. let h = q.awaits in h more last ends long);
 }
 
 pub step_fails_before : {A B : Type 0} (c : Course A) (f : A → Course B) (n line code : ℕ) (old : KeptLines) (left after : Option (List ℕ))
     → StepFails c n old left after line code → StepFails (c >>= f) n old left after line code
-step_fails_before c f n line code old left after p = record { pulled = p.pulled; off = p.off; bound = p.bound; fails = λ rest h. fails_before c f (place n old (p.pulled ++ rest)) line code (let g = p.fails in g rest h) }
+step_fails_before c f n line code old left after p = record { pulled = p.pulled; off = p.off; bound = p.bound; fails = λ rest h. fails_before c f (place n old (p.pulled ++ rest)) line code (let g = p.fails in g rest h); awaits = λ begun last e long. awaits_before c f (cut (place n old p.pulled) begun) (let h = p.awaits in h begun last e long) }
+
+-- a step, and a line that is awaited after it
+pub step_awaits_then : {A B : Type 0} (c : Course A) (f : A → Course B) (x : A) (n m : ℕ) (old mid : KeptLines) (left between after : Option (List ℕ))
+    → StepGives c x n m old mid left between → StepAwaits (f x) m mid between after → StepAwaits (c >>= f) n old left after
+step_awaits_then c f x n m old mid left between after p q = record {
+  pulled = p.pulled ++ q.pulled;
+  off = Consumes-then left between after p.pulled q.pulled p.off q.off;
+  bound = bound_then c x n m (MAX_DOCUMENT + MAX_AHEAD) old mid left between p q.pulled q.bound;
+  awaits = awaits_then c f (place n old (p.pulled ++ q.pulled)) (place m mid q.pulled) x (let g = p.gives in g q.pulled) q.awaits;
+}
+
+-- a line that is awaited in a step
+pub step_awaits_before : {A B : Type 0} (c : Course A) (f : A → Course B) (n : ℕ) (old : KeptLines) (left after : Option (List ℕ)) → StepAwaits c n old left after → StepAwaits (c >>= f) n old left after
+step_awaits_before c f n old left after p = record { pulled = p.pulled; off = p.off; bound = p.bound; awaits = awaits_before c f (place n old p.pulled) p.awaits }
 
 pub step_ends_then : {A B : Type 0} (c : Course A) (f : A → Course B) (x : A) (y : B) (n m k : ℕ) (old mid new : KeptLines) (left between after : Option (List ℕ))
     → StepGives c x n m old mid left between → StepEnds (f x) y m k mid new between after → StepEnds (c >>= f) y n k old new left after

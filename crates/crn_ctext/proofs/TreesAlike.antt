@@ -7,23 +7,25 @@ use Rattle.crn_vec.specs.declared.signs.Sign.{Sign}
 use Rattle.crn_vec.specs.declared.signs.Sign.TheVariants.{Zero, Plus, Minus}
 use Rattle.crn_cert.specs.Nodes.{Said, Flats, CutsA, CutsB}
 use Rattle.crn_ctext.specs.Course.{Course, Give, Line, Test, End, ◌>>=◌, ◌>>◌, test, Gives, FailsFirst}
-use Rattle.crn_ctext.specs.Steps.{StepGives, StepFails}
+use Rattle.crn_ctext.specs.Steps.{Awaits, StepGives, StepFails, StepAwaits, cut}
 use Rattle.crn_vec.specs.Problems.{all_zero}
 use Rattle.crn_ctext.specs.Blocks.{Node, Split, Flat, CutA, CutB, leaf, asks_leaf, goes_on, if_signed, either, asks_tree}
 use Rattle.crn_ctext.specs.Meaning.{problem_with}
+use Rattle.crn_ctext.proofs.Awaited.{awaits_before, awaits_parts, awaits_then}
 use Rattle.crn_ctext.proofs.Courses.{gives_then, fails_before, fails_then}
 use Rattle.crn_cert.specs.Faults.{BadLeaf, Fault, NodeNotAllowed, WrongShape}
 
--- what the first gives the second gives, and it fails first where the first does
+-- what the first gives the second gives, it fails first where the first does, and awaits what the first does
 pub record IsLike {A : Type 0} (c d : Course A) : Type 0 where
   pub gives : (at after : Place) (y : A) → Gives c at y after → Gives d at y after
   pub fails : (at : Place) (n code : ℕ) → FailsFirst c at n code → FailsFirst d at n code
+  pub awaits : (at : Place) → Awaits c at → Awaits d at
 
 -- ---- courses
 
 -- a course and itself
 pub like_itself : {A : Type 0} (c : Course A) → IsLike c c
-like_itself c = record { gives = λ at after y p. p; fails = λ at n code p. p }
+like_itself c = record { gives = λ at after y p. p; fails = λ at n code p. p; awaits = λ at p. p }
 
 -- what both give, in two parts
 pub gives_parts : {A B : Type 0} (c : Course A) (f : A → Course B) (at after : Place) (y : B) → Gives (c >>= f) at y after → (x : A) × (mid : Place) × Gives c at x mid × Gives (f x) mid y after
@@ -69,17 +71,27 @@ fails_both c d f g first second at n code (inr q) =
     let s = second q.0 in
     fails_then d g at q.1 q.0 n code (let h = first.gives in h at q.1 q.0 q.2) (let h = s.fails in h q.1 n code q.3)
 
+awaits_both : {A B : Type 0} (c d : Course A) (f g : A → Course B) → IsLike c d → ((x : A) → IsLike (f x) (g x)) → (at : Place) → Awaits (c >>= f) at → Awaits (d >>= g) at
+awaits_both c d f g first second at p = elim (awaits_parts c f at p) [
+  | inl q ↦ awaits_before d g at (let h = first.awaits in h at q)
+  | inr q ↦
+      let s = second q.0 in
+      awaits_then d g at q.1 q.0 (let h = first.gives in h at q.1 q.0 q.2) (let h = s.awaits in h q.1 q.3)
+]
+
 pub like_then : {A B : Type 0} (c d : Course A) (f g : A → Course B) → IsLike c d → ((x : A) → IsLike (f x) (g x)) → IsLike (c >>= f) (d >>= g)
 like_then c d f g first second = record {
   gives = λ at after y p. gives_both c d f g first second at after y p;
   fails = λ at n code p. fails_both c d f g first second at n code (fails_parts c f at n code p);
+  awaits = λ at p. awaits_both c d f g first second at p;
 }
 
 -- two tests that hold together
 pub like_test : (n : ℕ) (fault : Fault) (P Q : Type 0) → P ↔ Q → IsLike (test n fault P) (test n fault Q)
-unfolding Gives FailsFirst
+unfolding Gives FailsFirst Awaits
 like_test n fault P Q same = record {
   gives = λ at after y p. (p.0, same.0 p.1, p.2);
+  awaits = λ at p. absurd p.2;
   fails = λ at m d p. elim p [
     | inl none ↦ inl (none.0, none.1, λ x q. none.2 x (same.1 q))
     | inr more ↦ absurd more.2
@@ -167,4 +179,9 @@ step_fails_like c d like n old left after line code p = record {
   off = p.off;
   bound = p.bound;
   fails = λ rest ends. let h = like.fails in h (place n old (p.pulled ++ rest)) line code (let g = p.fails in g rest ends);
+  awaits = λ begun last e long. let h = like.awaits in h (cut (place n old p.pulled) begun) (let g = p.awaits in g begun last e long);
 }
+
+-- and so it awaits a line
+pub step_awaits_like : {A : Type 0} (c d : Course A) → IsLike c d → (n : ℕ) (old : KeptLines) (left after : Option (List ℕ)) → StepAwaits c n old left after → StepAwaits d n old left after
+step_awaits_like c d like n old left after p = record { pulled = p.pulled; off = p.off; bound = p.bound; awaits = let h = like.awaits in h (place n old p.pulled) p.awaits }

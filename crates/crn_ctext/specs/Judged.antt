@@ -21,6 +21,11 @@ IsReadOf bytes read =
 abbrev pub IsFaultOf : List ℕ → (line code : ℕ) → Type 0
 IsFaultOf bytes line code = DocFault meaning versions built bytes line code
 
+-- whether and where there is a fault is open: not all texts that begin with these bytes have the same
+-- first fault
+abbrev pub LeavesOpen : List ℕ → Type 0
+LeavesOpen bytes = (line code : ℕ) → ((rest : List ℕ) → IsFaultOf (bytes ++ rest) line code) → ⊥
+
 -- a document of a network and of formed answers to the built questions, of which each decided one
 -- is valid
 abbrev pub IsGood : List ℕ → Type 0

@@ -9,8 +9,8 @@ use Rattle.crn_ctext.specs.Course.{Course, find, ◌>>=◌}
 use Rattle.crn_ctext.specs.Blocks.{ReadOf, IsNetworkOf, asks_lines}
 use Rattle.crn_ctext.specs.Judged.{IsReadOf, IsFaultOf}
 use Rattle.crn_ctext.specs.Linked.{AreSound}
-use Rattle.crn_ctext.specs.Steps.{StepGives, StepFails, StepEnds}
-use Rattle.crn_ctext.proofs.CallerLemmas.{first_is_one, gives_one, gives_or_fails, read_true, settled}
+use Rattle.crn_ctext.specs.Steps.{Awaits, StepGives, StepFails, StepAwaits, StepEnds}
+use Rattle.crn_ctext.proofs.CallerLemmas.{awaited_open, first_is_one, gives_one, gives_or_fails, read_true, settled}
 use Rattle.crn_document.specs.Check.{CheckGives, IsAnswered, IsAccepted, IsTextOf}
 use Rattle.crn_document.specs.declared.check.Accepted.{Accepted}
 use Rattle.crn_document.specs.declared.reading.Reading.{Reading}
@@ -20,8 +20,8 @@ use Rattle.crn_document.specs.Inner.Courses.{IsNew, IsWhole, rest_course, whole_
 use Rattle.crn_document.specs.Inner.Ending.{LastIs}
 use Rattle.crn_document.specs.Inner.Opening.{count_course, network_course, title_course}
 use Rattle.crn_document.proofs.Bodies.{last_all, last_then}
-use Rattle.crn_io.proofs.CallerLemmas.{Consumes-none}
-use Rattle.crn_document.proofs.Texts.{text_fails, text_gives, text_stops}
+use Rattle.crn_io.proofs.CallerLemmas.{Consumes-none, begun_none}
+use Rattle.crn_document.proofs.Texts.{text_awaits, text_fails, text_gives, text_stops}
 use Rattle.crn_cert.specs.Faults.{BadNetwork}
 
 -- ---- the parts of a document
@@ -76,6 +76,11 @@ body_at P version v count k line net n same number here is p =
 from_first : (P : ℕ → Type 0) (at : Reading) → IsNew at → P at.line → P 1
 from_first P at new p = subst P new.line p
 
+-- the first line is due
+first_awaited : Awaits whole_course (beginning [])
+unfolding Awaits
+first_awaited = inl (begun_none 0 (omega arith))
+
 -- what a whole document answers
 pub document_gives : (result : Result Accepted CheckStop) (at : Reading) (before now : SourceSeen) → IsNew at → LastIs whole_course IsWhole result at before now → CheckGives result before now
 document_gives (Ok accepted) at before now new p =
@@ -97,9 +102,14 @@ document_gives (Ok accepted) at before now new p =
     }
 document_gives (Err (stop.Rejected code line)) at before now new p =
     let step = from_first (λ n. StepFails whole_course n at.lines before.left now.left line code) at new p.0 in
-    let t = text_fails whole_course at.lines before now line code new.ahead new.taken step p.1 in
-    record { text = t.0; read = t.1; fault = t.2 }
-document_gives (Err stop.Failed) at before now new p = (text_stops at.lines before now new.ahead new.taken p.0, p.1, p.2)
+    let t = text_fails whole_course at.lines before now line code new.ahead new.taken first_awaited step p.1 in
+    let w = t.3 in
+    record { text = t.0; read = t.1; fault = t.2; near = (w.0, w.1, w.2, awaited_open w.0 w.3, w.4) }
+document_gives (Err stop.Failed) at before now new p =
+    let step = from_first (λ n. StepAwaits whole_course n at.lines before.left now.left) at new p.0 in
+    let t = text_awaits whole_course at.lines before now new.ahead new.taken step in
+    let w = t.1 in
+    (t.0, (w.0, w.1, awaited_open w.0 w.2), p.1, p.2)
 document_gives (Err stop.NoMemory) at before now new p = (text_stops at.lines before now new.ahead new.taken p.0, p.1)
 
 -- if memory runs out before the first line
@@ -123,7 +133,7 @@ good_accepted (Err (stop.Rejected code line)) before now p text read is quiet go
     let r = p.read in
     let same : p.text ≡ text = same_text before.left r.pulled text p.text is r.is in
     absurd (gives_or_fails whole_course settled (beginning text) good.0 read line code good.1 (subst (λ (t : List ℕ). IsFaultOf t line code) same p.fault))
-good_accepted (Err stop.Failed) before now p text read is quiet good = absurd (quiet p.1)
+good_accepted (Err stop.Failed) before now p text read is quiet good = absurd (quiet p.2)
 good_accepted (Err stop.NoMemory) before now p text read is quiet good = inr refl
 
 -- a document with a fault is rejected by it
@@ -139,7 +149,7 @@ fault_rejected (Err (stop.Rejected c l)) before now p text line code is quiet fa
     let same : p.text ≡ text = same_text before.left r.pulled text p.text is r.is in
     let one = first_is_one whole_course settled (beginning text) l line c code (subst (λ (t : List ℕ). IsFaultOf t l c) same p.fault) fault in
     inl (ap (λ (k : ℕ). Err (stop.Rejected k l)) one.1 ∙ ap (λ (k : ℕ). Err (stop.Rejected code k)) one.0)
-fault_rejected (Err stop.Failed) before now p text line code is quiet fault = absurd (quiet p.1)
+fault_rejected (Err stop.Failed) before now p text line code is quiet fault = absurd (quiet p.2)
 fault_rejected (Err stop.NoMemory) before now p text line code is quiet fault = inr refl
 
 -- each document is answered by what it is

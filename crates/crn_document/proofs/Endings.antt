@@ -4,13 +4,13 @@ use Rattle.crn_io.specs.declared.next.Next.{Next}
 use Rattle.crn_io.specs.declared.next.Next.TheVariants.{Line, Last, End, LineTooLong, DocumentTooLong, Failed}
 use Rattle.crn_io.specs.declared.lines.TheConstants.{MAX_DOCUMENT}
 use Rattle.crn_io.specs.Device.{SourceSeen}
-use Rattle.crn_io.specs.Lines.{Place, BreaksLine, HasMore}
+use Rattle.crn_io.specs.Lines.{Place, IsBegun, BreaksLine, HasMore}
 use Rattle.crn_io.specs.Pull.{HasNoneLeft}
 use Rattle.crn_io.specs.Next.{KeptLines, NextIs, NextGives, place, code_of, EndIs}
-use Rattle.crn_io.proofs.CallerLemmas.{end_is}
+use Rattle.crn_io.proofs.CallerLemmas.{end_is, asked_begun}
 use Rattle.crn_ctext.specs.Course.{Course, ◌>>=◌, Gives, FailsFirst}
 use Rattle.crn_ctext.specs.Blocks.{ReadOf}
-use Rattle.crn_ctext.specs.Steps.{IsRest, StepGives, StepFails, StepEnds}
+use Rattle.crn_ctext.specs.Steps.{Awaits, IsRest, StepGives, StepFails, StepAwaits, StepEnds, cut}
 use Rattle.crn_ctext.proofs.CallerLemmas.{step_ends_then}
 use Rattle.crn_document.specs.declared.reading.Reading.{Reading}
 use Rattle.crn_document.specs.declared.fault.CheckStop.{CheckStop}
@@ -92,6 +92,14 @@ fails_end : (read : ReadOf) (n : ℕ) (old : KeptLines) (bytes : List ℕ) (code
 unfolding FailsFirst
 fails_end read n old bytes code p = inl (refl, p)
 
+end_awaited : (read : ReadOf) (at : Place) → IsBegun at.before at.left → Awaits (ends_with read) at
+unfolding Awaits
+end_awaited read at p = inl p
+
+-- if the source failed, the course awaits what is left
+pub rest_is_awaited : (read : ReadOf) (n : ℕ) (old new : KeptLines) (before now : SourceSeen) → NextGives Failed old new before now → StepAwaits (ends_with read) n old before.left now.left
+rest_is_awaited read n old new before now g = record { pulled = g.0; off = g.1; bound = g.4; awaits = end_awaited read (place n old g.0) g.2 }
+
 -- if something is left, the course fails first here
 pub something_left : (answer : Next) (read : ReadOf) (n : ℕ) (old new : KeptLines) (before now : SourceSeen) → IsNoEnd answer → old.taken < MAX_DOCUMENT → NextGives answer old new before now
     → StepFails (ends_with read) n old before.left now.left n (code_of 28 answer) × (now.faults ≡ before.faults)
@@ -102,6 +110,7 @@ something_left answer read n old new before now none lt g = (
     bound = g.4;
     fails = λ rest r. fails_end read n old (g.0 ++ rest) (code_of 28 answer) (breaks answer (place n old (g.0 ++ rest)) none
         (end_is answer n old new (g.0 ++ rest) rest (old.ahead ++ g.0) lt (sym (append_assoc old.ahead g.0 rest)) (shown answer old.taken (old.ahead ++ g.0) now.left new rest none r g.2)));
+    awaits = λ begun last e far. end_awaited read (cut (place n old g.0) begun) (asked_begun old.taken (old.ahead ++ g.0) begun last g.5 e far);
   },
   same_count answer old new before now none g,
 )

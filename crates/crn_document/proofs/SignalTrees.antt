@@ -15,7 +15,7 @@ use Rattle.crn_cert.specs.Valid.{HasVector, IsNodeOf, OfVector}
 use Rattle.crn_ctext.specs.Course.{Course}
 use Rattle.crn_ctext.specs.Blocks.{Problem, asks_tree}
 use Rattle.crn_ctext.specs.Meaning.{Known, pairs_of, problem_with, signal_problem, signal_problems}
-use Rattle.crn_ctext.proofs.CallerLemmas.{HoldTogether, IsLike, step_fails_like, step_gives_like, trees_like}
+use Rattle.crn_ctext.proofs.CallerLemmas.{HoldTogether, IsLike, step_awaits_like, step_fails_like, step_gives_like, trees_like}
 use Rattle.crn_ctree.proofs.CallerLemmas.{signal_nodes}
 use Rattle.crn_check.specs.Facts.{KeptFacts}
 use Rattle.crn_document.specs.declared.reading.Reading.{Reading}
@@ -30,7 +30,7 @@ use Rattle.crn_document.proofs.SignalsKnown.{of_vector, sizes, some_vector, vect
 -- what a step did by one course it did by a course that gives and fails as the first does
 stop_like : {A : Type 0} (c d : Course A) → IsLike c d → (e : CheckStop) (old : Reading) (before now : SourceSeen) → StopIs c e old before now → StopIs d e old before now
 stop_like c d like (stop.Rejected code line) old before now p = (step_fails_like c d like old.line old.lines before.left now.left line code p.0, p.1)
-stop_like c d like stop.Failed old before now p = p
+stop_like c d like stop.Failed old before now p = (step_awaits_like c d like old.line old.lines before.left now.left p.0, p.1, p.2)
 stop_like c d like stop.NoMemory old before now p = p
 
 step_like : {A T : Type 0} (c d : Course A) → IsLike c d → (Says : T → A → Type 0) (result : Result T CheckStop) (old new : Reading) (before now : SourceSeen) → StepIs c Says result old new before now → StepIs d Says result old new before now

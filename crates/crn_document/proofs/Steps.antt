@@ -1,6 +1,6 @@
 -- What one call for a line, and steps one after another, do by the course of a document.
 use Rattle.std.proofs.Common.{◌≡◌, ◌≤◌, ◌<◌, ◌+◌, ◌++◌, ℕ, Bool, List, [], length, Option, refl, sym, ap, subst, ◌∙◌, arith, Ok, Err, Result}
-use Rattle.std.proofs.lemmas.List.{append-nil}
+use Rattle.std.proofs.lemmas.List.{append-nil, length-append}
 use Rattle.crn_io.specs.declared.next.Next.{Next}
 use Rattle.crn_io.specs.declared.next.Next.TheVariants.{Line, Last, End, LineTooLong, DocumentTooLong, Failed}
 use Rattle.crn_io.specs.declared.lines.TheConstants.{MAX_DOCUMENT, MAX_AHEAD}
@@ -10,7 +10,7 @@ use Rattle.crn_io.specs.Next.{KeptLines, NextGives, place, code_of}
 use Rattle.crn_ctext.specs.Course.{Course, Give, due, Gives, FailsFirst, ◌>>=◌}
 use Rattle.crn_io.proofs.CallerLemmas.{Consumes-none, Consumes-then}
 use Rattle.crn_ctext.specs.Steps.{StepGives, StepFails}
-use Rattle.crn_ctext.proofs.CallerLemmas.{IsNoLine, line_is_missing, gives_counts, step_then, step_fails_then, step_fails_before}
+use Rattle.crn_ctext.proofs.CallerLemmas.{IsNoLine, line_is_missing, gives_counts, step_then, step_fails_then, step_fails_before, step_awaits_then, step_awaits_before}
 use Rattle.crn_document.specs.declared.reading.Reading.{Reading}
 use Rattle.crn_document.specs.declared.fault.CheckStop.{CheckStop}
 use Rattle.crn_document.specs.declared.fault.CheckStop.TheVariants as stop
@@ -36,12 +36,16 @@ no_line answer node n code old new before now none lt g is =
 pub tests_give : {A : Type 0} (c : Course A) (y : A) (n : ℕ) (lines : KeptLines) (left : Option (List ℕ)) → ((at : Place) → Gives c at y at) → StepGives c y n n lines lines left left
 tests_give c y n lines left g = record { pulled = []; off = Consumes-none left; gives = λ rest. g (place n lines rest) }
 
-none_pulled : (lines : KeptLines) → lines.taken < MAX_DOCUMENT → length lines.ahead ≤ MAX_AHEAD → lines.taken + length (lines.ahead ++ []) ≤ MAX_DOCUMENT + MAX_AHEAD
+none_pulled : (lines : KeptLines) → lines.taken < MAX_DOCUMENT → length lines.ahead < MAX_AHEAD → lines.taken + length (lines.ahead ++ []) ≤ MAX_DOCUMENT + MAX_AHEAD
 none_pulled lines taken ahead = let same : length (lines.ahead ++ []) ≡ length lines.ahead = ap length (append-nil lines.ahead) in omega (arith, same, taken, ahead)
+
+-- what is ahead has fewer bytes than one pull
+none_far : (lines : KeptLines) (begun last : List ℕ) → length lines.ahead < MAX_AHEAD → lines.ahead ++ [] ≡ begun ++ last → MAX_AHEAD ≤ length last → ⊥
+none_far lines begun last ahead e far = omega (arith, ap length (sym (append-nil lines.ahead) ∙ e), length-append begun last, ahead, far)
 
 -- and where a test fails everywhere, it fails there
 pub tests_fail : {A : Type 0} (c : Course A) (n line code : ℕ) (at : Reading) (left : Option (List ℕ)) → CanRead at → ((place : Place) → FailsFirst c place line code) → StepFails c n at.lines left left line code
-tests_fail c n line code at left can f = record { pulled = []; off = Consumes-none left; bound = none_pulled at.lines can.taken can.ahead; fails = λ rest h. f (place n at.lines rest) }
+tests_fail c n line code at left can f = record { pulled = []; off = Consumes-none left; bound = none_pulled at.lines can.taken can.ahead; fails = λ rest h. f (place n at.lines rest); awaits = λ begun last e far. absurd (none_far at.lines begun last can.ahead e far) }
 
 pub stops_here : (at : Reading) (left : Option (List ℕ)) → CanRead at → StepStops at.lines left left
 stops_here at left can = record { pulled = []; off = Consumes-none left; bound = none_pulled at.lines can.taken can.ahead }
@@ -62,7 +66,7 @@ pub stop_after : {A B : Type 0} (c : Course A) (f : A → Course B) (x : A) (e :
 stop_after c f x (stop.Rejected code line) old mid before between now p same q =
     (step_fails_then c f x old.line mid.line line code old.lines mid.lines before.left between.left now.left p q.0, q.1 ∙ same)
 stop_after c f x stop.Failed old mid before between now p same q =
-    (stops_then c x old.line mid.line old.lines mid.lines before.left between.left now.left p q.0, subst (λ (k : ℕ). Rose k now.faults) same q.1, subst (λ (k : ℕ). k ≤ now.faults) same q.2)
+    (step_awaits_then c f x old.line mid.line old.lines mid.lines before.left between.left now.left p q.0, subst (λ (k : ℕ). Rose k now.faults) same q.1, subst (λ (k : ℕ). k ≤ now.faults) same q.2)
 stop_after c f x stop.NoMemory old mid before between now p same q =
     (stops_then c x old.line mid.line old.lines mid.lines before.left between.left now.left p q.0, q.1 ∙ same)
 
@@ -76,7 +80,7 @@ step_then_is c f x Says (Err e) old mid new before between now p same q = stop_a
 -- what stops a step stops all
 pub stop_first : {A B : Type 0} (c : Course A) (f : A → Course B) (e : CheckStop) (old : Reading) (before now : SourceSeen) → StopIs c e old before now → StopIs (c >>= f) e old before now
 stop_first c f (stop.Rejected code line) old before now p = (step_fails_before c f old.line line code old.lines before.left now.left p.0, p.1)
-stop_first c f stop.Failed old before now p = p
+stop_first c f stop.Failed old before now p = (step_awaits_before c f old.line old.lines before.left now.left p.0, p.1, p.2)
 stop_first c f stop.NoMemory old before now p = p
 
 -- an answer at the exit of a call that stopped

@@ -1,13 +1,14 @@
 -- What steps through a whole document say of its text.
-use Rattle.std.proofs.Common.{◌≡◌, ◌≤◌, ◌+◌, ◌++◌, ◌∙◌, ℕ, List, [], length, Option, Some, None, refl, sym, subst, ap, inl, inr, arith, Result, Ok, Err}
-use Rattle.std.proofs.lemmas.List.{append-nil}
+use Rattle.std.proofs.Common.{◌≡◌, ◌≤◌, ◌+◌, ◌-◌, ◌++◌, ◌∙◌, ℕ, List, [], length, take, drop, length-drop, Option, Some, None, refl, sym, subst, ap, inl, inr, arith, Result, Ok, Err}
+use Rattle.std.proofs.lemmas.List.{append-nil, take-append-drop}
+use Rattle.std.proofs.lemmas.Bool.{cases_lt}
 use Rattle.crn_io.specs.declared.lines.TheConstants.{MAX_DOCUMENT, MAX_AHEAD}
 use Rattle.crn_io.specs.Device.{SourceSeen}
 use Rattle.crn_io.specs.Lines.{Place, beginning}
 use Rattle.crn_io.specs.Next.{KeptLines, place}
 use Rattle.crn_io.specs.Pull.{Consumes}
 use Rattle.crn_ctext.specs.Course.{Course, Give, Line, Test, End, ◌>>=◌, Gives, FailsFirst}
-use Rattle.crn_ctext.specs.Steps.{IsRest, StepFails, StepEnds}
+use Rattle.crn_ctext.specs.Steps.{Awaits, IsRest, StepFails, StepAwaits, StepEnds, cut}
 use Rattle.crn_document.specs.Check.{IsRead, IsTextOf, PullsDocument}
 use Rattle.crn_document.specs.declared.reading.Reading.{Reading}
 use Rattle.crn_document.specs.declared.fault.CheckStop.{CheckStop}
@@ -34,11 +35,21 @@ fails_all (Test m c X P next) k f at n code (inr p) = inr (p.0, p.1, fails_all (
 fails_all (End next) k f at n code (inl p) = inl p
 fails_all (End next) k f at n code (inr p) = inr (p.0, fails_all next k f at n code p.1)
 
+pub awaits_all : {A B C : Type 0} (m : Course A) (k : A → Course B) (f : B → Course C) (at : Place) → Awaits ((m >>= k) >>= f) at → Awaits (m >>= (λ x. k x >>= f)) at
+unfolding Awaits
+awaits_all (Give x) k f at p = p
+awaits_all (Line node next) k f at (inl p) = inl p
+awaits_all (Line node next) k f at (inr p) = inr (p.0, p.1, p.2, awaits_all (next p.0) k f p.1 p.3)
+awaits_all (Test m c X P next) k f at p = (p.0, p.1, awaits_all (next p.0) k f at p.2)
+awaits_all (End next) k f at (inl p) = inl p
+awaits_all (End next) k f at (inr p) = inr (p.0, awaits_all next k f at p.1)
+
 pub stops_all : {A B C : Type 0} (m : Course A) (k : A → Course B) (f : B → Course C) (e : CheckStop) (old : Reading) (before now : SourceSeen)
     → StopIs ((m >>= k) >>= f) e old before now → StopIs (m >>= (λ x. k x >>= f)) e old before now
 stops_all m k f (stop.Rejected code line) old before now p = let e = p.0 in
-    (record { pulled = e.pulled; off = e.off; bound = e.bound; fails = λ rest r. fails_all m k f (place old.line old.lines (e.pulled ++ rest)) line code (let g = e.fails in g rest r) }, p.1)
-stops_all m k f stop.Failed old before now p = p
+    (record { pulled = e.pulled; off = e.off; bound = e.bound; fails = λ rest r. fails_all m k f (place old.line old.lines (e.pulled ++ rest)) line code (let g = e.fails in g rest r); awaits = λ begun last same far. awaits_all m k f (cut (place old.line old.lines e.pulled) begun) (let g = e.awaits in g begun last same far) }, p.1)
+stops_all m k f stop.Failed old before now p = let e = p.0 in
+    (record { pulled = e.pulled; off = e.off; bound = e.bound; awaits = awaits_all m k f (place old.line old.lines e.pulled) e.awaits }, p.1, p.2)
 stops_all m k f stop.NoMemory old before now p = p
 
 pub ends_all : {A B C T : Type 0} (m : Course A) (k : A → Course B) (f : B → Course C) (y : C) (result : Result T CheckStop) (old : Reading) (before now : SourceSeen)
@@ -73,16 +84,42 @@ text_gives c y m start kept before now none zero p same =
       (place m kept r.0, subst (λ (at : Place). Gives c at y (place m kept r.0)) (at_start start (p.pulled ++ r.0) none zero) (let g = p.gives in g r.0 r.1)),
     )
 
+-- what a course awaits that begins with a line
+abbrev AwaitedIn : {A : Type 0} → Course A → List ℕ → Type 0
+AwaitedIn c bytes = (begun last : List ℕ) × (bytes ≡ begun ++ last) × Awaits c (beginning begun) × (length last ≤ MAX_AHEAD)
+
+awaited_at_start : {A : Type 0} (c : Course A) (start : KeptLines) (text : List ℕ) → start.taken ≡ 0 → Awaits c (record { line = 1; before = start.taken; left = text }) → Awaits c (beginning text)
+awaited_at_start c start text zero p = subst (λ (k : ℕ). Awaits c (record { line = 1; before = k; left = text })) zero p
+
+-- a text that is short ends in the last pull, and of a longer one all but that
+awaited_in : {A : Type 0} (c : Course A) (start : KeptLines) (pulled : List ℕ) → start.ahead ≡ [] → start.taken ≡ 0 → Awaits c (beginning [])
+    → ((begun last : List ℕ) → start.ahead ++ pulled ≡ begun ++ last → MAX_AHEAD ≤ length last → Awaits c (record { line = 1; before = start.taken; left = begun })) → AwaitedIn c pulled
+awaited_in c start pulled none zero first p = elim (cases_lt (length pulled) MAX_AHEAD) [
+  | inl short ↦ ([], pulled, refl, first, omega arith)
+  | inr long ↦
+      let k : ℕ = length pulled - MAX_AHEAD in
+      let parts : pulled ≡ take k pulled ++ drop k pulled = sym (take-append-drop k pulled) in
+      let size : length (drop k pulled) ≡ MAX_AHEAD = omega (arith, length-drop k pulled, long) in
+      (take k pulled, drop k pulled, parts, awaited_at_start c start (take k pulled) zero (p (take k pulled) (drop k pulled) (ap (λ (t : List ℕ). t ++ pulled) none ∙ parts) (omega (arith, size))), omega (arith, size))
+]
+
 -- and if it fails first somewhere, a text was read that fails first there
-pub text_fails : {A : Type 0} (c : Course A) (start : KeptLines) (before now : SourceSeen) (line code : ℕ) → start.ahead ≡ [] → start.taken ≡ 0
+pub text_fails : {A : Type 0} (c : Course A) (start : KeptLines) (before now : SourceSeen) (line code : ℕ) → start.ahead ≡ [] → start.taken ≡ 0 → Awaits c (beginning [])
     → StepFails c 1 start before.left now.left line code → now.faults ≡ before.faults
-    → (text : List ℕ) × IsRead text before now × FailsFirst c (beginning text) line code
-text_fails c start before now line code none zero p same =
+    → (text : List ℕ) × (read : IsRead text before now) × FailsFirst c (beginning text) line code × AwaitedIn c read.pulled
+text_fails c start before now line code none zero first p same =
     let r = rest_of before.left now.left p.pulled p.off in (
       p.pulled ++ r.0,
       record { pulled = p.pulled; consumed = p.off; bound = few_pulled start p.pulled none zero p.bound; is = r.2; faults = same },
       subst (λ (at : Place). FailsFirst c at line code) (at_start start (p.pulled ++ r.0) none zero) (let g = p.fails in g r.0 r.1),
+      awaited_in c start p.pulled none zero first p.awaits,
     )
+
+-- a course that begins with a line awaits it
+pub text_awaits : {A : Type 0} (c : Course A) (start : KeptLines) (before now : SourceSeen) → start.ahead ≡ [] → start.taken ≡ 0 → StepAwaits c 1 start before.left now.left
+    → PullsDocument before now × ((bytes : List ℕ) × Consumes before.left bytes now.left × Awaits c (beginning bytes))
+text_awaits c start before now none zero p =
+    ((p.pulled, few_pulled start p.pulled none zero p.bound, p.off), (p.pulled, p.off, subst (λ (at : Place). Awaits c at) (at_start start p.pulled none zero) p.awaits))
 
 -- and no more was pulled than one pull after the bound of documents
 pub text_stops : (start : KeptLines) (before now : SourceSeen) → start.ahead ≡ [] → start.taken ≡ 0 → StepStops start before.left now.left → PullsDocument before now

@@ -1,6 +1,6 @@
 -- What checking a document answers, by the bytes that were read.
 -- Source: this project's own. Shapes: lines of a document count from 1.
-use Rattle.std.specs.Prelude.{◌≡◌, ◌≤◌, ◌+◌, ◌⊎◌, ℕ, List, length, Option, Some, None, Result, Ok, Err}
+use Rattle.std.specs.Prelude.{◌≡◌, ◌≤◌, ◌+◌, ◌⊎◌, ℕ, List, ◌++◌, length, Option, Some, None, Result, Ok, Err}
 use Rattle.crn_io.specs.Device.{SourceSeen, Rose}
 use Rattle.crn_io.specs.Pull.{Consumes, HasNoneLeft}
 use Rattle.crn_io.specs.Read.{ConsumesUpTo}
@@ -9,7 +9,7 @@ use Rattle.crn_cert.specs.Built.{built}
 use Rattle.crn_ctext.specs.Records.{Record}
 use Rattle.crn_ctext.specs.Blocks.{ReadOf}
 use Rattle.crn_ctext.specs.Meaning.{meaning, verdicts_said}
-use Rattle.crn_ctext.specs.Judged.{IsReadOf, IsFaultOf}
+use Rattle.crn_ctext.specs.Judged.{IsReadOf, IsFaultOf, LeavesOpen}
 use Rattle.crn_ctext.specs.Linked.{AreSound}
 use Rattle.crn_document.specs.declared.check.Accepted.{Accepted}
 use Rattle.crn_document.specs.declared.fault.CheckStop.{CheckStop}
@@ -41,21 +41,31 @@ pub record Accepts (accepted : Accepted) (old new : SourceSeen) : Type 0 where
   pub verdicts : accepted.verdicts ≡ verdicts_said built (meaning.start accepted.net) blocks
   pub sound : AreSound accepted.net built accepted.verdicts
 
--- the first fault of the document is of this kind and at this line
+-- but for the bytes of one pull at most, these leave open whether and where there is a fault
+abbrev pub EndAtFault : List ℕ → Type 0
+EndAtFault bytes = (before last : List ℕ) × (bytes ≡ before ++ last) × LeavesOpen before
+    × (length last ≤ MAX_AHEAD)
+
+-- the first fault of the document is of this kind and at this line, and what was pulled ends at it
 pub record Rejects (code line : ℕ) (old new : SourceSeen) : Type 0 where
   pub text : List ℕ
   pub read : IsRead text old new
   pub fault : IsFaultOf text line code
+  pub near : EndAtFault read.pulled
 
 -- no more was pulled than one pull after the bound of documents
 abbrev pub PullsDocument : SourceSeen → SourceSeen → Type 0
 PullsDocument old new = ConsumesUpTo (MAX_DOCUMENT + MAX_AHEAD) old.left new.left
 
+-- what was pulled leaves open whether and where there is a fault
+abbrev pub PullsWhileOpen : SourceSeen → SourceSeen → Type 0
+PullsWhileOpen old new = (bytes : List ℕ) × Consumes old.left bytes new.left × LeavesOpen bytes
+
 -- what checking a document did, by its answer; memory may run out at any point
 abbrev pub CheckGives : Result Accepted CheckStop → SourceSeen → SourceSeen → Type 0
 CheckGives (Ok accepted) old new = Accepts accepted old new
 CheckGives (Err (Rejected code line)) old new = Rejects code line old new
-CheckGives (Err Failed) old new = PullsDocument old new
+CheckGives (Err Failed) old new = PullsDocument old new × PullsWhileOpen old new
     × Rose old.faults new.faults × (old.faults ≤ new.faults)
 CheckGives (Err NoMemory) old new = PullsDocument old new × (new.faults ≡ old.faults)
 

@@ -10,5 +10,10 @@ pub use Rattle.crn_io.proofs.Joined.{flat_map_step, flat_map_whole, joined_push,
 pub use Rattle.crn_io.proofs.LineEnds.{line_or_not, breaks_or_not, line_is_there, line_breaks_none, line_is_one, break_is_one}
 -- What a call for the next line says of the place of this line.
 pub use Rattle.crn_io.proofs.LinesDue.{due_is, end_is, cause_is, cause_is_one}
+-- The beginning of a line: of one that is there, and of one that a call asked for.
+pub use Rattle.crn_io.proofs.Begun.{begun_none, line_begun, asked_begun, begun_or_more}
+-- What follows the beginning of a line, and the tests of lines that fail.
+pub use Rattle.crn_io.proofs.Begun.{begun_breaks_last, begun_is_no_line, long_breaks, line_and_more, none_ends}
+pub use Rattle.crn_io.proofs.LineLists.{IsLine-append}
 -- What no call, and what two calls one after the other, take off a source.
 pub use Rattle.crn_io.proofs.Streams.{Consumes-none, Consumes-then}

@@ -1,5 +1,5 @@
 -- Bytes with and without an LF.
-use Rattle.std.proofs.Common.{◌≡◌, ◌==◌, ℕ, ◌+◌, ◌<◌, false, List, ◌∷◌, ◌++◌, length, take, drop, get_or, Some, sym, ap, ◌∙◌, append_assoc, arith}
+use Rattle.std.proofs.Common.{◌≡◌, ◌==◌, ℕ, ◌+◌, ◌<◌, false, List, [], ◌∷◌, ◌++◌, length, take, drop, get_or, Some, sym, ap, ◌∙◌, append_assoc, arith}
 use Rattle.std.proofs.lemmas.List.{length-append, take-append-drop, drop_more, get_or-append-add}
 use Rattle.std.proofs.lemmas.List.Elements.{All-append, All-take}
 use Rattle.std.proofs.Math.Seq.{take-append-add}
@@ -34,3 +34,7 @@ IsLine-held held prefix new is p q = rw is (IsLine-append held prefix p q)
 -- what is held, after one more pull
 pub held_more : (old pulled held prefix new : List ℕ) → held ≡ old ++ pulled → new ≡ held ++ prefix → new ≡ old ++ (pulled ++ prefix)
 held_more old pulled held prefix new p q = q ∙ ap (λ (t : List ℕ). t ++ prefix) p ∙ append_assoc old pulled prefix
+
+-- no bytes hold no LF
+pub IsLine-none : IsLine []
+IsLine-none = λ k d below. absurd (omega arith)

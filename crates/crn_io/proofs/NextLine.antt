@@ -1,9 +1,10 @@
 -- What the bytes that are held say of the next line.
 use Rattle.std.proofs.Common.{◌≡◌, ℕ, ◌+◌, ◌-◌, ◌≤◌, ◌<◌, min, List, ◌∷◌, ◌++◌, length, take, drop, Some, ap, ◌∙◌, arith}
-use Rattle.std.proofs.lemmas.List.{length-take, length-drop, take-take, drop-drop}
-use Rattle.crn_io.specs.declared.lines.TheConstants.{MAX_LINE, MAX_DOCUMENT}
+use Rattle.std.proofs.lemmas.List.{length-append, length-take, length-drop, take-take, drop-drop}
+use Rattle.crn_io.specs.declared.lines.TheConstants.{MAX_LINE, MAX_AHEAD, MAX_DOCUMENT}
 use Rattle.crn_io.specs.Lines.{IsLine}
-use Rattle.crn_io.specs.Inner.Gather.{EndsAt}
+use Rattle.crn_io.specs.Inner.Gather.{AreHeld, EndsAt}
+use Rattle.crn_io.specs.Next.{AreAsked}
 use Rattle.crn_io.proofs.LineLists.{IsLine-take, at_end}
 
 -- a prefix of a line has no LF either
@@ -39,6 +40,14 @@ line_is bytes held from i is p =
 pub line_length : (held : List ℕ) (from i : ℕ) → EndsAt (drop from held) (Some i) → length (take i (drop from held)) ≡ i
 line_length held from i p = omega (arith, p.0, length-take i (drop from held))
 
-pub ahead_length : (held : List ℕ) (from i most : ℕ) → EndsAt (drop from held) (Some i) → length (drop from held) ≤ i + most → length (drop (from + (i + 1)) held) ≤ most
+pub ahead_length : (held : List ℕ) (from i most : ℕ) → EndsAt (drop from held) (Some i) → length (drop from held) ≤ i + most → length (drop (from + (i + 1)) held) < most
 ahead_length held from i most p few =
-    omega (arith, length-drop from held, length-drop (from + (i + 1)) held)
+    omega (arith, p.0, length-drop from held, length-drop (from + (i + 1)) held)
+
+-- before the last pull the bytes that are held are the beginning of a line
+pub asked : (bytes new : List ℕ) (taken most : ℕ) → bytes ≡ new → most ≡ min (MAX_LINE + 1) (MAX_DOCUMENT - taken) → AreHeld new most → AreAsked taken bytes
+asked bytes new taken most is most_is p = (p.0, p.1, is ∙ p.2, (p.3, omega (arith, p.4), omega (arith, p.4)), p.5)
+
+-- and so they are no more than one pull after the bound of documents
+pub asked_few : (bytes new : List ℕ) (taken most : ℕ) → bytes ≡ new → most ≡ min (MAX_LINE + 1) (MAX_DOCUMENT - taken) → AreHeld new most → taken + length bytes ≤ MAX_DOCUMENT + MAX_AHEAD
+asked_few bytes new taken most is most_is p = omega (arith, ap length is, ap length p.2, length-append p.0 p.1, p.4, p.5)

@@ -41,6 +41,11 @@ ExceedsLine at = (MAX_LINE < length at.left) × IsLine (take (MAX_LINE + 1) at.l
 abbrev pub LacksLine : Place → Type 0
 LacksLine at = IsLine at.left
 
+-- these bytes, after this many others, may be the beginning of a line: none is LF, and no bound is reached
+abbrev pub IsBegun : (before : ℕ) → List ℕ → Type 0
+IsBegun before bytes = IsLine bytes × (length bytes ≤ MAX_LINE)
+    × (before + length bytes < MAX_DOCUMENT)
+
 -- something is left
 abbrev pub HasMore : Place → Type 0
 HasMore at = at.left ≡ [] → ⊥

@@ -5,7 +5,7 @@ use Rattle.crn_io.specs.declared.next.Next.{Next}
 use Rattle.crn_io.specs.declared.next.Next.TheVariants.{Line, Last, End, LineTooLong, DocumentTooLong, Failed}
 use Rattle.crn_io.specs.declared.lines.TheConstants.{MAX_LINE, MAX_AHEAD, MAX_DOCUMENT}
 use Rattle.crn_io.specs.Device.{SourceSeen, Rose}
-use Rattle.crn_io.specs.Lines.{IsLine, Place, IsLineAt, ExceedsDocument, ExceedsLine, BreaksLine, LacksLine, HasMore, early}
+use Rattle.crn_io.specs.Lines.{IsLine, Place, IsLineAt, ExceedsDocument, ExceedsLine, BreaksLine, IsBegun, LacksLine, HasMore, early}
 use Rattle.crn_io.specs.Pull.{Consumes, HasNoneLeft}
 
 -- what contracts see of the lines of a source
@@ -26,7 +26,7 @@ abbrev pub NextIs : Next → ℕ → List ℕ → Option (List ℕ) → KeptLine
 NextIs Line taken bytes after new = (bytes ≡ new.line ++ 10 ∷ new.ahead) × IsLine new.line
     × (length new.line ≤ MAX_LINE)
     × (new.taken ≡ taken + length new.line + 1) × (new.taken < MAX_DOCUMENT)
-    × (length new.ahead ≤ MAX_AHEAD) × (new.goes_on ≡ true)
+    × (length new.ahead < MAX_AHEAD) × (new.goes_on ≡ true)
 -- bytes with no LF, and none after them
 NextIs Last taken bytes after new = (bytes ≡ new.line) × (1 ≤ length new.line) × IsLine new.line
     × (length new.line ≤ MAX_LINE) × (taken + length new.line < MAX_DOCUMENT) × HasNoneLeft after
@@ -38,21 +38,27 @@ NextIs LineTooLong taken bytes after new = (MAX_LINE < length bytes)
 -- the byte numbered by the bound is one of the first n + 1, and no LF comes before the last of these
 NextIs DocumentTooLong taken bytes after new = (n : ℕ) × (n ≤ MAX_LINE) × (n < length bytes)
     × IsLine (take n bytes) × (MAX_DOCUMENT ≤ taken + n + 1)
--- nothing is said of the bytes
-NextIs Failed taken bytes after new = Unit {0}
+-- the bytes may be the beginning of a line
+NextIs Failed taken bytes after new = IsBegun taken bytes
 
 -- the count of faults rose if the answer is that the source failed, and else it is as before
 abbrev pub CountsFault : Next → ℕ → ℕ → Type 0
 CountsFault Failed before now = Rose before now × (before ≤ now)
 CountsFault answer before now = now ≡ before
 
+-- but for those of one pull at most, these bytes may be the beginning of a line
+abbrev pub AreAsked : ℕ → List ℕ → Type 0
+AreAsked taken bytes = (begun last : List ℕ) × (bytes ≡ begun ++ last) × IsBegun taken begun
+    × (length last ≤ MAX_AHEAD)
+
 -- Some bytes were consumed, no more than one pull after the bound of documents. After those that were ahead they give
--- the answer.
+-- the answer, and but for the bytes of one pull they did not.
 abbrev pub NextGives : Next → KeptLines → KeptLines → SourceSeen → SourceSeen → Type 0
 NextGives answer old new before now = (pulled : List ℕ) × Consumes before.left pulled now.left
     × NextIs answer old.taken (old.ahead ++ pulled) now.left new
     × CountsFault answer before.faults now.faults
     × (old.taken + length (old.ahead ++ pulled) ≤ MAX_DOCUMENT + MAX_AHEAD)
+    × AreAsked old.taken (old.ahead ++ pulled)
 
 -- the place of the line of this number: what is left are the bytes ahead and then those that the source has left
 abbrev pub place : ℕ → KeptLines → List ℕ → Place

@@ -37,6 +37,7 @@ fn hold(held: &mut Vec<u8>, bytes: &[u8])
 fn gather<S: Source>(source: &mut S, held: &mut Vec<u8>, piece: &mut [u8], most: usize) -> Gathered
     requires none_yet { IsLine held.old.items }
     requires ahead { vec_len held.old ≤ MAX_AHEAD }
+    requires some { 1 ≤ most }
     requires piece { length piece.old ≡ MAX_AHEAD }
     requires room { most + MAX_AHEAD ≤ vec_capacity held.old }
     ensures capacity { vec_capacity held.old ≤ vec_capacity held.new }
@@ -82,6 +83,7 @@ pub(crate) fn seek<S: Source>(
 ) -> Gathered
     requires from { from.old ≤ vec_len held.old }
     requires ahead { vec_len held.old ≤ from.old + MAX_AHEAD }
+    requires some { 1 ≤ most }
     requires piece { length piece.old ≡ MAX_AHEAD }
     requires room { most + MAX_AHEAD ≤ vec_capacity held.old }
     ensures from { from.new ≤ vec_len held.new }

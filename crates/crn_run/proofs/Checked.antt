@@ -1,5 +1,5 @@
 -- What is written for a document that is accepted, whose verdicts are formed.
-use Rattle.std.proofs.Common.{◌≡◌, ℕ, List, [], ◌∷◌, Option, Some, None, refl, sym, subst, ◌∙◌, inl}
+use Rattle.std.proofs.Common.{◌≡◌, ℕ, List, [], ◌∷◌, Option, Some, None, refl, sym, subst, ◌∙◌, inl, Err}
 use Rattle.std.specs.Prelude.{IfSome}
 use Rattle.crn_vec.specs.Network.{Net}
 use Rattle.crn_cert.specs.declared.answer.Verdict.{Verdict}
@@ -13,14 +13,15 @@ use Rattle.crn_ctext.specs.Judged.{AreFormedOf, IsGood, IsReadOf, ReadDocumentsA
 use Rattle.crn_ctext.specs.Linked.{AreSound, FormedRecordsAreOfAnswers}
 use Rattle.crn_render.specs.Length.{Has32Bits}
 use Rattle.crn_render.specs.Report.{render}
-use Rattle.crn_document.specs.Check.{Accepts, IsTextOf, Rejects}
+use Rattle.crn_document.specs.Check.{Accepts, CheckGives, IsTextOf, Rejects}
 use Rattle.crn_document.specs.declared.check.Accepted.{Accepted}
+use Rattle.crn_document.specs.declared.fault.CheckStop.TheVariants.{Failed}
 use Rattle.crn_run.specs.Run.{Devices, IsCheckOf, RunGives, rejected_line, verdicts_in}
 use Rattle.crn_run.specs.Words.{IsCommand}
 use Rattle.crn_run.specs.Inner.Steps.{LineGives}
 use Rattle.crn_run.specs.declared.words.Command.TheVariants.{Check}
 use Rattle.crn_run.specs.declared.status.Status.{Status}
-use Rattle.crn_run.specs.declared.status.Status.TheVariants.{Done, Rejected}
+use Rattle.crn_run.specs.declared.status.Status.TheVariants.{Done, ReadFault, Rejected}
 use Rattle.crn_run.proofs.Runs.{output_ends, read_out}
 use Rattle.crn_run.proofs.Outputs.{answers_formed}
 
@@ -62,12 +63,17 @@ pub reject_ends : (status : Status) (words : List (List ℕ)) (code line : ℕ) 
     → LineGives Rejected status (rejected_line code line) old.sink new.sink → RunGives status words old new
 reject_ends status words code line old new line_short code_short said g writes = output_ends Check Rejected status words g.text (rejected_line code line) old new (record {
   said = said;
-  read = (g.read.pulled, g.read.bound, g.read.consumed);
+  read = (g.read.pulled, g.near, g.read.consumed);
   within = inl (Check, said, (g.read.pulled, g.read.bound, g.read.consumed));
   source = g.read.faults;
   left = left_of old.source.left g.read.pulled g.text g.read.is;
   says = record { line = line; code = code; short = (line_short, code_short); fault = g.fault; written = refl };
 }) writes
+
+-- the source failed while the fault was open
+pub failed_ends : (words : List (List ℕ)) (old new : Devices) → IsCommand words Check → CheckGives (Err Failed) old.source new.source → new.sink ≡ old.sink → RunGives ReadFault words old new
+failed_ends words old new said g same =
+    record { command = (Check, said); within = inl (Check, said, g.0); source = g.2; later = g.3; undecided = λ check. g.1; sink = same }
 
 -- ---- what is read is formed
 

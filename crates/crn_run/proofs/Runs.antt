@@ -14,6 +14,7 @@ use Rattle.crn_io.specs.Device.{SourceSeen}
 use Rattle.crn_render.specs.Faults.{usage_line}
 use Rattle.crn_run.specs.Run.{Devices, WasLeft, IsReadOut, IsReadUp, IsReadBy, IsReadWithin, IsOutput, IsRefusalOf, RunGives, refused_line}
 use Rattle.crn_run.specs.Words.{IsCommand, SayACommand}
+use Rattle.crn_run.proofs.WordsSaid.{one_command}
 use Rattle.crn_vec.specs.Network.{Net}
 use Rattle.crn_run.specs.Inner.Network.{NetworkRead}
 use Rattle.crn_run.specs.Inner.Steps.{HasNoMemory, LineGives, NetworkGives, OutputGives, ReadsNetwork, StopGives}
@@ -199,6 +200,7 @@ stop_ends network.Failed command status words old new reads said (most, rose, la
   within = within_network words command old.source.left new.source.left reads said most;
   source = rose;
   later = later;
+  undecided = λ check. absurd (subst ReadsNetwork (one_command words command Check said check) reads);
   sink = g.1;
 })
 stop_ends network.NoMemory command status words old new reads said (most, source) g = memory_ends status words old new (within_network words command old.source.left new.source.left reads said most) source g

@@ -25,6 +25,7 @@ use Rattle.crn_ctext.specs.Documents.{document2, share_of}
 use Rattle.crn_ctext.specs.Judged.{IsGood, IsFaultOf}
 use Rattle.crn_ctext.specs.Linked.{AreSound, records_of}
 use Rattle.crn_ctext.specs.Meaning.{meaning, verdicts_said}
+use Rattle.crn_document.specs.Check.{EndAtFault, PullsWhileOpen}
 use Rattle.crn_solve.specs.Spent.{AreOpenIfSpent}
 use Rattle.crn_solve.specs.Turns.{PreferTheVector}
 use Rattle.crn_solve.specs.Visits.{HaveNodeForEachVisit}
@@ -182,11 +183,15 @@ most_read (Certify budget) = MAX_TEXT + 1
 most_read Check = MAX_DOCUMENT + MAX_AHEAD
 most_read (Sample number budget) = 0
 
+-- the source was read as far as a document goes until its first fault shows
+abbrev pub IsReadToFault : Option (List ℕ) → Option (List ℕ) → Type 0
+IsReadToFault left rest = (bytes : List ℕ) × EndAtFault bytes × Consumes left bytes rest
+
 -- how far the source was read, by the status that the run ends with: to its end, as far as a text
--- goes, or no further than a document goes
+-- goes, or as far as a document goes until its first fault shows
 abbrev pub IsReadFor : Status → Option (List ℕ) → Option (List ℕ) → Type 0
 IsReadFor Refused left rest = IsReadUp left rest
-IsReadFor Rejected left rest = ConsumesUpTo (MAX_DOCUMENT + MAX_AHEAD) left rest
+IsReadFor Rejected left rest = IsReadToFault left rest
 IsReadFor status left rest = IsReadOut left rest
 
 -- how far a command read the source, by the status that the run ends with: `sample` not at all
@@ -221,12 +226,14 @@ pub record EndsUsage (words : List (List ℕ)) (old new : Devices) : Type 0 wher
   pub source : new.source ≡ old.source
   pub sink : WroteAll usage_line old.sink new.sink
 
--- the source's count of faults rose, and the sink is as before
+-- the source's count of faults rose, and the sink is as before; what `check` read leaves open whether
+-- and where there is a fault
 pub record EndsReadFault (words : List (List ℕ)) (old new : Devices) : Type 0 where
   pub command : SayACommand words
   pub within : IsReadWithin words old.source.left new.source.left
   pub source : Rose old.source.faults new.source.faults
   pub later : old.source.faults ≤ new.source.faults
+  pub undecided : IsCommand words Check → PullsWhileOpen old.source new.source
   pub sink : new.sink ≡ old.sink
 
 -- the source was read for what the command writes for its text, or the words are no command and

@@ -145,6 +145,69 @@ fn each_pull_may_fail(rt: HostRuntime) {
     }
 }
 
+// The beginning of a document, how many bytes a pull gives, and which pull fails: the one after that by which the first fault
+// showed. The last of the pulls of 4,096 bytes brings the byte by which a line is too long.
+const FAULTS_FIRST: &[(&str, usize, u32, &str)] = &[
+    (
+        "crn certificate 3\n",
+        64,
+        2,
+        "rejected 21 BadHeader at line 1\n",
+    ),
+    (
+        "crn certificate 3\n",
+        1,
+        19,
+        "rejected 21 BadHeader at line 1\n",
+    ),
+    (
+        "crn certificate 3\n",
+        18,
+        2,
+        "rejected 21 BadHeader at line 1\n",
+    ),
+    (
+        "crn certificate 2\nnetwork 0\n",
+        1,
+        29,
+        "rejected 22 BadNetwork at line 2\n",
+    ),
+    (
+        "crn certificate 2\nnetwork 0\n",
+        64,
+        2,
+        "rejected 22 BadNetwork at line 2\n",
+    ),
+    ("", 4_096, 6, "rejected 30 LineTooLong at line 1\n"),
+];
+
+// How `check` ends over a source that begins with this text, goes on with bytes that are no LF, and fails at one of its pulls.
+fn end_by_fault(
+    rt: &(impl Abort + AllocGlobal),
+    begins: &str,
+    most: usize,
+    failing: u32,
+) -> (Status, usize) {
+    let mut text = vec![in rt.alloc(); b'x'; 32_768].expect(rt, "memory");
+    let begins = begins.as_bytes();
+    assert!(rt; begins.len() <= text.len());
+    text[..begins.len()].copy_from_slice(begins);
+    end_by_pull(rt, "crnt check", &text, most, failing)
+}
+
+#[test]
+fn nothing_is_pulled_after_the_first_fault(rt: HostRuntime) {
+    for &(begins, most, failing, line) in FAULTS_FIRST {
+        let (status, written) = end_by_fault(&rt, begins, most, failing);
+        assert!(rt;
+            status == Status::Rejected && written == line.len(),
+            "{line}"
+        );
+        let (status, written) = end_by_fault(&rt, begins, most, failing.wrapping_sub(1));
+        assert!(rt; status == Status::ReadFault && written == 0, "{line}");
+    }
+}
+
 // Whether the report of `A -> B`, over a sink that takes at most 7 bytes a push, ends as a write fault if one push fails,
 // with no more than the bytes of the pushes before it; or whether it ends well, if there is no such push.
 fn ends_by_push(rt: &(impl Abort + AllocGlobal), failing: u32) -> Status {

@@ -7,7 +7,7 @@ use Rattle.crn_io.specs.Next.{KeptLines}
 use Rattle.crn_io.specs.Pull.{Consumes}
 use Rattle.crn_io.specs.declared.lines.TheConstants.{MAX_DOCUMENT, MAX_AHEAD, MAX_NUMBERS}
 use Rattle.crn_ctext.specs.Course.{Course}
-use Rattle.crn_ctext.specs.Steps.{StepGives, StepFails}
+use Rattle.crn_ctext.specs.Steps.{StepGives, StepFails, StepAwaits}
 use Rattle.crn_document.specs.declared.reading.Reading.{Reading}
 use Rattle.crn_document.specs.declared.fault.CheckStop.{CheckStop}
 use Rattle.crn_document.specs.declared.fault.CheckStop.TheVariants.{Rejected, Failed, NoMemory}
@@ -16,7 +16,7 @@ use Rattle.crn_document.specs.declared.fault.CheckStop.TheVariants.{Rejected, Fa
 pub record CanRead (at : Reading) : Type 0 where
   pub goes_on : at.lines.goes_on ≡ true
   pub taken : at.lines.taken < MAX_DOCUMENT
-  pub ahead : length at.lines.ahead ≤ MAX_AHEAD
+  pub ahead : length at.lines.ahead < MAX_AHEAD
 
 -- the number of the next line is at most that of the bytes before it, or 1
 abbrev pub IsCounted : Reading → Type 0
@@ -40,12 +40,14 @@ pub record StepStops (old : KeptLines) (left after : Option (List ℕ)) : Type 0
   pub off : Consumes left pulled after
   pub bound : old.taken + length (old.ahead ++ pulled) ≤ MAX_DOCUMENT + MAX_AHEAD
 
--- the course fails first as the answer says; or the source failed, or memory ran out
+-- the course fails first as the answer says; or the source failed while a line was awaited, or memory
+-- ran out
 abbrev pub StopIs : {A : Type 0} → Course A → CheckStop → Reading → SourceSeen → SourceSeen → Type 0
 StopIs course (Rejected code line) old before now =
     StepFails course old.line old.lines before.left now.left line code
     × (now.faults ≡ before.faults)
-StopIs course Failed old before now = StepStops old.lines before.left now.left
+StopIs course Failed old before now =
+    StepAwaits course old.line old.lines before.left now.left
     × Rose before.faults now.faults × (before.faults ≤ now.faults)
 StopIs course NoMemory old before now = StepStops old.lines before.left now.left
     × (now.faults ≡ before.faults)

@@ -19,15 +19,20 @@ abbrev pub GatherIs : Gathered → List ℕ → ℕ → Option (List ℕ) → Ty
 GatherIs (Ended i) new most after = EndsAt new (Some i) × (length new ≤ i + MAX_AHEAD)
 GatherIs Enough new most after = IsLine new × (most ≤ length new)
 GatherIs Nothing new most after = IsLine new × (length new < most) × HasNoneLeft after
-GatherIs Failed new most after = Unit {0}
+GatherIs Failed new most after = IsLine new × (length new < most)
 
 -- the count of faults rose if the source failed, and else it is as before
 abbrev pub GatherCounts : Gathered → ℕ → ℕ → Type 0
 GatherCounts Failed before now = Rose before now × (before ≤ now)
 GatherCounts answer before now = now ≡ before
 
+-- the bytes are fewer than `most` with no LF, and then those of one pull at most
+abbrev pub AreHeld : List ℕ → ℕ → Type 0
+AreHeld bytes most = (begun last : List ℕ) × (bytes ≡ begun ++ last) × IsLine begun
+    × (length begun < most) × (length last ≤ MAX_AHEAD)
+
 -- some bytes were consumed and added to those that were held
 abbrev pub GatherGives : Gathered → List ℕ → List ℕ → ℕ → SourceSeen → SourceSeen → Type 0
 GatherGives answer old new most before now = (pulled : List ℕ) × (new ≡ old ++ pulled)
     × Consumes before.left pulled now.left × GatherIs answer new most now.left
-    × GatherCounts answer before.faults now.faults × (length new ≤ most + MAX_AHEAD)
+    × GatherCounts answer before.faults now.faults × AreHeld new most

@@ -1,5 +1,5 @@
 use Rattle.crn_io.specs.declared.next.Next.TheVariants.{Line, Last, LineTooLong, DocumentTooLong}
-use Rattle.crn_document.proofs.Endings.{nothing_left, something_left}
+use Rattle.crn_document.proofs.Endings.{nothing_left, rest_is_awaited, something_left}
 use Rattle.crn_document.proofs.ending.no_more.Goals as goal
 
 pub returns-in-End : goal.returns-in-End
@@ -16,3 +16,6 @@ returns-in-DocumentTooLong g c = record { step = λ read. something_left Documen
 
 pub returns-in-LineTooLong : goal.returns-in-LineTooLong
 returns-in-LineTooLong g c = record { step = λ read. something_left LineTooLong read c.args.at.now.line c.args.at.now.lines c.next.new.self (g.S.Source.seen c.args.source.now) (g.S.Source.seen c.next.new.source) tt c.requires.reads.taken c.in-LineTooLong.ensures }
+
+pub returns-in-Failed : goal.returns-in-Failed
+returns-in-Failed g c = record { step = λ read. (rest_is_awaited read c.args.at.now.line c.args.at.now.lines c.next.new.self (g.S.Source.seen c.args.source.now) (g.S.Source.seen c.next.new.source) c.in-Failed.ensures, c.in-Failed.ensures.3.0, c.in-Failed.ensures.3.1) }

@@ -1,6 +1,6 @@
 use Rattle.std.proofs.Common.{refl}
 use Rattle.crn_io.specs.declared.next.Next.TheVariants.{Last, End, LineTooLong, DocumentTooLong}
-use Rattle.crn_ctext.proofs.CallerLemmas.{line_is_due}
+use Rattle.crn_ctext.proofs.CallerLemmas.{line_is_awaited, line_is_due}
 use Rattle.crn_document.proofs.Steps.{no_line}
 use Rattle.crn_document.proofs.reading.next_line.Goals as goal
 
@@ -18,3 +18,6 @@ returns-in-Last-clause-step g c = no_line Last c.args.node c.args.at.now.line _ 
 
 pub returns-in-End-clause-step : goal.returns-in-End-clause-step
 returns-in-End-clause-step g c = no_line End c.args.node c.args.at.now.line _ c.args.at.now.lines c.next.new.self _ _ tt c.requires.reads.taken c.in-End.ensures c.early-in-End.ensures
+
+pub returns-in-Failed-clause-step : goal.returns-in-Failed-clause-step
+returns-in-Failed-clause-step g c = (line_is_awaited c.args.node c.args.at.now.line c.args.at.now.lines c.next.new.self (g.S.Source.seen c.args.source.now) (g.S.Source.seen c.next.new.source) c.in-Failed.ensures, c.in-Failed.ensures.3.0, c.in-Failed.ensures.3.1)

@@ -1,8 +1,8 @@
-use Rattle.std.proofs.Common.{◌≡◌, ◌≤◌, ◌++◌, length, take, ap, ◌∙◌, arith}
-use Rattle.std.proofs.lemmas.List.{length-append, length-take}
+use Rattle.std.proofs.Common.{◌≡◌, ◌≤◌, ◌++◌, [], length, take, ap, sym, refl, ◌∙◌, arith}
+use Rattle.std.proofs.lemmas.List.{append-nil, length-append, length-take}
 use Rattle.crn_io.specs.declared.lines.TheConstants.{MAX_AHEAD}
-use Rattle.crn_io.proofs.Streams.{Consumes-then}
-use Rattle.crn_io.proofs.LineLists.{EndsAt-held, IsLine-held, held_more}
+use Rattle.crn_io.proofs.Streams.{Consumes-none, Consumes-then}
+use Rattle.crn_io.proofs.LineLists.{EndsAt-held, IsLine-held, IsLine-none, held_more}
 use Rattle.crn_io.proofs.gather.gather.Goals as goal
 
 pub returns-in-Some-clause-gives : goal.returns-in-Some-clause-gives
@@ -18,8 +18,11 @@ returns-in-Some-clause-gives g c =
       Consumes-then _ _ _ inv.0 prefix inv.2 (rw prefix_is did.2),
       (EndsAt-held _ prefix _ _ c.in-Some.i c.hold.ensures.items here inv.4 c.in-Some.ensures, omega (arith, ap length c.hold.ensures.items, length-append c.pulls.held.items prefix)),
       did.3 ∙ inv.3,
-      omega (arith, ap length c.hold.ensures.items, length-append c.pulls.held.items prefix),
+      (c.pulls.held.items, prefix, c.hold.ensures.items, inv.4, omega arith, few),
     )
+
+pub pulls-init : goal.pulls-init
+pulls-init g c = ([], sym (append-nil _), Consumes-none _, refl, c.requires.none_yet, omega arith, omega arith, ([], c.args.held.now.items, refl, IsLine-none, omega arith, omega arith))
 
 pub pulls-preserved : goal.pulls-preserved
 pulls-preserved g c =
@@ -34,5 +37,5 @@ pulls-preserved g c =
       IsLine-held _ prefix _ c.hold.ensures.items inv.4 c.in_default.ensures,
       omega arith,
       omega arith,
-      omega (arith, ap length c.hold.ensures.items, length-append c.pulls.held.items prefix),
+      (c.pulls.held.items, prefix, c.hold.ensures.items, inv.4, omega arith, omega (arith, ap length prefix_is, length-take c.in-Got.count c.pull.new.into)),
     )

@@ -2,12 +2,13 @@ use Rattle.std.proofs.Common.{◌≡◌, ◌-◌, ◌+◌, ◌++◌, ◌≤◌, 
 use Rattle.crn_io.specs.declared.lines.TheConstants.{MAX_AHEAD}
 use Rattle.crn_io.specs.Pull.{Consumes}
 use Rattle.crn_io.specs.Lines.{IsLine}
+use Rattle.crn_io.specs.Inner.Gather.{AreHeld}
 use Rattle.crn_io.proofs.gather.gather.Given as goal
 
 abbrev pub invariant-pulls : goal.invariant-pulls
 invariant-pulls g l = (pulled : List ℕ) × (l.held.items ≡ l.initial.held.items ++ pulled) × Consumes ((g.S.Source.seen l.initial.source).left) pulled ((g.S.Source.seen l.source).left)
     × ((g.S.Source.seen l.source).faults ≡ (g.S.Source.seen l.initial.source).faults) × IsLine l.held.items × (l.most + MAX_AHEAD ≤ vec_capacity l.held) × (vec_capacity l.initial.held ≤ vec_capacity l.held)
-    × (vec_len l.held ≤ l.most + MAX_AHEAD)
+    × AreHeld l.held.items l.most
 
 abbrev pub decreases-pulls : goal.decreases-pulls
 decreases-pulls g l = l.most - vec_len l.held

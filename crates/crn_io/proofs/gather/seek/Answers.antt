@@ -1,6 +1,7 @@
 use Rattle.std.proofs.Common.{◌≡◌, ◌≤◌, ◌+◌, ◌∙◌, ap, List, ℕ, [], length, drop, refl, sym, arith, length-drop}
 use Rattle.std.proofs.lemmas.List.{append-nil}
 use Rattle.crn_io.specs.declared.lines.TheConstants.{MAX_AHEAD}
+use Rattle.crn_io.proofs.LineLists.{IsLine-none}
 use Rattle.crn_io.proofs.Streams.{Consumes-none}
 use Rattle.crn_io.proofs.gather.seek.Goals as goal
 
@@ -10,4 +11,4 @@ returns-in-Some-clause-gives g c =
     let e : c.split_at.result.1.now ≡ rest = c.split_at.ensures.back ∙ ap (λ (t : List ℕ). drop c.args.from.now t) c.deref.ensures.value in
     let found = rw e at c.in-Some.ensures in
     let short : length rest ≤ c.in-Some.i + MAX_AHEAD = omega (arith, length-drop c.args.from.now c.args.held.now.items) in
-    ([], sym (append-nil rest), Consumes-none _, (found, short), refl, omega (arith, length-drop c.args.from.now c.args.held.now.items))
+    ([], sym (append-nil rest), Consumes-none _, (found, short), refl, ([], rest, refl, IsLine-none, omega arith, omega (arith, length-drop c.args.from.now c.args.held.now.items)))
