@@ -12,7 +12,7 @@ check_members-requires-clause-proof c =
     let net = c.args.net.now in
     let proof = c.in-Rank-Rank.proof in
     let formed = rw (c.in-Rank-Rank.is-0, c.in-Rank-Rank.is-1) at c.requires.formed in
-    let r = rank_formed net formed.0 c.in-Rank-Rank.rank c.in-Rank-Rank.base proof formed.1 in
+    let r = rank_formed net formed.0 c.in-Rank-Rank.rank-0 c.in-Rank-Rank.base-0 proof formed.1 in
     subst (λ (ms : List ℕ). IsRankProof net ms (length proof.base.list) proof) (sym (all_members net)) (subst (λ (n : ℕ). IsRankProof net (range_with_len 1 (length net.reactions)) n proof) (sym r.long) r)
 
 pub returns-in-Rank-Rank : goal.returns-in-Rank-Rank

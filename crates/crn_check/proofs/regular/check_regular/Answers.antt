@@ -1,9 +1,11 @@
 use Rattle.std.proofs.Common.{◌≡◌, ◌∙◌, ℕ, List, length, ap, ap₂, sym, subst}
 use Rattle.crn_cert.specs.declared.answer.Verdict.{Verdict}
 use Rattle.crn_cert.specs.Questions.{labels_of, exits_of}
+use Rattle.crn_cert.specs.Parts.{AreSides}
 use Rattle.crn_cert.specs.Tests.{Test}
 use Rattle.crn_cert.specs.ClassTests.{AreSideMarks}
 use Rattle.crn_cert.specs.Valid.{linkage, strong, exits, pair_places}
+use Rattle.crn_cert.proofs.CallerLemmas.{sides_formed}
 use Rattle.crn_pairs.specs.Pairs.{pairs_to}
 use Rattle.crn_check.specs.Check.{Judges}
 use Rattle.crn_check.specs.Inner.Ordered.{ordered_tests}
@@ -15,6 +17,16 @@ pub check_sides-requires-clause-linkage : goal.check_sides-requires-clause-linka
 check_sides-requires-clause-linkage c =
     ap (λ (l : List ℕ). length l) (c.labels_in-linkage.ensures ∙ ap (λ (v : Verdict). labels_of v) c.verdict.ensures)
     ∙ (linkage_labelled c.args.net.now c.args.facts.now c.requires.facts c.requires.linkage).0
+
+pub check_sides-requires-clause-sides : goal.check_sides-requires-clause-sides
+check_sides-requires-clause-sides c =
+    let net = c.args.net.now in
+    let earlier = c.args.facts.now.earlier in
+    let sides = c.in-Yes-Sides.sides in
+    let labels : c.labels_in.result.now ≡ strong earlier = c.labels_in.ensures ∙ ap (λ (v : Verdict). labels_of v) c.verdict-classes.ensures in
+    let out : c.exits_in.result.now ≡ exits earlier = c.exits_in.ensures ∙ ap (λ (v : Verdict). exits_of v) c.verdict-classes.ensures in
+    let formed = rw (c.in-Yes-Sides.is-0, c.in-Yes-Sides.is-1) at c.requires.formed in
+    subst (λ (rs : List ℕ). AreSides net rs sides) (sym (ap₂ (λ (a b : List ℕ). pairs_to net a b (length net.reactions)) labels out)) (sides_formed net earlier sides formed)
 
 pub returns-in-Yes-Sides : goal.returns-in-Yes-Sides
 returns-in-Yes-Sides c =
