@@ -1,5 +1,5 @@
 -- What callers need beside the contracts: verdicts that are true or open, answers that rest on the rank, and right classes.
-use Rattle.std.proofs.Common.{◌≡◌, ℕ, [], length, refl}
+use Rattle.std.proofs.Common.{◌≡◌, ℕ, [], length, refl, arith}
 use Rattle.crn_vec.specs.Network.{Net, IsNetwork}
 use Rattle.crn_vec.specs.Linkage.{AreRightLabels}
 use Rattle.crn_cert.specs.declared.answer.Gap.TheVariants.{Rests}

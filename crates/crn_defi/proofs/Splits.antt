@@ -30,7 +30,7 @@ pub number_of : (net : Net) (count : ℕ) (links : List ℕ) (strong_count termi
 number_of net count links strong_count terminal labels exits levels None known falls h = tt
 number_of net count links strong_count terminal labels exits levels (Some f) known falls h =
     let own = earlier_of count links strong_count terminal labels exits (Unknown (Rests 5)) in
-    (split_given net 1 own count links strong_count terminal labels exits levels (Unknown (Rests 5)) f.0 f.1 known falls tt (earlier_gives net count links strong_count terminal labels exits (Unknown (Rests 5)) known) h).formed.0.1
+    (split_given net 1 own count links strong_count terminal labels exits levels (Unknown (Rests 5)) f.0 f.1 known falls tt (earlier_gives net count links strong_count terminal labels exits (Unknown (Rests 5)) known) h).formed.0.head.1.0
 
 pub tests_of : (net : Net) (earlier : Earlier) (count : ℕ) (links : List ℕ) (strong_count terminal : ℕ) (labels exits levels : List ℕ) (found : Option (ℕ × ℕ)) → Known net count links strong_count terminal labels exits → DoLevelsFall net labels levels
     → GiveClasses earlier links count labels exits → Finds labels exits links count found → MatchOption found (HaveOneEach earlier) (λ f. IsFirstSplit earlier f.0 f.1)

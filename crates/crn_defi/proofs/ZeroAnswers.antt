@@ -1,5 +1,5 @@
 -- The answer on the Deficiency Zero Theorem that the deficiency gives.
-use Rattle.std.proofs.Common.{◌≡◌, ◌≢◌, ℕ, zero, suc, ◌+◌, ◌≤◌, Bool, length, refl, sym, subst, arith}
+use Rattle.std.proofs.Common.{◌≡◌, ◌≢◌, ℕ, zero, suc, ◌+◌, ◌≤◌, Bool, true, false, length, refl, sym, subst, arith}
 use Rattle.std.specs.Prelude.{List, ◌↔◌, IsTrue}
 use Rattle.crn_vec.specs.Network.{Net}
 use Rattle.crn_vec.specs.Strong.{IsWeaklyReversible}
@@ -11,6 +11,7 @@ use Rattle.crn_cert.specs.Questions.{Earlier, Q4, Q5, Q9, on, rank_of, IsYes}
 use Rattle.crn_cert.specs.Says.{AreLinkageClasses}
 use Rattle.crn_cert.specs.Valid.{IsLeft}
 use Rattle.crn_cert.specs.Answered.{IsAnswer}
+use Rattle.crn_cert.specs.Formed.{IsFormedOf}
 use Rattle.crn_cert.specs.Given.{GiveRank}
 use Rattle.crn_defi.proofs.Counted.{number_of_classes}
 use Rattle.crn_defi.proofs.DeficiencyAnswers.{left_is, rank_known}
@@ -22,12 +23,16 @@ deficiency_is net count total rank labels h r left = record { classes = count; r
 left_earlier : (net : Net) (earlier : Earlier) (count total rank : ℕ) (labels : List ℕ) → GiveRank earlier labels count rank → total + count + rank ≡ length net.complexes → IsLeft net earlier total (rank_of (on earlier Q5))
 left_earlier net earlier count total rank labels g left = left_is net earlier total rank g.rank_is (subst (λ (m : ℕ). total + m + rank ≡ length net.complexes) (sym g.count_is) left)
 
+weak_formed : (net : Net) (earlier : Earlier) (weak : Bool) → IsFormedOf net earlier Q9 (YesWeak weak) Nothing
+weak_formed net earlier true = (record { head = ((omega arith, omega arith), tt); rows = tt; trees = tt }, (refl, refl))
+weak_formed net earlier false = (record { head = ((omega arith, omega arith), tt); rows = tt; trees = tt }, (refl, refl))
+
 pub zero_holds : (net : Net) (budget : ℕ) (earlier : Earlier) (count total rank : ℕ) (labels : List ℕ) (weak : Bool) → GiveRank earlier labels count rank → IsRank (vectors net) rank → AreLinkageClasses net count labels
     → (IsTrue weak ↔ IsWeaklyReversible net.reactions) → (IsTrue weak ↔ IsYes (on earlier Q4)) → total + count + rank ≡ length net.complexes → total ≡ 0 → IsAnswer net budget earlier Q9 (record { verdict = YesWeak weak; proof = Nothing })
 zero_holds net budget earlier count total rank labels weak g r h is known left none =
     let whole : 0 + count + rank ≡ length net.complexes = omega (arith, left, none) in
     record {
-      formed = (tt, tt);
+      formed = weak_formed net earlier weak;
       valid = (rank_known earlier rank g.rank_is, ((left_earlier net earlier count 0 rank labels g whole, known), tt));
       answered = (deficiency_is net count 0 rank labels h r whole, is);
     }
@@ -36,8 +41,9 @@ pub zero_fails : (net : Net) (budget : ℕ) (earlier : Earlier) (count total ran
     → total + count + rank ≡ length net.complexes → total ≢ 0 → IsAnswer net budget earlier Q9 (record { verdict = NoNumber total; proof = Nothing })
 zero_fails net budget earlier count total rank labels g r h left some =
     let from : 1 ≤ total = positive total some in
+    let most : total ≤ length net.complexes = omega (arith, left) in
     record {
-      formed = ((from, omega (arith, left)), tt);
+      formed = (record { head = ((from, most), tt); rows = tt; trees = tt }, (refl, refl));
       valid = (rank_known earlier rank g.rank_is, (left_earlier net earlier count total rank labels g left, tt));
       answered = (deficiency_is net count total rank labels h r left, some);
     }
