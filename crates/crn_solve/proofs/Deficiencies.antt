@@ -1,5 +1,5 @@
 -- The answer on the deficiencies is one of the crate of deficiencies, or rests on the rank.
-use Rattle.std.proofs.Common.{◌≡◌, ℕ, List, Some, None, refl, sym, ap, subst, ◌∙◌}
+use Rattle.std.proofs.Common.{◌≡◌, ℕ, List, Some, None, refl, sym, ap, subst, ◌∙◌, arith}
 use Rattle.crn_vec.specs.Network.{Net}
 use Rattle.crn_vec.specs.Rank.{IsRank}
 use Rattle.crn_vec.specs.Deficiency.{vectors}

@@ -1,5 +1,5 @@
 -- The answer on signals is one of the crate of signals, rests on an open verdict, or says that there is no vector.
-use Rattle.std.proofs.Common.{◌≡◌, ◌∙◌, ◌⊎◌, ℕ, inl, inr, List, [], ◌∷◌, refl, ap, sym, subst}
+use Rattle.std.proofs.Common.{◌≡◌, ◌∙◌, ◌⊎◌, ℕ, inl, inr, List, [], ◌∷◌, refl, ap, sym, subst, arith}
 use Rattle.std.specs.Prelude.{◌↔◌, IsTrue, Bool, ℤ, Result, Ok, Err, IfOk}
 use Rattle.std.specs.Option.{IsSome, IsSomeAnd}
 use Rattle.std.proofs.lemmas.Bool.{false≢true}
@@ -26,18 +26,18 @@ use Rattle.crn_solve.specs.Inner.Sides.{GiveSides}
 
 -- an open verdict on confluence vectors leaves signals open
 pub signal_rests : (net : Net) (budget : ℕ) (earlier : Earlier) (v : Verdict) → IsOpen v → on earlier Q12 ≡ tight v → IsAnswer net budget earlier Q13 (rests_answer 12)
-signal_rests net budget earlier v o is = record { formed = (refl, refl); valid = tt; answered = (refl, subst IsOpen (sym is) (subst (λ (A : Type 0). A) (sym (open_tight v)) o), tt) }
+signal_rests net budget earlier v o is = record { formed = (record { head = ((omega arith, omega arith), tt); rows = tt; trees = tt }, (refl, refl)); valid = tt; answered = (refl, subst IsOpen (sym is) (subst (λ (A : Type 0). A) (sym (open_tight v)) o), tt) }
 
 -- without a vector there is nothing to look for
 no_signals : (net : Net) (weak v : Verdict) → IsNetwork net → IsTrueOf net Q4 weak → IsTrueOrOpen net Q12 v → (IsOpen v → ⊥) → (IsSome (vector_given v) → ⊥) → IsTrueOf net Q13 inapplicable_answer.verdict
 no_signals net weak v n w h not_open no_vector =
     let own : Earlier = (Q4, weak) ∷ (Q12, v) ∷ [] in
     let valid : IsValid net own Q13 inapplicable_answer = ((no_vector, not_open), tt) in
-    valid_answers_are_true Q13 net own inapplicable_answer n (w, tt) (h, tt) (tt, tt) valid
+    valid_answers_are_true Q13 net own inapplicable_answer n (w, tt) (h, tt) (record { head = tt; rows = tt; trees = tt }, (refl, refl)) valid
 
 pub inapplicable_given : (net : Net) (budget : ℕ) (earlier : Earlier) (weak v : Verdict) → IsNetwork net → IsTrueOf net Q4 weak → IsTrueOrOpen net Q12 v → (IsOpen v → ⊥) → (IsSome (vector_given v) → ⊥) → on earlier Q12 ≡ tight v → IsAnswer net budget earlier Q13 inapplicable_answer
 inapplicable_given net budget earlier weak v n w h not_open no_vector is =
-    record { formed = (tt, tt); valid = ((λ s. no_vector (subst (λ x. IsSome x) (ap vector_given is ∙ vector_tight v) s), λ o. not_open (subst (λ (A : Type 0). A) (ap IsOpen is ∙ open_tight v) o)), tt); answered = no_signals net weak v n w h not_open no_vector }
+    record { formed = (record { head = tt; rows = tt; trees = tt }, (refl, refl)); valid = ((λ s. no_vector (subst (λ x. IsSome x) (ap vector_given is ∙ vector_tight v) s), λ o. not_open (subst (λ (A : Type 0). A) (ap IsOpen is ∙ open_tight v) o)), tt); answered = no_signals net weak v n w h not_open no_vector }
 
 -- a verdict that is no vector gives none
 pub none_given : (v : Verdict) → ((vector : KeptInts) → v ≡ YesVec vector → ⊥) → IsSome (vector_given v) → ⊥
