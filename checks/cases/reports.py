@@ -694,7 +694,7 @@ STEPS = ["2A", *("A" + "".join(f" + 98{name}" for name in NAMES[1:k]) + f" + 99{
 WIDE_CLASS = "".join(f"{name} -> 0\n" for name in NAMES) + " -> ".join(STEPS) + "\n"
 
 # Each row: the text, and parts of its report. Another order of exchanges may decide the last.
-DEFICIENCIES = [
+PARTS = [
     ("B -> C\nA -> 2A -> 3A\n", ["\nQ6 deficiency: 1, classes 0 1\n", "\nQ10 deficiency one theorem: hypotheses hold\n"]),
     (
         "B -> 2B -> 3B\nA -> 2A -> 3A -> 4A\n",
@@ -714,6 +714,13 @@ DEFICIENCIES = [
             "\nQ10 deficiency one theorem: hypotheses fail, class 2 has 2 terminal classes\n"
             "Q11 regular: no, class 2 has 2 terminal classes\n",
         ],
+    ),
+    # both fail: dependence comes first
+    ("A -> B\nB -> C\nC -> A\nD -> E\n", ["\nQ11 regular: no, not positively dependent\n"]),
+    # both the vector and its negative have signals: the vector comes first
+    (
+        "3A <-> A + C\nA + C <-> 4C\nC + B <-> A + B\n",
+        ["\nQ12 confluence vector: yes\n  vector: 2 -1 -1 5 -5\nQ13 signal: yes\n  turn: 1\n"],
     ),
     (WIDE_CLASS, ["\nQ6 deficiency: open, wide\n  system 3 class 2\n  index ", "\nQ10 deficiency one theorem: open, rests on Q6\n"]),
 ]
@@ -742,8 +749,8 @@ def tries(program):
         yield f"report: {text}", *is_refused(program, text, want)
     for name, text, parts in WIDE:
         yield name, *has_parts(program, text, parts)
-    for text, parts in DEFICIENCIES:
-        yield f"the deficiencies of {text!r:.60}", *has_parts(program, text, parts)
+    for text, parts in PARTS:
+        yield f"parts of the report of {text!r:.60}", *has_parts(program, text, parts)
     for line, text, status, end in BUDGETS:
         got, out, _ = run(program, line.split(), text)
         yield f"{line}: {text!r:.60}", got == status and out.endswith(end.encode()), (got, out)
