@@ -1,6 +1,8 @@
 -- Values of the first numbers are numbered anew by first appearance.
-use Rattle.std.proofs.Common.{◌≡◌, ◌≢◌, ◌⊎◌, ℕ, zero, suc, ◌<◌, ◌≤◌, inl, inr, refl, sym, ap, subst, ◌∙◌, arith}
-use Rattle.std.specs.Prelude.{Option, Some, None}
+use Rattle.std.proofs.Common.{◌≡◌, ◌≢◌, ◌⊎◌, ℕ, zero, suc, ◌<◌, inl, inr, get_or, refl, sym, ap, ◌∙◌, arith}
+use Rattle.std.specs.Prelude.{Option, Some}
+use Rattle.std.specs.List.{range_with_len}
+use Rattle.std.proofs.lemmas.List.FromFn.{get_or-range_with_len}
 use Rattle.crn_vec.proofs.CallerLemmas.{below_or, eq_or, none_some, option_or, some_is}
 
 -- the values that f has below n, by the place at which each appears first
@@ -29,15 +31,15 @@ seen_or f v (suc n) = elim (seen_or f v n) as (λ _. ((y : ℕ) × (y < suc n) �
 ]
 
 -- x at the number k, and else as before
-abbrev put_by : (i k : ℕ) → (i ≡ k) ⊎ (i ≢ k) → ℕ → ℕ → ℕ
+abbrev pub put_by : (i k : ℕ) → (i ≡ k) ⊎ (i ≢ k) → ℕ → ℕ → ℕ
 put_by i k (inl e) x before = x
 put_by i k (inr ne) x before = before
 
-put_here : (i k : ℕ) (d : (i ≡ k) ⊎ (i ≢ k)) (x before : ℕ) → i ≡ k → put_by i k d x before ≡ x
+pub put_here : (i k : ℕ) (d : (i ≡ k) ⊎ (i ≢ k)) (x before : ℕ) → i ≡ k → put_by i k d x before ≡ x
 put_here i k (inl e) x before is = refl
 put_here i k (inr ne) x before is = absurd (ne is)
 
-put_other : (i k : ℕ) (d : (i ≡ k) ⊎ (i ≢ k)) (x before : ℕ) → i ≢ k → put_by i k d x before ≡ before
+pub put_other : (i k : ℕ) (d : (i ≡ k) ⊎ (i ≢ k)) (x before : ℕ) → i ≢ k → put_by i k d x before ≡ before
 put_other i k (inl e) x before ne = absurd (ne e)
 put_other i k (inr d) x before ne = refl
 
@@ -137,3 +139,7 @@ first_numbers f (suc n) =
         | inr none ↦ numbered_new f n w b here none
       ]
     ]
+
+-- the number at a place of the first numbers
+pub place_in : (n k : ℕ) → k < n → get_or (range_with_len 0 n) k 0 ≡ k
+place_in n k lt = omega (arith, get_or-range_with_len 0 n k 0 lt)

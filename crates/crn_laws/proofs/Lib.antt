@@ -1,5 +1,9 @@
 mod Dependence
+mod FirstNumbers
+mod Labelled
 mod Hypotheses
+mod Ranked
+mod Deficiencies
 mod Systems
 mod Totals
 mod Renumberings
@@ -8,8 +12,8 @@ mod SharedDependence
 mod SharedWalks
 mod SharedClasses
 mod SharedRank
+mod SharedDeficiencies
 mod SharedConcordance
 mod Primitive
 mod SharedConfluence
-mod FirstNumbers
 mod SharedSignals

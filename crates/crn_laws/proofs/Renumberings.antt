@@ -1,12 +1,12 @@
--- A renumbering the other way round, and the reactions, complexes and vectors of a network numbered anew.
-use Rattle.std.proofs.Common.{◌≡◌, ℕ, ◌<◌, List, [], length, get_or, refl, sym, ap, ◌∙◌, arith}
+-- A renumbering the other way round, the reactions, complexes and vectors of a network numbered anew, and renumberings by a relation.
+use Rattle.std.proofs.Common.{◌≡◌, ◌⊎◌, ℕ, ◌<◌, ◌≤◌, inl, inr, List, [], length, get_or, refl, sym, ap, ◌∙◌, arith}
 use Rattle.std.specs.Prelude.{ℤ, ◌-ℤ◌}
 use Rattle.std.proofs.lemmas.Int.{ints}
 use Rattle.crn_vec.specs.Network.{Net, IsNetwork, amount_at, reaction_vector}
 use Rattle.crn_vec.specs.Vectors.{entry, column}
 use Rattle.crn_vec.specs.Strong.{IsReaction, ReactsTo}
 use Rattle.crn_vec.specs.Deficiency.{vectors}
-use Rattle.crn_vec.proofs.CallerLemmas.{entry-column, entry-listed, entry-minus, inside_at, length-column, length-listed, listed, place_of, reaction_in, vector_at, vector_long, vector_width, vectors_count}
+use Rattle.crn_vec.proofs.CallerLemmas.{entry-column, entry-listed, entry-minus, inside_at, length-column, length-listed, listed, lt_or, place_of, reaction_in, vector_at, vector_long, vector_width, vectors_count}
 use Rattle.crn_laws.specs.Renumbered.{IsMoved, Renumbering, IsRenumbered}
 
 abbrev pub turned : (n m : ℕ) → Renumbering n m → Renumbering m n
@@ -118,3 +118,39 @@ moved_anew n m p xs long = record {
 -- an entry in the new order is one in the old
 pub entry_back : (n m : ℕ) (p : Renumbering n m) (xs ys : List ℤ) → IsMoved n m p xs ys → (k : ℕ) → k < m → entry ys k ≡ entry xs (p.back k)
 entry_back n m p xs ys h k lt = ap (entry ys) (sym (p.to_back k lt)) ∙ h.same (p.back k) (p.back_below k lt)
+
+-- ---- numbers that a relation matches one to one
+
+pub record Matching (n m : ℕ) (R : ℕ → ℕ → Type 0) : Type 0 where
+  pub numbering : Renumbering n m
+  pub is : (k : ℕ) → k < n → R k (numbering.to k)
+
+-- the number that matches, 0 past the end
+abbrev match_by : (n m : ℕ) (R : ℕ → ℕ → Type 0) → ((k : ℕ) → k < n → (j : ℕ) × (j < m) × R k j) → (k : ℕ) → (k < n) ⊎ (n ≤ k) → ℕ
+match_by n m R f k (inl lt) = (f k lt).0
+match_by n m R f k (inr le) = 0
+
+matched : (n m : ℕ) (R : ℕ → ℕ → Type 0) (f : (k : ℕ) → k < n → (j : ℕ) × (j < m) × R k j) (k : ℕ) (p : (k < n) ⊎ (n ≤ k)) → k < n → (match_by n m R f k p < m) × R k (match_by n m R f k p)
+matched n m R f k (inl lt) inside = ((f k lt).1, (f k lt).2)
+matched n m R f k (inr le) inside = absurd (omega (arith, le, inside))
+
+pub matching : (n m : ℕ) (R : ℕ → ℕ → Type 0) → ((k : ℕ) → k < n → (j : ℕ) × (j < m) × R k j) → ((j : ℕ) → j < m → (k : ℕ) × (k < n) × R k j)
+    → ((k i j : ℕ) → k < n → i < m → j < m → R k i → R k j → i ≡ j) → ((i k j : ℕ) → i < n → k < n → j < m → R i j → R k j → i ≡ k) → Matching n m R
+matching n m R f g one alone =
+    let back : (j : ℕ) → j < m → (k : ℕ) × (k < n) × R k j = g in
+    let Q : ℕ → ℕ → Type 0 = λ j k. R k j in
+    let to : ℕ → ℕ = λ k. match_by n m R f k (lt_or k n) in
+    let fro : ℕ → ℕ = λ j. match_by m n Q g j (lt_or j m) in
+    let there : (k : ℕ) → k < n → (to k < m) × R k (to k) = λ k lt. matched n m R f k (lt_or k n) lt in
+    let here : (j : ℕ) → j < m → (fro j < n) × R (fro j) j = λ j lt. matched m n Q g j (lt_or j m) lt in
+    record {
+      numbering = record {
+        to = to;
+        back = fro;
+        to_below = λ k lt. (there k lt).0;
+        back_below = λ j lt. (here j lt).0;
+        back_to = λ k lt. let t = there k lt in let h = here (to k) t.0 in alone (fro (to k)) k (to k) h.0 lt t.0 h.1 t.1;
+        to_back = λ j lt. let h = here j lt in let t = there (fro j) h.0 in one (fro j) (to (fro j)) j h.0 t.0 lt t.1 h.1;
+      };
+      is = λ k lt. (there k lt).1;
+    }

@@ -41,7 +41,7 @@ terminals_anew net other n o h y k inside =
     (λ z has. (has.0, (h.complexes.back_below z has.0, subst (λ (a : ℕ). SameClass rs a (back z)) (h.complexes.back_to y inside) (class_anew other net turned (to y) z has.1), terminal_anew other net o n turned z has.0 has.2)))
     (strong_anew net other h) (strong_anew other net turned) k
 
-one_terminal_anew : (net other : Net) → IsNetwork net → IsNetwork other → IsRenumbered net other → HasOneTerminalEach net → HasOneTerminalEach other
+pub one_terminal_anew : (net other : Net) → IsNetwork net → IsNetwork other → IsRenumbered net other → HasOneTerminalEach net → HasOneTerminalEach other
 one_terminal_anew net other n o h one z inside =
     let y = h.complexes.back z in
     let there = h.complexes.back_below z inside in

@@ -1,24 +1,22 @@
 -- Signals do not depend on the numbering.
-use Rattle.std.proofs.Common.{◌≡◌, ◌≢◌, ◌⊎◌, ℕ, ◌<◌, ◌≤◌, inl, inr, List, [], length, get_or, map, refl, sym, ap, ap₂, subst, ◌∙◌, arith}
-use Rattle.std.specs.Prelude.{ℤ, pos, ◌-ℤ◌, Option, Some, None}
-use Rattle.std.specs.List.{AllZip, range_with_len}
+use Rattle.std.proofs.Common.{◌≡◌, ℕ, ◌<◌, List, [], length, map, refl, sym, ap, subst, ◌∙◌, arith}
+use Rattle.std.specs.Prelude.{ℤ, ◌-ℤ◌, Option, Some, None}
+use Rattle.std.specs.List.{range_with_len}
 use Rattle.std.proofs.lemmas.List.{get_or-map, length-map}
-use Rattle.std.proofs.lemmas.List.FromFn.{get_or-range_with_len, length-range_with_len}
+use Rattle.std.proofs.lemmas.List.FromFn.{length-range_with_len}
 use Rattle.crn_vec.specs.declared.signs.Sign.{Sign}
 use Rattle.crn_vec.specs.declared.signs.Sign.TheVariants.{Zero}
 use Rattle.crn_vec.specs.Network.{Net, IsNetwork}
 use Rattle.crn_vec.specs.Strong.{SameStrong, IsTerminal}
 use Rattle.crn_vec.specs.CutPairs.{IsCutPair, IsFreeStep, IsOnSide}
 use Rattle.crn_vec.specs.Vectors.{dot, entry, HasSign}
-use Rattle.crn_vec.specs.Rank.{combination_at}
-use Rattle.crn_vec.specs.Sums.{SumsTo}
-use Rattle.crn_vec.specs.Deficiency.{IsComplex, vectors}
+use Rattle.crn_vec.specs.Deficiency.{IsComplex}
 use Rattle.crn_vec.specs.Concordance.{sign}
 use Rattle.crn_vec.specs.Signals.{HasPairSign, shelf_at, shelf_of}
-use Rattle.crn_vec.specs.NetSignals.{AreTops, IsSignalOf, IsSignalOver, complex_of, top_at}
-use Rattle.crn_vec.proofs.CallerLemmas.{lt_or, none_some, option_or, some_is, top_inside, vector_long, zip_at, zip_from}
+use Rattle.crn_vec.specs.NetSignals.{AreTops, complex_of, top_at}
+use Rattle.crn_vec.proofs.CallerLemmas.{some_is, top_inside, vector_long, zip_at, zip_from}
 use Rattle.crn_laws.specs.Renumbered.{HasSignal, IsMoved, IsRenumbered, IsVectorAnew, RenumberedShareSignals}
-use Rattle.crn_laws.proofs.FirstNumbers.{Numbered, first_numbers}
+use Rattle.crn_laws.proofs.FirstNumbers.{Numbered, first_numbers, place_in}
 use Rattle.crn_laws.proofs.Renumberings.{anew, entry_back, moved_anew, turned_net}
 use Rattle.crn_laws.proofs.SharedClasses.{between_anew, cut_anew, linked_inside, terminal_anew}
 use Rattle.crn_laws.proofs.SharedConfluence.{moved_back, some_anew, sums_anew}
@@ -54,10 +52,6 @@ record TopsAnew (net other : Net) (h : IsRenumbered net other) (tops : List (Opt
   number : Numbered (λ z. top_at tops (h.complexes.back z)) (length other.complexes)
   is : (z : ℕ) → z < length other.complexes → top_at news z ≡ again number.place (top_at tops (h.complexes.back z))
   are : AreTops other news number.count
-
--- the number at a place of the first numbers
-place_in : (n k : ℕ) → k < n → get_or (range_with_len 0 n) k 0 ≡ k
-place_in n k lt = omega (arith, get_or-range_with_len 0 n k 0 lt)
 
 -- what a new number is of
 record From (net other : Net) (h : IsRenumbered net other) (tops news : List (Option ℕ)) (place : ℕ → ℕ) (z k : ℕ) : Type 0 where

@@ -1,5 +1,5 @@
 -- Texts with the same statements in another order spell the same network in another order.
-use Rattle.std.proofs.Common.{◌≡◌, ◌⊎◌, ℕ, ◌<◌, ◌≤◌, inl, inr, List, [], ◌∷◌, length, get_or, map, refl, sym, ap, ap₂, subst, ◌∙◌, arith}
+use Rattle.std.proofs.Common.{◌≡◌, ℕ, ◌<◌, ◌≤◌, inl, inr, List, [], ◌∷◌, length, get_or, map, refl, sym, ap, ap₂, subst, ◌∙◌, arith}
 use Rattle.std.specs.Prelude.{ℤ, pos}
 use Rattle.std.specs.List.{flat_map}
 use Rattle.std.specs.Str.{bytes_eq}
@@ -7,48 +7,12 @@ use Rattle.std.proofs.lemmas.Int.{ints}
 use Rattle.std.proofs.lemmas.List.{ext_get_or, get_or-map}
 use Rattle.crn_vec.specs.Lists.{IsIn, firsts}
 use Rattle.crn_vec.specs.Network.{Holds, Net, IsNetwork, Statement, amount_at, amount_in, amounts_in, ends, names_in, said_by, sides_eq, sides_of}
-use Rattle.crn_vec.proofs.CallerLemmas.{at_in, firsts_from, firsts_has, has_name, in_at, in_flat_map, in_left, in_map, in_right, inside_at, lt_or, map_in, name_decides, none_said, pair, place_of, same_place, sides_decide, vector_long}
+use Rattle.crn_vec.proofs.CallerLemmas.{at_in, firsts_from, firsts_has, has_name, in_at, in_flat_map, in_left, in_map, in_right, inside_at, map_in, name_decides, none_said, pair, place_of, same_place, sides_decide, vector_long}
 use Rattle.crn_text.specs.Sides.{all_statements}
 use Rattle.crn_text.specs.Spells.{Spells}
 use Rattle.crn_text.specs.Tokens.{lines}
-use Rattle.crn_laws.specs.Renumbered.{AreAlike, Renumbering, IsRenumbered, StatementsInAnyOrder}
-use Rattle.crn_laws.proofs.Renumberings.{end_at, ends_inside, reaction_here}
-
--- ---- numbers that a relation matches one to one
-
-record Matching (n m : ℕ) (R : ℕ → ℕ → Type 0) : Type 0 where
-  numbering : Renumbering n m
-  is : (k : ℕ) → k < n → R k (numbering.to k)
-
--- the number that matches, 0 past the end
-abbrev match_by : (n m : ℕ) (R : ℕ → ℕ → Type 0) → ((k : ℕ) → k < n → (j : ℕ) × (j < m) × R k j) → (k : ℕ) → (k < n) ⊎ (n ≤ k) → ℕ
-match_by n m R f k (inl lt) = (f k lt).0
-match_by n m R f k (inr le) = 0
-
-matched : (n m : ℕ) (R : ℕ → ℕ → Type 0) (f : (k : ℕ) → k < n → (j : ℕ) × (j < m) × R k j) (k : ℕ) (p : (k < n) ⊎ (n ≤ k)) → k < n → (match_by n m R f k p < m) × R k (match_by n m R f k p)
-matched n m R f k (inl lt) inside = ((f k lt).1, (f k lt).2)
-matched n m R f k (inr le) inside = absurd (omega (arith, le, inside))
-
-matching : (n m : ℕ) (R : ℕ → ℕ → Type 0) → ((k : ℕ) → k < n → (j : ℕ) × (j < m) × R k j) → ((j : ℕ) → j < m → (k : ℕ) × (k < n) × R k j)
-    → ((k i j : ℕ) → k < n → i < m → j < m → R k i → R k j → i ≡ j) → ((i k j : ℕ) → i < n → k < n → j < m → R i j → R k j → i ≡ k) → Matching n m R
-matching n m R f g one alone =
-    let back : (j : ℕ) → j < m → (k : ℕ) × (k < n) × R k j = g in
-    let Q : ℕ → ℕ → Type 0 = λ j k. R k j in
-    let to : ℕ → ℕ = λ k. match_by n m R f k (lt_or k n) in
-    let fro : ℕ → ℕ = λ j. match_by m n Q g j (lt_or j m) in
-    let there : (k : ℕ) → k < n → (to k < m) × R k (to k) = λ k lt. matched n m R f k (lt_or k n) lt in
-    let here : (j : ℕ) → j < m → (fro j < n) × R (fro j) j = λ j lt. matched m n Q g j (lt_or j m) lt in
-    record {
-      numbering = record {
-        to = to;
-        back = fro;
-        to_below = λ k lt. (there k lt).0;
-        back_below = λ j lt. (here j lt).0;
-        back_to = λ k lt. let t = there k lt in let h = here (to k) t.0 in alone (fro (to k)) k (to k) h.0 lt t.0 h.1 t.1;
-        to_back = λ j lt. let h = here j lt in let t = there (fro j) h.0 in one (fro j) (to (fro j)) j h.0 t.0 lt t.1 h.1;
-      };
-      is = λ k lt. (there k lt).1;
-    }
+use Rattle.crn_laws.specs.Renumbered.{AreAlike, IsRenumbered, StatementsInAnyOrder}
+use Rattle.crn_laws.proofs.Renumberings.{end_at, ends_inside, matching, reaction_here}
 
 -- ---- what the statements say
 

@@ -28,17 +28,17 @@ total_twice zero m g = sym (total_none m)
 total_twice (suc n) m g = omega (arith, ints, total_twice n m (λ i j. g (suc i) j), total_plus m (λ j. g 0 j) (λ j. total n (λ i. g (suc i) j)))
 
 -- x at place k, 0 at the others
-abbrev pick : ℕ → ℕ → ℤ → ℤ
+abbrev pub pick : ℕ → ℕ → ℤ → ℤ
 pick zero zero x = x
 pick zero (suc j) x = pos 0
 pick (suc k) zero x = pos 0
 pick (suc k) (suc j) x = pick k j x
 
-pick_here : (k : ℕ) (x : ℤ) → pick k k x ≡ x
+pub pick_here : (k : ℕ) (x : ℤ) → pick k k x ≡ x
 pick_here zero x = refl
 pick_here (suc k) x = pick_here k x
 
-pick_other : (k j : ℕ) (x : ℤ) → k ≢ j → pick k j x ≡ pos 0
+pub pick_other : (k j : ℕ) (x : ℤ) → k ≢ j → pick k j x ≡ pos 0
 pick_other zero zero x ne = absurd (ne refl)
 pick_other zero (suc j) x ne = refl
 pick_other (suc k) zero x ne = refl

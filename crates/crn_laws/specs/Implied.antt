@@ -1,12 +1,12 @@
 -- What a verdict on a network says of others.
 -- Source: Feinberg, Foundations of Chemical Reaction Network Theory (2019); on confluence vectors
 -- and regularity, after Feinberg (1988, 1995).
-use Rattle.std.specs.Prelude.{◌↔◌, ℕ, List}
+use Rattle.std.specs.Prelude.{◌⊎◌, ◌↔◌, ℕ, List}
 use Rattle.crn_vec.specs.Network.{Net, IsNetwork}
 use Rattle.crn_vec.specs.Linkage.{IsLinked}
 use Rattle.crn_vec.specs.Strong.{IsWeaklyReversible}
 use Rattle.crn_vec.specs.CutPairs.{IsCutPair}
-use Rattle.crn_vec.specs.Deficiency.{IsPositivelyDependent, HasOneTerminalEach, AreDeficiencies, IsDeficiencyOne}
+use Rattle.crn_vec.specs.Deficiency.{IsPositivelyDependent, HasOneTerminalEach, AreDeficiencies, IsDeficiencyZero, IsDeficiencyOne}
 use Rattle.crn_vec.specs.Confluence.{IsRegular}
 
 -- a weakly reversible network is positively dependent
@@ -25,8 +25,19 @@ WeaklyReversibleAreRegularByCutPairs = (net : Net) → IsNetwork net
     → IsWeaklyReversible net.reactions
     → IsRegular net ↔ ((y z : ℕ) → IsLinked net.reactions y z → IsCutPair net.reactions y z)
 
--- if the deficiency is 0, those of the linkage classes are some list, and each linkage class has one
--- terminal strong class, then the hypotheses of the Deficiency One Theorem hold
+-- a weakly reversible network is regular, or some linked pair is no cut pair
+abbrev pub WeaklyReversibleAreRegularOrFail : Type 0
+WeaklyReversibleAreRegularOrFail = (net : Net) → IsNetwork net → IsWeaklyReversible net.reactions
+    → IsRegular net
+    ⊎ ((y : ℕ) × (z : ℕ) × IsLinked net.reactions y z × (IsCutPair net.reactions y z → ⊥))
+
+-- each network has a deficiency, and one for each of its linkage classes
+abbrev pub NetworksHaveDeficiencies : Type 0
+NetworksHaveDeficiencies = (net : Net) → IsNetwork net
+    → (total : ℕ) × (classes : List ℕ) × AreDeficiencies net total classes
+
+-- if the hypotheses of the Deficiency Zero Theorem hold and each linkage class has one terminal strong
+-- class, those of the Deficiency One Theorem hold
 abbrev pub DeficiencyZeroGivesDeficiencyOne : Type 0
-DeficiencyZeroGivesDeficiencyOne = (net : Net) (classes : List ℕ) → IsNetwork net
-    → AreDeficiencies net 0 classes → HasOneTerminalEach net → IsDeficiencyOne net
+DeficiencyZeroGivesDeficiencyOne = (net : Net) → IsNetwork net → IsDeficiencyZero net
+    → HasOneTerminalEach net → IsDeficiencyOne net

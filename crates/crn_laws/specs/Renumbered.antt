@@ -2,13 +2,13 @@
 -- they are if the lines of its text are put in another order.
 -- Source: this project's own.
 -- Shapes: species, complexes and reactions count from 0.
-use Rattle.std.specs.Prelude.{◌≡◌, ◌<◌, ◌⊎◌, ◌↔◌, ℕ, ℤ, List, length}
+use Rattle.std.specs.Prelude.{◌≡◌, ◌<◌, ◌⊎◌, ◌↔◌, ℕ, ℤ, List, length, slice_index}
 use Rattle.crn_vec.specs.Lists.{IsIn}
 use Rattle.crn_vec.specs.Network.{Net, IsNetwork, Statement, amount_at, amount_in}
 use Rattle.crn_vec.specs.Vectors.{entry}
 use Rattle.crn_vec.specs.Rank.{IsRank}
 use Rattle.crn_vec.specs.Strong.{IsReaction, IsReversible, IsWeaklyReversible}
-use Rattle.crn_vec.specs.Deficiency.{vectors, IsDeficiency, IsPositivelyDependent, IsConservative, HasOneTerminalEach}
+use Rattle.crn_vec.specs.Deficiency.{vectors, IsDeficiency, AreDeficiencies, IsDeficiencyZero, IsDeficiencyOne, IsPositivelyDependent, IsConservative, HasOneTerminalEach}
 use Rattle.crn_vec.specs.Confluence.{HasConfluenceLine, IsNormalVector, IsRegular, negative}
 use Rattle.crn_vec.specs.NetSignals.{IsSignalOf}
 use Rattle.crn_vec.specs.declared.signs.Sign.{Sign}
@@ -67,10 +67,24 @@ abbrev pub IsShared : (Net → Type 0) → Type 0
 IsShared Has = (net other : Net) → IsNetwork net → IsNetwork other → IsRenumbered net other
     → Has net ↔ Has other
 
--- renumbered networks have the same rank of their reaction vectors, and the same deficiency
+-- the second list is the first in another order
+pub record IsInOrder (xs ys : List ℕ) : Type 0 where
+  pub places : Renumbering (length xs) (length ys)
+  pub same : (k : ℕ) → k < length xs → slice_index ys (places.to k) ≡ slice_index xs k
+
+-- renumbered networks have the same rank of their reaction vectors, the same deficiency, and the
+-- same deficiencies of their linkage classes in another order
 pub record RenumberedShareNumbers : Type 0 where
   pub rank : (s : ℕ) → IsShared (λ net. IsRank (vectors net) s)
   pub deficiency : (d : ℕ) → IsShared (λ net. IsDeficiency net d)
+  pub classes : (net other : Net) (d e : ℕ) (ds es : List ℕ) → IsNetwork net → IsNetwork other
+      → IsRenumbered net other → AreDeficiencies net d ds → AreDeficiencies other e es
+      → IsInOrder ds es
+
+-- all or none meet the hypotheses of the Deficiency Zero Theorem, or of the Deficiency One Theorem
+pub record RenumberedShareHypotheses : Type 0 where
+  pub zero : IsShared IsDeficiencyZero
+  pub one : IsShared IsDeficiencyOne
 
 -- all or none are reversible, weakly reversible, with one terminal class each, or regular
 pub record RenumberedShareClasses : Type 0 where

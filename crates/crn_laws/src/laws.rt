@@ -1,7 +1,9 @@
 ghost use Rattle.crn_laws.specs.Implied.{
   DeficiencyZeroGivesDeficiencyOne,
+  NetworksHaveDeficiencies,
   WeaklyReversibleAreDependent,
   WeaklyReversibleAreRegularByCutPairs,
+  WeaklyReversibleAreRegularOrFail,
   WeaklyReversibleHaveOneTerminalEach,
 };
 ghost use Rattle.crn_laws.specs.Renumbered.{
@@ -9,6 +11,7 @@ ghost use Rattle.crn_laws.specs.Renumbered.{
   RenumberedShareConcordance,
   RenumberedShareConfluence,
   RenumberedShareDependence,
+  RenumberedShareHypotheses,
   RenumberedShareNumbers,
   RenumberedShareSignals,
   StatementsInAnyOrder,
@@ -25,13 +28,20 @@ pub fn weakly_reversible_networks_have_one_terminal_class_each()
     ensures { WeaklyReversibleHaveOneTerminalEach }
 {}
 
-/// A weakly reversible network is regular if and only if all its linked pairs are cut pairs, whatever its deficiency is.
+/// A weakly reversible network is regular if and only if all its linked pairs are cut pairs, whatever its deficiency is;
+/// so it is regular, or some linked pair is no cut pair.
 pub fn weakly_reversible_networks_are_regular_by_cut_pairs()
-    ensures { WeaklyReversibleAreRegularByCutPairs }
+    ensures pairs { WeaklyReversibleAreRegularByCutPairs }
+    ensures fails { WeaklyReversibleAreRegularOrFail }
 {}
 
-/// If question 6 gives deficiency 0, and each linkage class has one terminal strong class, as in a weakly reversible
-/// network, the hypotheses of the Deficiency One Theorem hold.
+/// Each network has a deficiency, and one for each of its linkage classes.
+pub fn networks_have_deficiencies()
+    ensures { NetworksHaveDeficiencies }
+{}
+
+/// If the hypotheses of the Deficiency Zero Theorem hold, and each linkage class has one terminal strong class, as in a
+/// weakly reversible network, those of the Deficiency One Theorem hold.
 pub fn deficiency_zero_and_one_terminal_class_each_give_deficiency_one()
     ensures { DeficiencyZeroGivesDeficiencyOne }
 {}
@@ -47,9 +57,15 @@ pub fn statements_in_any_order_spell_renumbered_networks()
     ensures { StatementsInAnyOrder }
 {}
 
-/// Networks that are the same in another order have the same rank and the same deficiency.
-pub fn renumbered_networks_share_rank_and_deficiency()
+/// Networks that are the same in another order have the same rank, the same deficiency, and the same deficiencies of
+/// their linkage classes, in another order.
+pub fn renumbered_networks_share_rank_and_deficiencies()
     ensures { RenumberedShareNumbers }
+{}
+
+/// All or none of them meet the hypotheses of the Deficiency Zero Theorem, or of the Deficiency One Theorem.
+pub fn renumbered_networks_share_hypotheses()
+    ensures { RenumberedShareHypotheses }
 {}
 
 /// All or none of them are reversible, weakly reversible, with one terminal strong class in each linkage class, or regular.
