@@ -7,6 +7,7 @@ ROOT is the top of the repository. What follows from verdicts is taken from docs
 a refused line from the tables of docs/, and the examples from examples/networks, so there is one source of each.
 """
 
+import ast
 import base64
 import hashlib
 import json
@@ -18,7 +19,7 @@ import sys
 HERE = pathlib.Path(__file__).resolve().parent
 
 # Each after those that it imports from.
-SCRIPTS = ["run", "program", "report", "conclusions", "cures", "order", "explain", "layered", "springs", "picture", "pointer", "view", "faults", "page"]
+SCRIPTS = ["run", "program", "report", "conclusions", "cures", "order", "explain", "evidence", "layered", "springs", "picture", "pointer", "view", "files", "faults", "page"]
 
 
 # ---- the documents
@@ -55,7 +56,14 @@ def cures(root):
             found.append({"code": int(code[1]), "typed": typed, "note": code[2] or "", "write": row[2]})
     meanings = {row[0]: sentence(row[2]) for row in rows(section(root, "Refusals")) if len(row) == 3 and row[0].isdigit()}
     assert len(found) > 40 and len(meanings) > 12, "the tables of refusals are not where they were"
-    return {"rows": found, "meanings": meanings}
+    return {"rows": found, "meanings": meanings, "advice": advice(root)}
+
+
+def advice(root):
+    """What helps for each code, as the companions say it, too."""
+    tree = ast.parse((root / "companions/src/crnt_tools/cures.py").read_text())
+    values = [it.value for it in tree.body if isinstance(it, ast.Assign) and it.targets[0].id == "CURES"]
+    return {code: sentence(text) for code, text in ast.literal_eval(values[0]).items()}
 
 
 def rejections(root):

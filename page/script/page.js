@@ -6,6 +6,8 @@ import { reordered } from './order.js';
 import { PRINTED, complexPicture, escaped, speciesPicture } from './picture.js';
 import { Pointer } from './pointer.js';
 import { conclusionsView, linesView, summary } from './view.js';
+import { treeWords, treesIn } from './evidence.js';
+import { plain, remedyOfCertificate, remedyOfText } from './files.js';
 import { readFault, refusalView, rejectionView } from './faults.js';
 
 const $ = id => document.getElementById(id);
@@ -33,22 +35,93 @@ let made = null; // the certificate that was made
 
 const typed = () => opened || bytesOf($('text').value);
 
+// The most characters of a text that are shown, as browsers are slow with more. A longer one is read whole all the same, and
+// can be written on when all of it is shown.
+const MOST_SHOWN = 100000;
+let isReplacing = false; // while the page itself changes the text
+
+// Puts a text in the place of what is selected. Chromium takes a second for a hundred lines of plain text, and milliseconds for
+// the same as HTML, which Firefox does not take in a field of text.
+function putIn(text) {
+    if (!text) document.execCommand('delete');
+    else if (!document.execCommand('insertHTML', false, escaped(text))) document.execCommand('insertText', false, text);
+}
+
+// Puts a text in the place of what is typed: only what differs, and so that Ctrl+Z takes it back, if the browser can.
+function replaceText(text) {
+    const field = $('text'), before = field.value, after = text.replace(/\r\n?/g, '\n'), least = Math.min(before.length, after.length);
+    let from = 0, ends = 0;
+    while (from < least && before[from] === after[from]) from++;
+    if (before === after) return;
+    while (ends < least - from && before[before.length - 1 - ends] === after[after.length - 1 - ends]) ends++;
+    const piece = after.slice(from, after.length - ends);
+    if (turn && Math.max(before.length, after.length) <= MOST_SHOWN) {
+        const focused = document.activeElement, place = [scrollX, scrollY];
+        field.focus({ preventScroll: true });
+        field.setSelectionRange(from, before.length - ends);
+        isReplacing = true;
+        putIn(piece);
+        isReplacing = false;
+        if (focused && focused !== field) focused.focus({ preventScroll: true });
+        if (document.activeElement === field && focused !== field) field.blur();
+        scrollTo(...place);
+    }
+    if (field.value !== after) field.value = after;
+}
+
+// Puts a text, or the bytes of a file which show as this text, in the place of what is typed.
+function place(text, bytes = null) {
+    const isLong = text.length > MOST_SHOWN, shown = isLong ? text.slice(0, text.lastIndexOf('\n', MOST_SHOWN) + 1 || MOST_SHOWN) : text;
+    $('text').readOnly = false;
+    replaceText(shown);
+    $('text').readOnly = isLong;
+    show('long', isLong);
+    opened = bytes || (isLong ? bytesOf(text).subarray(0, MOST_TEXT) : null);
+    showNumbers();
+    if (isLong) $('long-text').textContent = `The text is long. It is read whole, and the first ${(lineCount - 1 || 1).toLocaleString('en')} lines are shown.`;
+}
+
 function setText(text, bytes = null) {
-    $('text').value = text;
-    opened = bytes;
+    place(text, bytes);
     $('text').scrollTop = 0;
     changed(0);
 }
 
+// Shows all of a long text, so that it can be written on.
+function showAll() {
+    show('long', false);
+    $('text').readOnly = false;
+    $('text').value = textOf(opened);
+    $('text').focus();
+    showNumbers();
+}
+
+// A long text that is pasted becomes the text as if it were opened.
+function paste(event) {
+    const field = $('text'), pasted = event.clipboardData.getData('text');
+    if (pasted.length <= MOST_SHOWN || field.readOnly) return;
+    event.preventDefault();
+    setText(field.value.slice(0, field.selectionStart) + pasted + field.value.slice(field.selectionEnd));
+}
+
+// The height of a line of the text, and what is above the first.
+const ROW = 21, ABOVE = 8;
+let lineCount = 1; // lines of the text
+
 function showNumbers() {
-    const count = Math.min($('text').value.split('\n').length, 20000);
-    $('numbers').textContent = Array.from({ length: count }, (_, at) => at + 1).join('\n');
+    const text = $('text').value;
+    lineCount = 1;
+    for (let at = text.indexOf('\n'); at >= 0; at = text.indexOf('\n', at + 1)) lineCount++;
+    $('numbers').style.width = `${Math.max(3.2, 1.2 + 0.65 * String(lineCount).length)}em`;
     follow();
 }
 
+// Goes with the text as it scrolls: the numbers of the lines that are seen, and the stripe behind the refused one.
 function follow() {
-    $('numbers').scrollTop = $('text').scrollTop;
-    if (!$('stripe').hidden) $('stripe').style.top = `${8 + ($('stripe').dataset.line - 1) * 21 - $('text').scrollTop}px`;
+    const top = $('text').scrollTop, first = Math.floor(top / ROW), seen = Math.ceil($('text').clientHeight / ROW) + 2;
+    $('numbers').textContent = Array.from({ length: seen }, (_, at) => first + at < lineCount ? first + at + 1 : '').join('\n');
+    $('numbers').scrollTop = top - first * ROW;
+    if (!$('stripe').hidden) $('stripe').style.top = `${ABOVE + ($('stripe').dataset.line - 1) * ROW - top}px`;
 }
 
 function markLine(line) {
@@ -94,15 +167,18 @@ async function read() {
         let done = await program.run(['report', '--budget', quick], text);
         if (mine !== turn || !done) return;
         if (done.status > 1) return await refuse(done, text, mine);
-        const network = await program.run(['certify', '--budget', '1'], text);
-        if (mine !== turn || !network) return;
-        showReport(textOf(done.out), textOf(network.out));
-        if (quick !== budget && byBudget(now.report).length) {
+        const certificate = await program.run(['certify', '--budget', quick], text);
+        if (mine !== turn || !certificate) return;
+        if (certificate.status > 1) return say(STATUS[certificate.status], 'bad');
+        showReport(textOf(done.out), textOf(certificate.out));
+        const isSearched = quick !== budget && byBudget(now.report).length;
+        if (isSearched) {
             done = await search(text, budget, mine);
-            if (mine !== turn) return;
-            if (done) showReport(textOf(done.out), textOf(network.out));
+            if (mine !== turn || !done) return;
+            showReport(textOf(done.out), textOf(certificate.out));
         }
-        if (done) sayDone(done);
+        sayDone(done);
+        if (isSearched) await countTrees(text, budget, mine);
     } catch (error) {
         if (mine === turn) say(`The program stopped: ${error.message}`, 'bad');
     } finally {
@@ -140,6 +216,14 @@ async function search(text, budget, mine) {
     }
 }
 
+// Says how large the trees of the long search are, which only its certificate has.
+async function countTrees(text, budget, mine) {
+    const whole = await program.run(['certify', '--budget', budget], text);
+    if (mine !== turn || !whole) return;
+    const trees = treesIn(textOf(whole.out));
+    for (const said of $('lines').querySelectorAll('[data-tree]')) said.textContent = treeWords(said.dataset.tree, trees);
+}
+
 function sayDone(done) {
     const count = now.report.open.length;
     say(count ? `done, with ${count} open ${count === 1 ? 'question' : 'questions'} (${spent(done)})` : `done (${spent(done)})`, count ? 'open' : 'good');
@@ -153,7 +237,7 @@ function showReport(text, certificate) {
     show('shown', true);
     $('summary').textContent = summary(report);
     $('conclusions').innerHTML = conclusionsView(report, data.conclusions);
-    $('lines').innerHTML = linesView(report, now.reactions, data.conclusions);
+    $('lines').innerHTML = linesView(report, now.reactions, data.conclusions, treesIn(certificate));
     $('unfold').textContent = 'Unfold all';
     $('report').textContent = text;
     draw();
@@ -162,16 +246,16 @@ function showReport(text, certificate) {
 async function refuse(done, text, mine) {
     const fault = done.status === 2 && readFault(textOf(done.out));
     if (!fault) return say(STATUS[done.status] || `the program ended with status ${done.status}`, 'bad');
-    const lines = textOf(text).split('\n'), line = fault.line ? lines[fault.line - 1].replace(/\r$/, '') : '';
-    say(textOf(done.out).trim(), 'bad');
+    const line = fault.line ? textOf(text).split('\n')[fault.line - 1].replace(/\r$/, '') : '', remedy = remedyOfText(text, fault);
+    say(fault.line ? `line ${fault.line} is refused` : 'the text is refused', 'bad');
     proposed = null;
     markLine(fault.line);
-    $('refusal').innerHTML = refusalView(fault, line, null, data.cures);
+    $('refusal').innerHTML = refusalView(fault, line, null, remedy, data.cures);
     show('refusal', true);
-    const meant = fault.line && line.length < 1000 ? await acceptable(line) : null;
+    const meant = !remedy && fault.line && line.length < 1000 ? await acceptable(line) : null;
     if (mine !== turn || meant === null) return;
     proposed = { line: fault.line, text: meant };
-    $('refusal').innerHTML = refusalView(fault, line, meant, data.cures);
+    $('refusal').innerHTML = refusalView(fault, line, meant, null, data.cures);
 }
 
 // The line that is meant, if there is one and the program accepts it.
@@ -188,6 +272,20 @@ function takeProposal() {
     setText(lines.join('\n'));
     $('text').focus();
 }
+
+let rejected = null; // the bytes of the certificate that was rejected
+
+// What the buttons do that are shown with a refused text or a rejected certificate.
+const REMEDIES = {
+    take: takeProposal,
+    check: () => check(typed()),
+    convert: () => openBytes(bytesOf(plain(typed()))),
+    read: () => openText(rejected),
+    recheck: () => check(bytesOf(plain(rejected))),
+    network: () => { sayCertified(''); show('rejection', false); setText(networkIn(plain(rejected))); },
+};
+
+const remedy = event => REMEDIES[event.target.dataset.does]?.();
 
 // ---- pictures
 
@@ -256,7 +354,7 @@ async function aside(said, stop, words, text) {
     }
 }
 
-function sayCertified(text, mood) {
+function sayCertified(text, mood = '') {
     $('certified').className = mood;
     $('certified').textContent = text;
 }
@@ -279,18 +377,18 @@ async function check(bytes) {
     if (!done) return;
     const out = textOf(done.out), fault = done.status === 3 && readFault(out);
     if (fault) {
-        sayCertified(out.trim(), 'bad');
-        $('rejection').innerHTML = rejectionView(fault, textOf(bytes).split('\n')[fault.line - 1] || '', data.rejections);
-        return show('rejection', true);
+        rejected = bytes;
+        sayCertified(`line ${fault.line.toLocaleString('en')} of the certificate is rejected`, 'bad');
+        $('rejection').innerHTML = rejectionView(fault, textOf(bytes).split('\n')[fault.line - 1] || '', remedyOfCertificate(bytes, fault), data.rejections);
+        show('rejection', true);
+        return $('certified').scrollIntoView({ block: 'nearest' });
     }
     if (done.status !== 0) return sayCertified(STATUS[done.status] || `the program ended with status ${done.status}`, 'bad');
     const document_ = textOf(bytes);
     clearTimeout(waiting);
     program.stop();
     turn++;
-    $('text').value = networkIn(document_);
-    opened = null;
-    showNumbers();
+    place(networkIn(document_));
     for (const id of ['halted', 'progress', 'shared']) show(id, false);
     showReport(out, document_);
     say('as the certificate says', 'good');
@@ -331,8 +429,16 @@ async function checkFile(file) {
 async function openFile(file) {
     const bytes = await bytesOfFile(file, say);
     if (!bytes) return;
-    if (textOf(bytes.subarray(0, 16)) === 'crn certificate ') return check(bytes);
     name = file.name.replace(/\.\w+$/, '') || 'network';
+    return openBytes(bytes);
+}
+
+// Opens a certificate as one, and anything else as the text of a network.
+function openBytes(bytes) {
+    return textOf(bytes.subarray(0, 16)) === 'crn certificate ' ? check(bytes) : openText(bytes);
+}
+
+function openText(bytes) {
     const kept = bytes.subarray(0, MOST_TEXT);
     setText(textOf(kept), kept);
 }
@@ -385,7 +491,15 @@ let orders = 0;
 
 function wire() {
     const on = (id, event, act) => $(id).addEventListener(event, act);
-    on('text', 'input', () => { opened = null; name = 'network'; orders = 0; changed(); });
+    on('text', 'input', () => {
+        if (isReplacing) return;
+        opened = null;
+        name = 'network';
+        orders = 0;
+        changed();
+    });
+    on('text', 'paste', paste);
+    on('show-all', 'click', showAll);
     on('text', 'scroll', follow);
     on('text', 'keydown', event => { if (event.key === 'Enter' && (event.ctrlKey || event.metaKey)) { event.preventDefault(); read(); } });
     on('budget', 'change', read);
@@ -408,7 +522,7 @@ function wire() {
         });
     }
     on('share', 'click', share);
-    on('refusal', 'click', event => { if (event.target.id === 'take') takeProposal(); });
+    for (const id of ['refusal', 'rejection']) on(id, 'click', remedy);
     on('certify', 'click', certify);
     on('save-certificate', 'click', () => save(`${name}.cert`, made));
     on('sample', 'click', trySample);
@@ -416,7 +530,7 @@ function wire() {
     on('lines', 'click', event => {
         const { budget, reorder } = event.target.dataset;
         if (budget) { $('budget').value = budget; read(); }
-        if (reorder !== undefined) { setText(reordered($('text').value, orders++)); }
+        if (reorder !== undefined) { setText(reordered(textOf(typed()), orders++)); }
     });
     on('unfold', 'click', () => {
         const open = $('unfold').textContent === 'Unfold all';
@@ -436,12 +550,15 @@ function wire() {
         if (event.dataTransfer.files[0]) openFile(event.dataTransfer.files[0]);
     });
     addEventListener('hashchange', fromLink);
+    new ResizeObserver(follow).observe($('text'));
 }
 
 function start() {
     const module = moduleBytes();
     if (!Program.serves(module)) {
-        $('unable').textContent = 'This browser cannot run the program: it lacks a part of WebAssembly, or workers. Firefox 98, Chrome or Edge 85, Safari 15.4 and later versions have them.';
+        $('unable').textContent = typeof WebAssembly === 'object'
+            ? 'This browser cannot run the program: it lacks a part of WebAssembly, or workers. Firefox 98, Chrome or Edge 85, Safari 15.4 and later versions have them.'
+            : 'This browser cannot run the program, since it has no WebAssembly, or it is switched off: by the safest level of the Tor Browser, Lockdown Mode on a device of Apple, enhanced security in Edge, or javascript.options.wasm in Firefox. Allow it for this page, or take Firefox 98, Chrome or Edge 85, Safari 15.4 or a later version.';
         return;
     }
     [program, helper] = [new Program(module), new Program(module)];

@@ -1,7 +1,8 @@
 // What the page says of a report, as HTML: the conclusions in words, and each verdict with its evidence.
 import { concluding, rowsAbout, rowsOf } from './conclusions.js';
-import { explained } from './explain.js';
+import { explained, treeWords } from './evidence.js';
 import { escaped } from './picture.js';
+import { terms } from './report.js';
 
 // Text in which backticks mark what is in a report or a network text.
 export const marked = text => escaped(text).replace(/`([^`]*)`/g, '<code>$1</code>');
@@ -51,35 +52,51 @@ export function summary(report) {
     return `${plural(report.species.length, 'species', 'species')}, ${plural(report.complexes.length, 'complex', 'complexes')} and ${plural(Number(reactions), 'reaction')}, in ${plural(classes, 'linkage class', 'linkage classes')} and ${plural(strong, 'strong class', 'strong classes')}; ${deficiency === 'open' ? 'the deficiency is open' : `deficiency ${deficiency}`}.`;
 }
 
-function evidenceView(item) {
-    if (!item.table) return `<p>${escaped(item.text)}</p>`;
-    return `<p>${escaped(item.text)}</p><div class="evidence-scroll" tabindex="0" role="group" aria-label="${escaped(item.text)}"><table>${item.table.map(([name, value]) => `<tr><td class="mono">${escaped(name)}</td><td class="mono">${escaped(value)}</td></tr>`).join('')}</table></div>`;
+// A sentence of evidence, with what belongs to it: a table of numbers or of words, or where a tree is.
+function evidenceView(item, trees) {
+    const table = item.table || item.words;
+    if (item.tree) return `<p>${escaped(item.text)} <span data-tree="${item.tree}">${treeWords(item.tree, trees)}</span></p>`;
+    if (!table || !table.length) return `<p>${escaped(item.text)}</p>`;
+    return `<p>${escaped(item.text)}</p><div class="evidence-scroll" tabindex="0" role="group" aria-label="${escaped(item.text)}"><table class="${item.table ? 'numbers' : 'words'}">`
+        + table.map(row => `<tr>${row.map(cell => `<td class="mono">${escaped(cell)}</td>`).join('')}</tr>`).join('') + '</table></div>';
+}
+
+// The species whose amounts have a common divisor, as `A by 2`.
+function divisors(report) {
+    const divisor = (a, b) => b ? divisor(b, a % b) : a;
+    return report.species.flatMap(name => {
+        const amounts = report.complexes.flatMap(complex => terms(complex).filter(term => term[1] === name).map(([amount]) => amount));
+        const common = amounts.reduce(divisor);
+        return common > 1 ? [`${name} by ${common}`] : [];
+    });
 }
 
 // What to try if a question is open.
-export function openAdvice(question) {
+export function openAdvice(question, report) {
     const budget = /^budget (\d+)$/.exec(question.parts[1] || '');
     if (budget) {
-        return `<p>The search needs more than ${Number(budget[1]).toLocaleString('en')} visits. That makes neither answer more likely. To try:</p><ul>`
+        return '<p><b>To try</b></p><ul>'
             + (Number(budget[1]) < 100000 ? '<li><button data-budget="100000">Search with the greatest budget, 100,000</button></li>' : '')
             + '<li><button data-reorder>Try another order of the lines</button> The search takes the species in the order in which they appear, and is short if those that react with one another come one after another.</li></ul>';
     }
-    if (question.parts[1] === 'wide') {
-        return '<p>A whole number of 2^62 or more is needed to decide it, as long chains of large amounts make them. To try: if all amounts of a species have a common divisor, divide them by it; no answer changes. An answer that is known from elsewhere can be put into a certificate and checked.</p>';
-    }
-    return `<p>It rests on question ${escaped((/Q(\d+)/.exec(question.verdict) || ['', ''])[1])}, which is open.</p>`;
+    if (question.parts[1] !== 'wide') return '';
+    const common = divisors(report);
+    return '<p><b>To try</b></p><ul>'
+        + (common.length ? `<li>Divide the amounts of ${escaped(common.join(', of '))}: no answer changes.</li>` : '')
+        + '<li>Leave out steps or amounts that the question does not depend on: it takes long chains of large amounts to come to such numbers.</li>'
+        + '<li>If the answer is known from elsewhere, put it with its numbers into the certificate, in the place of the line that says open, and have it checked: a check takes numbers up to 2^72.</li></ul>';
 }
 
 // The verdicts one by one, with their evidence, what follows and what does not.
-export function linesView(report, reactions, data) {
+export function linesView(report, reactions, data, trees) {
     const rows = rowsOf(data, report);
     return report.questions.map(question => {
         const isOpen = question.parts[0] === 'open', mood = /^(yes|hypotheses hold)$/.test(question.parts[0]) ? 'good' : isOpen ? 'open' : '';
-        const about = rowsAbout(rows, question.number), inside = explained(report, reactions, question).map(evidenceView).join('');
+        const about = rowsAbout(rows, question.number), inside = explained(report, reactions, question).map(item => evidenceView(item, trees)).join('');
         const follows = about.filter(row => row.concludes).map(row => `<p><b>What follows</b> (${escaped(KINETICS[row.kinetics])}): ${marked(row.concludes)}</p>`).join('');
         const not = [...about.flatMap(row => row.does_not_follow), ...(isOpen ? data.open.does_not_follow : [])];
         return `<details class="verdict" id="q${question.number}"${isOpen ? ' open' : ''}><summary><span class="question">Q${question.number} ${escaped(question.name)}</span><b class="${mood}">${escaped(question.verdict)}</b></summary><div class="inside">`
-            + (isOpen ? openAdvice(question) : '') + (inside ? `<div class="evidence">${inside}</div>` : '') + follows
+            + `<div class="evidence">${inside}</div>` + (isOpen ? openAdvice(question, report) : '') + follows
             + (not.length ? `<div class="not"><b>What does not follow</b>${list(not)}</div>` : '') + '</div></details>';
     }).join('');
 }

@@ -18,20 +18,29 @@ class Test {
     }
 }
 
-async function waitFor(holds, milliseconds = 60000) {
+async function waitFor(holds, milliseconds = 60000, name = '') {
     const end = performance.now() + milliseconds;
     while (!holds()) {
-        if (performance.now() > end) throw new Error(`waited in vain: ${holds}`);
+        if (performance.now() > end) throw new Error(`waited in vain: ${name} ${holds}`);
         await new Promise(resolve => setTimeout(resolve, 10));
     }
+}
+
+// Reads at once what would be read after a pause.
+async function settled() {
+    clearTimeout(waiting);
+    await read();
 }
 
 // Hands the page a text as if typed, or the bytes of a file, and waits until it is read.
 async function enter(text, bytes = null) {
     setText(text, bytes);
-    clearTimeout(waiting);
-    await read();
+    await settled();
 }
+
+// The line that the program wrote of a text, or of a certificate, as the page shows it.
+const lineOf = id => $(id).hidden ? '' : $(id).querySelector('.said').textContent;
+const answer = said => said.startsWith('refused') ? lineOf('refusal') : $('report').textContent.trim();
 
 const boxesOf = selector => [...$('picture').querySelectorAll(selector)].map(node => node.querySelector('.box').getBBox());
 const overlaps = boxes => boxes.reduce((count, a, i) => count + boxes.slice(i + 1).filter(b => a.x < b.x + b.width && b.x < a.x + a.width && a.y < b.y + b.height && b.y < a.y + a.height).length, 0);
@@ -41,14 +50,24 @@ function pick(kind) {
     if (!radio.checked) radio.click();
 }
 
-async function testExample(test, { name, text, report, titles, reactions }) {
+// Each verdict unfolds to what shows it, and not only to what follows from it. `evidence` has, for each question, parts of
+// sentences that have to be there, made of the program's report and certificate by another script.
+function testEvidence(test, name, evidence) {
+    for (const line of $('lines').querySelectorAll('.verdict')) {
+        const number = line.id.slice(1), said = line.querySelector('.evidence').textContent, verdict = line.querySelector('b').textContent;
+        test.expect(`the evidence of question ${number} of ${name}`, said.length > 20 && said.replace(verdict, '').length > 20, said);
+        for (const part of evidence[number]) test.expect(`the evidence of question ${number} of ${name}: ${part}`, said.includes(part), said);
+    }
+}
+
+async function testExample(test, { name, text, report, titles, reactions, evidence }) {
     await enter(text);
     test.expect(`the report of ${name}`, $('report').textContent === report, $('report').textContent);
     const shown = [...$('lines').querySelectorAll('summary')].map(line => [...line.children].map(part => part.textContent).join('|'));
     test.expect(`the lines of ${name}`, JSON.stringify(shown) === JSON.stringify(verdictLines(report)), shown);
     const heads = [...$('conclusions').querySelectorAll('h3')].map(head => head.textContent);
     test.expect(`what follows for ${name}`, JSON.stringify([...heads].sort()) === JSON.stringify([...titles].sort()), heads);
-    test.expect(`each line of ${name} has evidence or says what does not follow`, [...$('lines').querySelectorAll('.inside')].every(inside => inside.textContent.trim()));
+    testEvidence(test, name, evidence);
     const numbers = list => new Set([...list].flatMap(part => part.dataset.reactions.split(' ')));
     pick('complexes');
     test.expect(`the complexes of ${name}`, $('picture').querySelectorAll('[data-complex]').length === now.report.complexes.length);
@@ -76,7 +95,7 @@ async function testExample(test, { name, text, report, titles, reactions }) {
 async function testRefusal(test, { name, text, line }) {
     const bytes = bytesIn(text);
     await enter(textOf(bytes), bytes);
-    test.expect(`the refusal of ${name}`, $('status').textContent === line.trim(), $('status').textContent);
+    test.expect(`the refusal of ${name}`, lineOf('refusal') === line.trim(), lineOf('refusal'));
     const at = Number(/line (\d+)/.exec(line)[1]);
     test.expect(`its line is marked: ${name}`, $('stripe').hidden === !at && (!at || $('stripe').dataset.line === String(at)));
     test.expect(`what it means is said: ${name}`, !$('refusal').hidden && $('refusal').textContent.length > 20 && $('text').getAttribute('aria-invalid') === 'true');
@@ -85,7 +104,7 @@ async function testRefusal(test, { name, text, line }) {
     $('take').click();
     clearTimeout(waiting);
     await read();
-    test.expect(`the proposal is accepted: ${name}`, $('text').value.split('\n')[at - 1] === meant && !$('status').textContent.endsWith(`at line ${at}`), `${meant}: ${$('status').textContent}`);
+    test.expect(`the proposal is accepted: ${name}`, $('text').value.split('\n')[at - 1] === meant && !lineOf('refusal').endsWith(`at line ${at}`), `${meant}: ${lineOf('refusal')}`);
 }
 
 // What is proposed in place of a text of the tables is what its row says.
@@ -119,7 +138,7 @@ async function testCertificates(test, { examples, damaged }) {
     save = save_;
     for (const { name, text, line } of damaged) {
         await check(bytesIn(text));
-        test.expect(`it is rejected: ${name}`, $('certified').textContent === line.trim() && !$('rejection').hidden, `${$('certified').textContent} for ${line}`);
+        test.expect(`it is rejected: ${name}`, lineOf('rejection') === line.trim(), `${lineOf('rejection')} for ${line}`);
         test.expect(`why is said: ${name}`, $('rejection').querySelector('li') !== null, $('rejection').textContent);
     }
 }
@@ -184,7 +203,7 @@ async function testFiles(test, { files }) {
         document.body.dataset.done = '';
         give('open', bytesIn(text), 'a.crn');
         await waitFor(() => turn > before && document.body.dataset.done === String(turn));
-        const shown = said.startsWith('refused') ? $('status').textContent : $('report').textContent.trim();
+        const shown = answer(said);
         test.expect(`the file ${name}`, shown === said.trim(), shown);
     }
 }
@@ -193,19 +212,106 @@ async function testFiles(test, { files }) {
 async function testBytes(test, { bytes }) {
     for (const { name, text, said, rejected } of bytes) {
         await enter(textOf(bytesIn(text)), bytesIn(text));
-        const shown = said.startsWith('refused') ? $('status').textContent : $('report').textContent.trim();
+        const shown = answer(said);
         test.expect(`the bytes ${name}`, shown === said.trim(), shown);
         await check(bytesIn(text));
-        test.expect(`the bytes ${name} as a certificate`, $('certified').textContent === rejected.trim() && !$('rejection').hidden, $('certified').textContent);
+        test.expect(`the bytes ${name} as a certificate`, lineOf('rejection') === rejected.trim(), lineOf('rejection'));
     }
     await enter('A -> \ud800 B');
-    test.expect('half a character', $('status').textContent === 'refused 11 NotAscii at line 1', $('status').textContent);
+    test.expect('half a character', lineOf('refusal') === 'refused 11 NotAscii at line 1', lineOf('refusal'));
     const gone = { name: 'gone', arrayBuffer: async () => { throw new Error('it has gone'); } };
     await Promise.all([openFile(gone), checkFile(gone)]);
     const said = [$('status'), $('certified')].map(where => where.textContent);
     test.expect('a file that cannot be read', said.every(text => text === 'The browser cannot read this file: it has gone'), said);
     await openFile(new File(['crn certificate 2\nnetwork 1\nA -> \n'], 'a.txt'));
-    test.expect('a certificate is opened as one', /^rejected \d+ /.test($('certified').textContent), $('certified').textContent);
+    test.expect('a certificate is opened as one', /^rejected \d+ /.test(lineOf('rejection')), lineOf('rejection'));
+}
+
+// What the page does is taken back and done again, as what a user does.
+async function testUndo(test) {
+    const field = $('text'), steps = [];
+    const act = async (name, deed, wanted) => {
+        deed();
+        await settled();
+        test.expect(`${name} changes the text`, wanted(field.value), field.value);
+        steps.push([name, field.value]);
+    };
+    await act('an example', () => take(data.examples.find(one => one.name === 'edelstein')), text => text.includes('A <-> 2A'));
+    const order = data.examples.find(one => one.name === 'two_site_futile_cycle').text;
+    await act('an opened file', () => openText(bytesOf(order)), text => text === order);
+    await act('another order', () => setText(reordered(field.value, 0)), text => text.length === order.length && text !== order);
+    await act('a refused line', () => setText('A -> B\nA => C\n# the end\n'), text => text.includes('=>'));
+    await waitFor(() => $('take'));
+    await act('what is proposed', () => $('take').click(), text => text === 'A -> B\nA -> C\n# the end\n');
+    field.focus();
+    for (const [name, text] of steps.slice(0, -1).reverse()) {
+        document.execCommand('undo');
+        await settled();
+        test.expect(`undone, down to ${name}`, field.value === text, field.value);
+    }
+    test.expect('what is undone is read', /^species 3: A B C$/m.test($('report').textContent), $('report').textContent.slice(0, 60));
+    for (const [name, text] of steps.slice(1)) {
+        document.execCommand('redo');
+        await settled();
+        test.expect(`done again, up to ${name}`, field.value === text, field.value);
+    }
+    test.expect('nothing is undone by the page itself', $('report').textContent.startsWith('crn report 1\nspecies 3: A B C'), $('report').textContent.slice(0, 60));
+}
+
+// Of a long text a part is shown, with the numbers of its lines; it is read whole, and put in and written on in good time.
+async function testLong(test) {
+    const begun = performance.now(), text = 'A + B -> C + D\n'.repeat(300000);
+    await enter('A -> B\n');
+    $('text').setSelectionRange(0, 0);
+    const event = Object.assign(new Event('paste', { cancelable: true }), { clipboardData: { getData: () => text } });
+    $('text').dispatchEvent(event);
+    await settled();
+    test.expect('a paste of 300,000 lines is refused', event.defaultPrevented && lineOf('refusal') === 'refused 19 TextTooLong at line 0', lineOf('refusal'));
+    test.expect('its first lines are shown', $('text').value === text.slice(0, $('text').value.length) && /first 6,666 lines/.test($('long').textContent), $('long').textContent);
+    $('text').scrollTop = 6000 * ROW;
+    follow();
+    test.expect('they have their numbers', $('numbers').textContent.startsWith('6001\n6002\n'), $('numbers').textContent.slice(0, 20));
+    await enter('A -> B\n'.repeat(20000) + 'B => C\n');
+    test.expect('a refused line that is not shown', lineOf('refusal') === 'refused 18 StrayMark at line 20001' && $('refusal').textContent.includes('B => C'), lineOf('refusal'));
+    await waitFor(() => $('take'));
+    $('take').click();
+    await settled();
+    test.expect('what is proposed for it', /^reactions 2$/m.test($('report').textContent), $('status').textContent);
+    $('show-all').click();
+    test.expect('all of it can be shown', $('text').value.split('\n').length === 20002 && $('long').hidden && !$('text').readOnly);
+    await enter('A -> B');
+    test.expect('the page goes on after it', /^done/.test($('status').textContent) && $('long').hidden);
+    test.expect('all of this takes seconds', performance.now() - begun < 30000, `${Math.round(performance.now() - begun)} ms`);
+}
+
+// What the page says of files of other kinds is what helps a user of the page; its button leads to a report, or to what is
+// said then.
+async function pressed(test, name, where, leads) {
+    const button = $(where).querySelector('[data-does]');
+    test.expect(`a button, if there is a way: ${name}`, Boolean(button) === Boolean(leads), $(where).textContent);
+    if (!button || !leads) return;
+    for (const id of ['report', 'certified']) $(id).textContent = '';
+    button.click();
+    const said = () => ['refusal', 'certified', 'rejection'].filter(id => !$(id).hidden).map(id => $(id).textContent).join(' ');
+    await waitFor(() => leads.startsWith('crn report') ? $('report').textContent === leads : said().includes(leads), 20000, name);
+    await waitFor(() => !program.running && !helper.running);
+    test.expect(`it is mended: ${name}`, true);
+}
+
+async function testKinds(test, { kinds, documents }) {
+    for (const { name, text, says, leads } of kinds) {
+        await enter(textOf(bytesIn(text)), bytesIn(text));
+        test.expect(`the file with ${name} is told of`, $('refusal').textContent.includes(says), $('refusal').textContent);
+        test.expect(`no command of a shell for ${name}`, !/\b(sed|iconv|tr) /.test($('refusal').textContent), $('refusal').textContent);
+        await pressed(test, `the file with ${name}`, 'refusal', leads);
+    }
+    for (const { name, text, line, says, leads } of documents) {
+        await enter('X -> Y');
+        await check(bytesIn(text));
+        test.expect(`the certificate with ${name}`, lineOf('rejection') === line.trim(), lineOf('rejection'));
+        test.expect(`it is told of: ${name}`, $('rejection').textContent.includes(says), $('rejection').textContent);
+        await pressed(test, `the certificate with ${name}`, 'rejection', leads);
+    }
 }
 
 // A module whose one call stops at once, as if the program had a fault.
@@ -253,6 +359,9 @@ async function selftest(jobs) {
     await test.group('files', () => testFiles(test, jobs));
     await test.group('bytes', () => testBytes(test, jobs));
     await test.group('links', () => testLinks(test));
+    await test.group('undo', () => testUndo(test));
+    await test.group('long texts', () => testLong(test));
+    await test.group('files of other kinds', () => testKinds(test, jobs));
     await test.group('a program that stops', () => testStops(test));
     const said = `selftest: ${test.passed} passed, ${test.failed.length} failed, in ${Math.round((performance.now() - begun) / 1000)} s, by ${navigator.userAgent}`;
     document.body.innerHTML = '<pre id="said"></pre>';

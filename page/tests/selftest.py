@@ -49,6 +49,66 @@ def titles(conclusions, report):
     return [row["title"] for row in conclusions["rows"] if row["concludes"] and all(map(holds, row["requires"]))]
 
 
+def listed(report, head):
+    """What a line of a report lists after its head and a number."""
+    return re.search(rf"^{head} \d+: (.*)$", report, re.M)[1]
+
+
+def evidence(report, certificate):
+    """For each question parts of sentences that its evidence has to have, from the report's lists and the certificate's lines."""
+    parts, lines = parts_of(report), certificate.splitlines()
+    complexes = listed(report, "complexes").split("; ")
+    classes = [it.split("; ") for it in re.findall(r"^  class \d+: (.*)$", report, re.M)]
+    strong = re.findall(r"^  strong \d+: (.*?)( \(terminal\))?$", report, re.M)
+    reactions = lines[2 : 2 + int(lines[1].split()[1])]
+    ends = [tuple(it.split(" -> ")) for it in reactions]
+    terminal = [sum(bool(mark) and it.split("; ")[0] in members for it, mark in strong) for members in classes]
+    trees, number = {k: 0 for k in (13, 14, 15)}, 0
+    for line in lines:
+        number = int(line.split()[0][1:]) if re.match(r"q\d", line) else number
+        if line.split()[0] in ("split", "flat", "cuta", "cutb", "refa", "refb"):
+            trees[number] += 1
+    below = {k: [] for k in range(1, 16)}
+    for line in report.splitlines():
+        if line.startswith("Q"):
+            at = int(re.match(r"Q(\d+)", line)[1])
+        elif line.startswith("  "):
+            below[at].append(line)
+    found = {1: ["; ".join(it) for it in classes], 2: [it for it, _ in strong], 10: [], 12: []}
+    found[3] = [f"{a} <-> {b}" for at, (a, b) in enumerate(ends) if (b, a) in ends[at + 1 :]] if parts[3] == ["yes"] else [below[3][0].split(": ")[1]]
+    found[4] = [f"{a} -> {b}" for a, b in ends if (b, a) not in ends] if parts[4] == ["yes"] else [below[4][0].split(": ")[1]]
+    if parts[5][0] != "open":
+        found[5] = [f"reaction {k}" for k in below[5][0].split(": ")[1].split()]
+    if parts[6][0] != "open":
+        numbers = list(map(int, parts[6][1].split()[1:]))
+        found[6] = [f"{len(complexes)} − {len(classes)} − {parts[5][0]} = {parts[6][0]}"] + [f"{len(members)} − 1 − {len(members) - 1 - it} = {it}" for members, it in zip(classes, numbers)]
+        found[9] = [found[6][0], "asked to be 0"]
+        found[10] = [f"they are {', '.join(map(str, numbers))}", f"the deficiency is {parts[6][0]}"]
+    numbered = lambda k: below[k][0].split(": ")[1].split()
+    if parts[7][0] != "open":
+        found[7] = numbered(7) + (reactions if parts[7] == ["yes"] else [])
+    if parts[8][0] != "open":
+        found[8] = [it for it in listed(report, "species").split()] if parts[8] == ["yes"] else numbered(8) + reactions
+    several = [f"class {at + 1} has {count}" for at, count in enumerate(terminal) if count > 1]
+    found[10] += several[:1] or ["each has one"]
+    found[11] = (several[:1] or ["each has one"]) + ["positively dependent", "cut pair"]
+    if parts[11] == ["no", "a cycle in a terminal class"]:
+        found[11].append(below[11][0].split("walk: ")[1].replace("; ", " – "))
+    of_vectors = {"yes": ["add up to nothing", "terminal strong classes"], "no vector but zero": ["tie"], "two independent vectors": ["neither of which"], "not regular": ["question 11"]}
+    found[12] = of_vectors.get(parts[12][-1], [])
+    for k in (13, 14, 15):
+        if trees[k]:
+            found[k] = [f"a tree of {trees[k]} node"]
+        elif parts[k] == ["no"]:
+            found[k] = numbered(k)[:1] + reactions + ["sigma is"]
+    if parts[13] == ["yes"]:
+        found[13] = ["middle shelf has the height"] + complexes
+    for k in range(1, 16):
+        if parts[k][0] == "open":
+            found[k] = {"wide": ["2^62"], "budget": ["lists of signs"], "rests": ["rests on question"]}[parts[k][1].split()[0]]
+    return {k: found.get(k, []) for k in range(1, 16)}
+
+
 def long_search():
     """A network whose search takes seconds."""
     dice = random.Random(1)
@@ -74,6 +134,51 @@ def wide_numbers():
     return "".join(f"X{i} -> 99X{i + 1}\n" for i in range(1, 11))
 
 
+def kinds(program, report):
+    """Files that are no network texts: what is said of each, and what a button that is shown leads to: a report, a good
+    certificate, or what is said then."""
+    pair, certificate = report(b"A -> B\n"), native(program, ["certify"], b"A -> B\n")[1]
+    rows = [
+        ("a byte order mark", b"\xef\xbb\xbfA -> B\n", "a byte order mark", pair),
+        ("UTF-16", "\ufeffA -> B\n".encode("utf-16-le"), "UTF-16", pair),
+        ("UTF-16, the other way round", "\ufeffA -> B\n".encode("utf-16-be"), "UTF-16", pair),
+        ("line ends of an old Macintosh", b"A -> B\rB -> C\r", "CR at the ends", report(b"A -> B\nB -> C\n")),
+        ("two CR", b"A -> B\r\r\n", "two CR", pair),
+        ("no-break spaces", "A\u00a0->\u00a0B\n".encode(), "no-break spaces", pair),
+        ("a mark, and an arrow of another kind", b"\xef\xbb\xbfA => B\n", "a byte order mark", "refused 18 StrayMark at line 1"),
+        ("SBML with a mark", b'\xef\xbb\xbf<?xml version="1.0"?>\n', "a byte order mark", "crnt-tools import"),
+        ("SBML", b'<?xml version="1.0"?>\n<sbml>\n', "crnt-tools import", ""),
+        ("BioNetGen", b"# made\nbegin parameters\n 1 k 2\nend parameters\n", "BioNetGen", ""),
+        ("Antimony", b"J1: A -> B; k1*A\n", "Antimony", ""),
+        ("JSON", b'{"reactions": ["A -> B"]}\n', "JSON", ""),
+        ("a table", b"A,B,1\nB,C,2\n", "a table", ""),
+        ("a PDF", b"%PDF-1.7\n%\xe2\xe3\n", "no text", ""),
+        ("a report", pair.encode(), "a report", ""),
+        ("a certificate", certificate, "a certificate", "the certificate is good"),
+        ("a certificate with a mark", b"\xef\xbb\xbf" + certificate, "a certificate", "Check it without"),
+    ]
+    return [{"name": name, "text": coded(text), "says": says, "leads": leads} for name, text, says, leads in rows]
+
+
+def documents(program, report):
+    """Files that are no certificates, or not as one is written: as above, and how the program rejects each."""
+    pair, certificate = report(b"A -> B\n"), native(program, ["certify"], b"A -> B\n")[1]
+    rows = [
+        ("CR before LF", certificate.replace(b"\n", b"\r\n"), "CR before LF", pair),
+        ("a byte order mark", b"\xef\xbb\xbf" + certificate, "a byte order mark", pair),
+        ("UTF-16", ("\ufeff" + certificate.decode()).encode("utf-16-le"), "UTF-16", pair),
+        ("no last LF", certificate[:-1], "no LF after its last line", pair),
+        ("nothing", b"", "empty", ""),
+        ("its first half", certificate[: len(certificate) // 2], "only a part of it", pair),
+        ("its last line cut off", certificate[: certificate.index(b"\nend\n") + 1], "only a part of it", pair),
+        ("a network in its place", b"A -> B\n", "no certificate", pair),
+        ("a report in its place", pair.encode(), "a report", ""),
+        ("SBML in its place", b'<?xml version="1.0"?>\n', "crnt-tools import", ""),
+        ("another number", certificate.replace(b"q5 1", b"q5 2"), "", ""),
+    ]
+    return [{"name": name, "text": coded(text), "says": says, "leads": leads, "line": native(program, ["check"], text)[1].decode()} for name, text, says, leads in rows]
+
+
 def jobs(root, program):
     dice = random.Random(11)
     report = lambda text, *words: native(program, ["report", *words], text)[1].decode()
@@ -87,7 +192,7 @@ def jobs(root, program):
         reactions = int(re.search(r"^reactions (\d+)$", said, re.M)[1])
         of_certificate = native(program, ["check"], certificate)[1].decode()
         assert of_certificate == said
-        examples.append({"name": name, "text": text, "report": said, "certificate": coded(certificate), "titles": titles(conclusions, said), "reactions": reactions})
+        examples.append({"name": name, "text": text, "report": said, "certificate": coded(certificate), "titles": titles(conclusions, said), "reactions": reactions, "evidence": evidence(said, certificate.decode())})
         document = damaged(certificate, dice)
         status, line = native(program, ["check"], document)
         if status == 3:
@@ -116,6 +221,8 @@ def jobs(root, program):
             {"name": repr(it[:30]), "text": coded(it), "said": report(it), "rejected": native(program, ["check"], it)[1].decode()}
             for it in [*random_bytes, *random_text, *like_documents]
         ],
+        "kinds": kinds(program, report),
+        "documents": documents(program, report),
         "search": {"text": search, "quick": quick, "whole": whole, "order": {"text": order}},
         "reports": [{"budget": b, "text": t, "report": answer(native(program, ["report", "--budget", b], t.encode()))} for b, t in words],
         "samples": [{"steps": k, "out": answer(native(program, ["sample", k], b""))} for k in ("1", "8", "19", "0", "20", "")],
