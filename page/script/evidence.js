@@ -38,10 +38,11 @@ class Network {
         });
     }
 
-    // The deficiency as a sum.
+    // The deficiency as what it is, with the rank if that is decided.
     deficiency() {
-        const [rank] = this.parts(5), [deficiency] = this.parts(6);
-        return known(rank) && known(deficiency) ? `${of(this.report.complexes.length, 'complex', 'complexes')} − ${of(this.report.classes.length, 'linkage class', 'linkage classes')} − rank ${rank}: ${this.report.complexes.length} − ${this.report.classes.length} − ${rank} = ${deficiency}` : null;
+        const [rank] = this.parts(5), complexes = this.report.complexes.length, classes = this.report.classes.length;
+        const what = `${of(complexes, 'complex', 'complexes')} − ${of(classes, 'linkage class', 'linkage classes')} − `;
+        return known(rank) ? `${what}rank ${rank}: ${complexes} − ${classes} − ${rank} = ${complexes - classes - rank}` : `${what}the rank, which is open (question 5)`;
     }
 
     classDeficiencies() {
@@ -83,7 +84,7 @@ function regular(net) {
     ];
 }
 
-const hypotheses = rows => ({ text: 'What is asked, and what is so:', words: rows });
+const hypotheses = rows => ({ text: 'What is asked, and what is so:', claims: rows });
 
 // The species that show whether alpha goes with sigma at a reaction, each with the sign that it has for it.
 function witnesses(net, reaction, sigma, strongly) {
@@ -104,7 +105,7 @@ function discordant(net, question) {
         return shown.map(it => `sigma is ${signed(it.sigma)} at ${it.name}`).join(', ') || (all.length ? `sigma is 0 at ${all.map(it => it.name).join(', ')}` : 'no species counts here');
     };
     return [
-        { text: 'The change sigma of each species, which reactions make together:', table: named(net.report.species, numbers.map(signed)) },
+        { text: 'The change sigma of each species, which reactions make together:', numbers: named(net.report.species, numbers.map(signed)) },
         {
             text: `The numbers alpha of the reactions, whose vectors times these add up to nothing, and why alpha goes with sigma at each of them${strongly ? ' (a species counts where its amounts differ, the other way round where the product has more)' : ''}:`,
             words: net.reactions.map((reaction, at) => [reaction.text, signed(alpha[at]), because(reaction, at)]),
@@ -123,8 +124,8 @@ function signal(net) {
     const shelf = name => shelves[terminal.findIndex(it => it.members.includes(name))] || 'middle';
     return [
         { text: turn === '1' ? 'The signal is one for the vector of question 12.' : 'The signal is one for the negative of the vector of question 12.' },
-        { text: 'The shelves of the terminal strong classes:', table: named(terminal.map(it => it.members.join('; ')), shelves) },
-        { text: 'The numbers mu of the species:', table: named(net.report.species, mu.map(signed)) },
+        { text: 'The shelves of the terminal strong classes:', numbers: named(terminal.map(it => it.members.join('; ')), shelves) },
+        { text: 'The numbers mu of the species:', numbers: named(net.report.species, mu.map(signed)) },
         { text: `The height of each complex, the sum of its amounts times these; the middle shelf has the height ${m}:`, words: net.report.complexes.map(name => [name, `${shelf(name)} shelf`, String(heightOf(name, net.report, mu))]) },
     ];
 }
@@ -132,19 +133,19 @@ function signal(net) {
 function confluence(net, question) {
     const vectors = question.evidence.map(line => rest(line).split(' ')), [deficiency] = net.parts(6);
     const sums = numbers => ({ text: `These multiples of the complexes add up to nothing, species by species, and to 0 over each linkage class: ${sum(net.report.complexes.map(complex => `(${complex})`), numbers)}` });
-    const size = known(deficiency) ? `There are as many independent vectors as the deficiency says, ${deficiency}; the` : 'The';
+    const space = known(deficiency) ? `The confluence space has the dimension of the deficiency, ${deficiency}` : 'The certificate shows what the confluence space is';
     switch (question.verdict) {
         case 'yes': {
             const terminal = net.report.strong.filter(it => it.terminal), number = new Map(named(net.report.complexes, vectors[0]));
             return [
                 sums(vectors[0]),
-                { text: 'Its sums over the terminal strong classes, none of them below 0:', table: terminal.map(it => [it.members.join('; '), String(it.members.reduce((total, name) => total + BigInt(number.get(name)), 0n))]) },
-                { text: `${size} certificate shows for each complex that the first number fixes that of the complex (lines “tie”).` },
+                { text: 'Its sums over the terminal strong classes, none of them below 0:', numbers: terminal.map(it => [it.members.join('; '), String(it.members.reduce((total, name) => total + BigInt(number.get(name)), 0n))]) },
+                { text: `${space}, so there is no other but its multiples; the certificate shows it complex by complex (lines “tie”).` },
             ];
         }
-        case 'not applicable, no vector but zero': return [{ text: `${size} certificate shows for each complex that its number is 0 (lines “tie”).` }];
-        case 'not applicable, two independent vectors': return [{ text: 'Two vectors, neither of which is a multiple of the other.' }, ...vectors.map(sums)];
-        default: return [{ text: `The network is not regular (question 11: ${net.parts(11).slice(1).join(', ')}).` }, ...explained(net.report, net.reactions, net.report.questions[10])];
+        case 'not applicable, no vector but zero': return [{ text: `${space}, so it has no vector but zero; the certificate shows it complex by complex (lines “tie”).` }];
+        case 'not applicable, two independent vectors': return [{ text: `${space}. Here are two vectors of it, neither of which is a multiple of the other.` }, ...vectors.map(sums)];
+        default: return [{ text: 'The network is not regular (question 11).' }, hypotheses(regular(net))];
     }
 }
 
@@ -178,9 +179,18 @@ function openly(net, question) {
     const budget = /^budget (\d+)$/.exec(question.parts[1]);
     if (question.parts[1] === 'wide') return wide(net, question);
     if (budget) return [{ text: `The search came to more than ${Number(budget[1]).toLocaleString('en')} lists of signs before it had either an example that shows a no or a tree that shows a yes.` }];
-    const on = Number(/Q(\d+)/.exec(question.verdict)[1]);
-    return [{ text: `It rests on question ${on}, ${net.report.questions[on - 1].name}, which is open. What is known of it:` }, ...explained(net.report, net.reactions, net.report.questions[on - 1])];
+    return RESTS[question.number](net);
 }
+
+// What is known where an answer rests on a question that is open.
+const RESTS = {
+    6: net => [{ text: `The deficiency is ${net.deficiency()}.` }],
+    9: net => [{ text: `The deficiency is asked to be 0. It is ${net.deficiency()}.` }],
+    10: net => [hypotheses(deficiencyOne(net))],
+    11: net => [hypotheses(regular(net))],
+    12: net => [{ text: 'The vector is asked for in a regular network, and question 11 is open:' }, hypotheses(regular(net))],
+    13: () => [{ text: 'A signal belongs to the vector of question 12, and whether there is one is open.' }],
+};
 
 const WORDS = {
     1: net => [{ text: 'Reactions join the complexes of a class, at once or by way of others, and none joins two classes:', words: net.report.classes.map((members, at) => [`class ${at + 1}`, members.join('; ')]) }],
@@ -196,8 +206,8 @@ const WORDS = {
         : [{ text: `No reaction is the reverse of reaction ${question.evidence[0].slice('reaction '.length)}.` }],
     4: (net, question) => {
         if (question.verdict === 'no') {
-            const { from, to } = net.reactions[Number(/\d+/.exec(question.evidence[0])[0]) - 1];
-            return [{ text: `Reaction ${question.evidence[0].slice('reaction '.length)}, leads out of its strong class: no path of arrows leads from ${net.name(to)} back to ${net.name(from)}.` }];
+            const at = Number(/\d+/.exec(question.evidence[0])[0]), { from, to } = net.reactions[at - 1];
+            return [{ text: `Reaction ${at}, ${net.texts[at - 1]}, leads out of its strong class: no path of arrows leads from ${net.name(to)} back to ${net.name(from)}.` }];
         }
         const oneWay = net.reactions.filter(it => net.reverse(it) < 0);
         return oneWay.length
@@ -206,23 +216,23 @@ const WORDS = {
     },
     5: (net, question) => {
         const numbers = rest(question.evidence[0]).split(' ');
-        return [{ text: `The vectors of these ${of(numbers.length, 'reaction')} are independent, and those of all others are combinations of them; the certificate has the numbers that show both:`, table: numbers.map(r => [`reaction ${r}`, net.texts[r - 1]]) }];
+        return [{ text: `The vectors of these ${of(numbers.length, 'reaction')} are independent, and those of all others are combinations of them; the certificate has the numbers that show both:`, words: numbers.map(r => [`reaction ${r}`, net.texts[r - 1]]) }];
     },
     6: net => [
-        { text: `${net.deficiency()}.` },
+        { text: `The deficiency is ${net.deficiency()}.` },
         { text: 'For each linkage class, its complexes − 1 − its rank:', words: net.classDeficiencies().map((it, at) => [`class ${at + 1}`, `${net.report.classes[at].length} − 1 − ${net.report.classes[at].length - 1 - it} = ${it}`]) },
     ],
     7: (net, question) => {
         const numbers = rest(question.evidence[0]).split(' ');
         return question.verdict === 'yes'
-            ? [{ text: 'If each reaction happens this many times, nothing changes:', table: named(net.texts, numbers) }]
-            : [{ text: `No reaction raises ${sum(net.report.species, numbers)}, and some reaction lowers it:`, table: named(net.report.species, numbers) }];
+            ? [{ text: 'If each reaction happens this many times, nothing changes:', numbers: named(net.texts, numbers) }]
+            : [{ text: `No reaction raises ${sum(net.report.species, numbers)}, and some reaction lowers it:`, numbers: named(net.report.species, numbers) }];
     },
     8: (net, question) => {
         const numbers = rest(question.evidence[0]).split(' ');
         return question.verdict === 'yes'
             ? [{ text: `No reaction changes ${sum(net.report.species, numbers)}.` }]
-            : [{ text: 'If each reaction happens this many times (backwards, where the number is negative), no species is made and some species is lost, so no weights are kept:', table: named(net.texts, numbers) }];
+            : [{ text: 'If each reaction happens this many times (backwards, where the number is negative), no species is made and some species is lost, so no weights are kept:', numbers: named(net.texts, numbers) }];
     },
     9: net => {
         const zero = { text: `The deficiency is asked to be 0. It is ${net.deficiency()}.` };
@@ -241,13 +251,14 @@ const WORDS = {
     13: (net, question) => {
         if (question.verdict === 'yes') return signal(net, question);
         if (question.verdict === 'no') return [tree(13, `Whatever the shelves and the signs of mu, numbers exclude a signal${net.parts(4)[0] === 'yes' ? ', for the vector of question 12 and for its negative' : ''}.`)];
-        return [{ text: 'Question 12 gives no vector.' }, ...explained(net.report, net.reactions, net.report.questions[11])];
+        return [{ text: `A signal belongs to the one confluence vector of question 12. There it says: ${net.report.questions[11].verdict}.` }];
     },
     14: (net, question) => question.verdict === 'yes' ? [tree(14, 'Whatever the signs of sigma, numbers exclude that it and an alpha show the network discordant.')] : discordant(net, question),
     15: (net, question) => question.verdict === 'yes' ? [tree(15, 'Whatever the signs of sigma, numbers exclude that it and an alpha show the network discordant.')] : discordant(net, question),
 };
 
-// The evidence of a verdict: each item is a sentence; below it a table of numbers or of words; or a tree after it.
+// The evidence of a verdict: each item is a sentence, and may have a table of `numbers`, `words` or `claims` below it, or the
+// tree of a question after it.
 export function explained(report, reactions, question) {
     const net = new Network(report, reactions);
     return question.parts[0] === 'open' ? openly(net, question) : WORDS[question.number](net, question);

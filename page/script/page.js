@@ -5,7 +5,7 @@ import { proposal } from './cures.js';
 import { reordered } from './order.js';
 import { PRINTED, complexPicture, escaped, speciesPicture } from './picture.js';
 import { Pointer } from './pointer.js';
-import { conclusionsView, linesView, summary } from './view.js';
+import { conclusionsView, divided, linesView, summary } from './view.js';
 import { treeWords, treesIn } from './evidence.js';
 import { plain, remedyOfCertificate, remedyOfText } from './files.js';
 import { readFault, refusalView, rejectionView } from './faults.js';
@@ -308,7 +308,7 @@ function draw() {
     resize();
     $('legend').textContent = kind === 'complexes'
         ? 'Each box is a complex, each frame a linkage class. A double border, in green, marks a terminal strong class. An arrow with two tips is a reaction with its reverse.'
-        : 'Round: species. Square: reactions, by their numbers. An arrow ends at what a reaction makes; a dashed one is at a species that it both uses and makes. Numbers are amounts, if not 1.';
+        : 'Round: species. Square: reactions, by their numbers. An arrow ends at what a reaction makes, with a hollow tip at what its reverse makes; a dashed one is at a species that a reaction both uses and makes. Numbers are amounts, if not 1.';
 }
 
 function resize() {
@@ -528,8 +528,9 @@ function wire() {
     on('sample', 'click', trySample);
     for (const id of ['stop-certificate', 'stop-sample']) on(id, 'click', () => helper.stop());
     on('lines', 'click', event => {
-        const { budget, reorder } = event.target.dataset;
+        const { budget, reorder, divide } = event.target.dataset;
         if (budget) { $('budget').value = budget; read(); }
+        if (divide !== undefined) setText(divided(now.report, now.reactions));
         if (reorder !== undefined) { setText(reordered(textOf(typed()), orders++)); }
     });
     on('unfold', 'click', () => {

@@ -72,7 +72,8 @@ function svg(size, name, inside) {
     return {
         width, height,
         svg: `<svg xmlns="http://www.w3.org/2000/svg" class="drawing" viewBox="-1 -1 ${width} ${height}" width="${width}" height="${height}" role="group" aria-label="${escaped(name)}">`
-            + '<defs><marker id="tip" viewBox="0 0 10 10" refX="9" refY="5" markerWidth="7" markerHeight="7" orient="auto-start-reverse"><path class="tip" d="M0 0.5L10 5L0 9.5z"/></marker></defs>'
+            + '<defs><marker id="tip" viewBox="0 0 10 10" refX="9" refY="5" markerWidth="7" markerHeight="7" orient="auto-start-reverse"><path class="tip" d="M0 0.5L10 5L0 9.5z"/></marker>'
+            + '<marker id="back" viewBox="0 0 10 10" refX="9" refY="5" markerWidth="7" markerHeight="7" orient="auto"><path class="back" d="M0.7 1.2L9 5L0.7 8.8z"/></marker></defs>'
             + inside + '</svg>',
     };
 }
@@ -140,7 +141,8 @@ function partsOf(count, edges) {
     return [...found.values()];
 }
 
-// The species, and between them the reactions as dots. An arrow ends at what a reaction makes.
+// The species, and between them the reactions as dots. An arrow ends at what a reaction makes, with a hollow tip at what its
+// reverse does.
 export function speciesPicture(report, reactions, measure, width) {
     const pairs = pairsOf(reactions), species = report.species.length;
     const nodes = [
@@ -152,7 +154,7 @@ export function speciesPicture(report, reactions, measure, width) {
         const [before, after] = [pair.from, pair.to].map(complex => new Map(terms(report.complexes[complex]).map(([amount, name]) => [name, amount])));
         for (const name of new Set([...before.keys(), ...after.keys()])) {
             const made = after.has(name) || pair.both, used = before.has(name), keeps = before.has(name) && after.has(name);
-            const amounts = keeps && before.get(name) !== after.get(name) ? `${before.get(name)} → ${after.get(name)}` : String(before.get(name) || after.get(name));
+            const amounts = keeps && before.get(name) !== after.get(name) ? `${before.get(name)}→${after.get(name)}` : String(before.get(name) || after.get(name));
             edges.push({ from: report.species.indexOf(name), to: species + at, made, used, keeps, amounts: amounts === '1' ? '' : amounts, pair });
         }
     });
@@ -168,7 +170,7 @@ export function speciesPicture(report, reactions, measure, width) {
         const lines = frame.inner.map(edge => {
             const [a, b] = [at(edge.from), at(edge.to)], start = border(a, nodes[edge.from].width + 5, nodes[edge.from].height + 5, b), end = border(b, nodes[edge.to].width, nodes[edge.to].height, a);
             const middle = { x: (start.x + end.x) / 2, y: (start.y + end.y) / 2 };
-            return `<g class="arrow" data-of="${edge.pair.numbers.join(' ')}"><path class="line${edge.keeps && !edge.pair.both ? ' keeps' : ''}" d="M${near(end.x)} ${near(end.y)}L${near(start.x)} ${near(start.y)}"${edge.made ? ' marker-end="url(#tip)"' : ''}/>`
+            return `<g class="arrow" data-of="${edge.pair.numbers.join(' ')}"><path class="line${edge.keeps && !edge.pair.both ? ' keeps' : ''}" d="M${near(end.x)} ${near(end.y)}L${near(start.x)} ${near(start.y)}"${edge.made ? ` marker-end="url(#${edge.used && !edge.keeps ? 'back' : 'tip'})"` : ''}/>`
                 + (edge.amounts ? `<text class="amount" x="${near(middle.x)}" y="${near(middle.y)}" text-anchor="middle" dominant-baseline="central">${edge.amounts}</text>` : '') + '</g>';
         });
         const boxes = frame.own.map(vertex => {
@@ -187,4 +189,4 @@ export function speciesPicture(report, reactions, measure, width) {
 export const PRINTED = '.frame{fill:#f8fafc;stroke:#c9d1db}.title{fill:#4a5565;font:12px sans-serif}.box{fill:#fff;stroke:#66717f}.terminal .box{fill:#e2f4e8;stroke:#17693b}'
     + '.ring{fill:none;stroke:#17693b}.reaction .box{fill:#eef1f5}.name,.number,.shelf,.amount{font-family:DejaVu Sans Mono,Menlo,Consolas,monospace;font-size:13px;fill:#1b2330}'
     + '.number{font-size:11px}.shelf{font-size:10.5px}.amount{font-size:11px;stroke:#fff;stroke-width:4px;paint-order:stroke}'
-    + '.line{fill:none;stroke:#4a5565;stroke-width:1.4}.keeps{stroke-dasharray:5 3}.wide{fill:none;stroke:none}.tip{fill:#4a5565}';
+    + '.line{fill:none;stroke:#4a5565;stroke-width:1.4}.keeps{stroke-dasharray:5 3}.wide{fill:none;stroke:none}.tip{fill:#4a5565}.back{fill:#fff;stroke:#4a5565}';

@@ -50,6 +50,27 @@ function separate(points, nodes, gap) {
     }
 }
 
+// Pushes boxes away from lines that pass them on their way between two others.
+function clear(points, nodes, edges, gap) {
+    for (let round = 0, moved = true; moved && round < 60; round++) {
+        moved = false;
+        for (const { from, to } of edges) {
+            const [a, b] = [points[from], points[to]], length = Math.hypot(b.x - a.x, b.y - a.y) || 1;
+            const along = { x: (b.x - a.x) / length, y: (b.y - a.y) / length }, across = { x: -along.y, y: along.x };
+            points.forEach((point, at) => {
+                if (at === from || at === to) return;
+                const [dx, dy] = [point.x - a.x, point.y - a.y], t = dx * along.x + dy * along.y, off = dx * across.x + dy * across.y;
+                const half = Math.abs(across.x) * nodes[at].width / 2 + Math.abs(across.y) * nodes[at].height / 2 + gap;
+                if (t <= 0 || t >= length || Math.abs(off) >= half) return;
+                moved = true;
+                const push = (half - Math.abs(off) + 0.5) * (off < 0 ? -1 : 1);
+                for (const [it, share] of [[point, 0.5], [a, -0.25], [b, -0.25]]) { it.x += share * push * across.x; it.y += share * push * across.y; }
+            });
+        }
+        separate(points, nodes, gap);
+    }
+}
+
 // Turns the points so that they are spread most from left to right.
 function level(points) {
     const mean = axis => points.reduce((sum, point) => sum + point[axis], 0) / points.length, [x, y] = [mean('x'), mean('y')];
@@ -71,6 +92,7 @@ export function springs(nodes, edges, { length = 76, gap = 10 } = {}) {
     for (let round = 0; round < 150; round++) relax(points, far, length);
     level(points);
     separate(points, nodes, gap);
+    clear(points, nodes, edges, gap / 2);
     const left = Math.min(...points.map((p, at) => p.x - nodes[at].width / 2)), top = Math.min(...points.map((p, at) => p.y - nodes[at].height / 2));
     const places = points.map(p => ({ x: p.x - left, y: p.y - top }));
     return {

@@ -52,23 +52,29 @@ export function summary(report) {
     return `${plural(report.species.length, 'species', 'species')}, ${plural(report.complexes.length, 'complex', 'complexes')} and ${plural(Number(reactions), 'reaction')}, in ${plural(classes, 'linkage class', 'linkage classes')} and ${plural(strong, 'strong class', 'strong classes')}; ${deficiency === 'open' ? 'the deficiency is open' : `deficiency ${deficiency}`}.`;
 }
 
+const MOOD = { holds: 'good', fails: 'bad', open: 'open' };
+
 // A sentence of evidence, with what belongs to it: a table of numbers or of words, or where a tree is.
 function evidenceView(item, trees) {
-    const table = item.table || item.words;
+    const kind = ['numbers', 'words', 'claims'].find(it => item[it]), table = item[kind];
     if (item.tree) return `<p>${escaped(item.text)} <span data-tree="${item.tree}">${treeWords(item.tree, trees)}</span></p>`;
-    if (!table || !table.length) return `<p>${escaped(item.text)}</p>`;
-    return `<p>${escaped(item.text)}</p><div class="evidence-scroll" tabindex="0" role="group" aria-label="${escaped(item.text)}"><table class="${item.table ? 'numbers' : 'words'}">`
-        + table.map(row => `<tr>${row.map(cell => `<td class="mono">${escaped(cell)}</td>`).join('')}</tr>`).join('') + '</table></div>';
+    if (!table) return `<p>${escaped(item.text)}</p>`;
+    return `<p>${escaped(item.text)}</p><div class="evidence-scroll" tabindex="0" role="group" aria-label="${escaped(item.text)}"><table class="${kind}">`
+        + table.map(row => `<tr>${row.map(cell => `<td${/^(holds|fails|open)$/.test(cell) ? ` class="${MOOD[cell]}"` : ''}>${escaped(cell)}</td>`).join('')}</tr>`).join('') + '</table></div>';
 }
 
-// The species whose amounts have a common divisor, as `A by 2`.
+// The species whose amounts have a common divisor above 1, with that.
 function divisors(report) {
-    const divisor = (a, b) => b ? divisor(b, a % b) : a;
-    return report.species.flatMap(name => {
-        const amounts = report.complexes.flatMap(complex => terms(complex).filter(term => term[1] === name).map(([amount]) => amount));
-        const common = amounts.reduce(divisor);
-        return common > 1 ? [`${name} by ${common}`] : [];
-    });
+    const divisor = (a, b) => b ? divisor(b, a % b) : a, found = new Map();
+    for (const [amount, name] of report.complexes.flatMap(terms)) found.set(name, divisor(amount, found.get(name) || 0));
+    return new Map([...found].filter(([, by]) => by > 1));
+}
+
+// The network with the amounts of these species divided.
+export function divided(report, reactions) {
+    const common = divisors(report), term = (amount, name) => `${amount === 1 ? '' : amount}${name}`;
+    const names = report.complexes.map(complex => terms(complex).map(([amount, name]) => term(amount / (common.get(name) || 1), name)).join(' + ') || '0');
+    return reactions.map(({ from, to }) => `${names[from]} -> ${names[to]}\n`).join('');
 }
 
 // What to try if a question is open.
@@ -82,8 +88,8 @@ export function openAdvice(question, report) {
     if (question.parts[1] !== 'wide') return '';
     const common = divisors(report);
     return '<p><b>To try</b></p><ul>'
-        + (common.length ? `<li>Divide the amounts of ${escaped(common.join(', of '))}: no answer changes.</li>` : '')
-        + '<li>Leave out steps or amounts that the question does not depend on: it takes long chains of large amounts to come to such numbers.</li>'
+        + (common.size ? `<li><button data-divide>Divide the amounts of ${escaped([...common].map(([name, by]) => `${name} by ${by}`).join(', of '))}</button> Whatever the species is counted in, no answer changes.</li>` : '')
+        + '<li>A network with shorter chains or smaller amounts, if it serves as well: such numbers come of long chains of large amounts.</li>'
         + '<li>If the answer is known from elsewhere, put it with its numbers into the certificate, in the place of the line that says open, and have it checked: a check takes numbers up to 2^72.</li></ul>';
 }
 

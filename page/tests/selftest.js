@@ -45,6 +45,17 @@ const answer = said => said.startsWith('refused') ? lineOf('refusal') : $('repor
 const boxesOf = selector => [...$('picture').querySelectorAll(selector)].map(node => node.querySelector('.box').getBBox());
 const overlaps = boxes => boxes.reduce((count, a, i) => count + boxes.slice(i + 1).filter(b => a.x < b.x + b.width && b.x < a.x + a.width && a.y < b.y + b.height && b.y < a.y + a.height).length, 0);
 
+// How many lines between species and reactions pass a box that is at neither of their ends.
+function passes() {
+    const boxes = boxesOf('.node');
+    return [...$('picture').querySelectorAll('.arrow .line')].reduce((count, line) => {
+        const [x, y, toX, toY] = line.getAttribute('d').match(/-?[\d.]+/g).map(Number), points = Math.ceil(Math.hypot(toX - x, toY - y) / 3);
+        const met = box => Array.from({ length: points }, (_, at) => [x + (toX - x) * (at + 0.5) / points, y + (toY - y) * (at + 0.5) / points])
+            .filter(([px, py]) => px > box.x && px < box.x + box.width && py > box.y && py < box.y + box.height).length > 1;
+        return count + boxes.filter(met).length;
+    }, 0);
+}
+
 function pick(kind) {
     const radio = document.querySelector(`input[name=drawn][value=${kind}]`);
     if (!radio.checked) radio.click();
@@ -80,6 +91,7 @@ async function testExample(test, { name, text, report, titles, reactions, eviden
     test.expect(`the species of ${name}`, $('picture').querySelectorAll('[data-species]').length === now.report.species.length);
     test.expect(`the reactions of ${name} between species`, numbers($('picture').querySelectorAll('.reaction')).size === reactions);
     test.expect(`no species of ${name} lies on another`, overlaps(boxesOf('.node')) === 0);
+    test.expect(`no line of ${name} passes a species or a reaction`, passes() === 0, passes());
     for (const part of $('picture').querySelectorAll('.part')) {
         part.dispatchEvent(new Event('click', { bubbles: true }));
         if (!$('pointed').querySelector('.title') || /undefined|NaN|null/.test($('pointed').textContent)) test.expect(`what is told in ${name}`, false, $('pointed').textContent);
@@ -258,9 +270,10 @@ async function testUndo(test) {
     test.expect('nothing is undone by the page itself', $('report').textContent.startsWith('crn report 1\nspecies 3: A B C'), $('report').textContent.slice(0, 60));
 }
 
-// Of a long text a part is shown, with the numbers of its lines; it is read whole, and put in and written on in good time.
+// Of a long text a part is shown, with the numbers of its lines, as a browser takes seconds for each key with more; it is read
+// whole, and can be shown whole.
 async function testLong(test) {
-    const begun = performance.now(), text = 'A + B -> C + D\n'.repeat(300000);
+    const text = 'A + B -> C + D\n'.repeat(300000);
     await enter('A -> B\n');
     $('text').setSelectionRange(0, 0);
     const event = Object.assign(new Event('paste', { cancelable: true }), { clipboardData: { getData: () => text } });
@@ -281,7 +294,6 @@ async function testLong(test) {
     test.expect('all of it can be shown', $('text').value.split('\n').length === 20002 && $('long').hidden && !$('text').readOnly);
     await enter('A -> B');
     test.expect('the page goes on after it', /^done/.test($('status').textContent) && $('long').hidden);
-    test.expect('all of this takes seconds', performance.now() - begun < 30000, `${Math.round(performance.now() - begun)} ms`);
 }
 
 // What the page says of files of other kinds is what helps a user of the page; its button leads to a report, or to what is

@@ -94,7 +94,7 @@ def evidence(report, certificate):
     found[11] = (several[:1] or ["each has one"]) + ["positively dependent", "cut pair"]
     if parts[11] == ["no", "a cycle in a terminal class"]:
         found[11].append(below[11][0].split("walk: ")[1].replace("; ", " – "))
-    of_vectors = {"yes": ["add up to nothing", "terminal strong classes"], "no vector but zero": ["tie"], "two independent vectors": ["neither of which"], "not regular": ["question 11"]}
+    of_vectors = {"yes": ["add up to nothing", "terminal strong classes"], "no vector but zero": ["tie"], "two independent vectors": ["neither of which"], "not regular": ["question 11", "positively dependent"]}
     found[12] = of_vectors.get(parts[12][-1], [])
     for k in (13, 14, 15):
         if trees[k]:
@@ -105,7 +105,7 @@ def evidence(report, certificate):
         found[13] = ["middle shelf has the height"] + complexes
     for k in range(1, 16):
         if parts[k][0] == "open":
-            found[k] = {"wide": ["2^62"], "budget": ["lists of signs"], "rests": ["rests on question"]}[parts[k][1].split()[0]]
+            found[k] = {"wide": ["2^62"], "budget": ["lists of signs"], "rests": ["question", "open"]}[parts[k][1].split()[0]]
     return {k: found.get(k, []) for k in range(1, 16)}
 
 
