@@ -53,7 +53,7 @@ def cures(root):
         code = re.match(r"(\d+) `\w+`(?: at line 0)?(?:: (.*))?$", row[1]) if len(row) == 3 else None
         if code:
             typed = [text.replace(r"\n", "\n") for text in re.findall(r"`([^`]*)`", row[0])]
-            found.append({"code": int(code[1]), "typed": typed, "note": code[2] or "", "write": row[2]})
+            found.append({"code": int(code[1]), "typed": typed, "note": code[2] or "", "write": row[2].replace(r"\n", "\n")})
     meanings = {row[0]: sentence(row[2]) for row in rows(section(root, "Refusals")) if len(row) == 3 and row[0].isdigit()}
     assert len(found) > 40 and len(meanings) > 12, "the tables of refusals are not where they were"
     return {"rows": found, "meanings": meanings, "advice": advice(root)}

@@ -11,13 +11,13 @@ export function readFault(line) {
 
 const shown = text => text.length > 300 ? text.slice(0, 300) + ' …' : text;
 
-const remedyView = remedy => `<p>${marked(remedy.says)}${remedy.does ? ` <button data-does="${remedy.does}">${remedy.label}</button>` : ''}</p>`;
+const remedyView = remedy => `<p class="remedy">${marked(remedy.says)}${remedy.does ? ` <button data-does="${remedy.does}">${remedy.label}</button>` : ''}</p>`;
 const wordsView = (fault, meaning) => `<p class="hint">In the program’s words: <code class="said">${fault.kind} ${fault.code} ${fault.name} at line ${fault.line}</code>${meaning && `: ${marked(meaning)}`}</p>`;
 const lineView = (typed, empty) => `<p class="faulty mono">${escaped(shown(typed)) || empty}</p>`;
 
 // A refusal: what to do, the line, a line that the program accepts if one was found, what others typed, and the program's words.
 export function refusalView(fault, typed, meant, remedy, cures) {
-    const rows = remedy ? [] : rowsFor(cures, fault.code, typed);
+    const rows = remedy || !fault.line ? [] : rowsFor(cures, fault.code, typed);
     const item = row => `<li>${row.typed.slice(0, 6).map(text => `<code>${escaped(text)}</code>`).join(', ')}: write ${marked(row.write)}${row.note ? ` (${marked(row.note)})` : ''}</li>`;
     const close = rows.filter(row => row.likeness), rest = rows.filter(row => !row.likeness);
     const fold = (rows, open, head) => rows.length ? `<details${open ? ' open' : ''}><summary>${head}</summary><ul>${rows.map(item).join('')}</ul></details>` : '';
@@ -35,8 +35,6 @@ export function rejectionView(fault, typed, remedy, rejections) {
     const tests = rejections.tests.filter(test => test.code === fault.code && test.record.match(/`(\w+)/)?.[1] === word).map(test => test.test);
     const general = [`What this line says does not pass the test that is named ${fault.name}.`];
     const causes = tests.length ? tests : rejections.forms[fault.code] || general;
-    return lineView(typed, '(nothing)')
-        + (remedy ? remedyView(remedy) : '')
-        + `<p>${tests.length ? 'What is asked of this line:' : 'The cause:'}</p><ul>${causes.map(cause => `<li>${marked(cause)}</li>`).join('')}</ul>`
-        + wordsView(fault, '');
+    const asked = `<p>${tests.length ? 'What is asked of this line:' : 'The cause:'}</p><ul>${causes.map(cause => `<li>${marked(cause)}</li>`).join('')}</ul>`;
+    return lineView(typed, '(nothing)') + (remedy ? remedyView(remedy) : asked) + wordsView(fault, remedy ? causes.join(' ') : '');
 }

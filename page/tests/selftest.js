@@ -151,7 +151,7 @@ async function testCertificates(test, { examples, damaged }) {
     for (const { name, text, line } of damaged) {
         await check(bytesIn(text));
         test.expect(`it is rejected: ${name}`, lineOf('rejection') === line.trim(), `${lineOf('rejection')} for ${line}`);
-        test.expect(`why is said: ${name}`, $('rejection').querySelector('li') !== null, $('rejection').textContent);
+        test.expect(`why is said: ${name}`, $('rejection').querySelector('li, .remedy') !== null, $('rejection').textContent);
     }
 }
 
