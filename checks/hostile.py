@@ -52,14 +52,14 @@ class Hostile:
             sink.seek(0)
             return (done.returncode, sink.read(), done.stderr), os.path.exists(self.mark)
 
-    def each(self, name, words, text, refused, may_be, **others):
+    def each(self, name, words, text, refused, may_be, calls=None, **others):
         """A run for each call that can be refused, until there is no such call: each ends as it may, and the last as if nothing
-        was refused."""
+        was refused. `calls` says how many there are, where that is known."""
         wanted, _ = self.run(words, text)
         for at in range(1, MOST_CALLS):
             seen, was_refused = self.run(words, text, **{refused: at}, **others)
             if not was_refused:
-                yield f"{name}: no call is left after {at - 1}", seen == wanted and at > 1, seen
+                yield f"{name}: no call is left after {at - 1}", seen == wanted and at - 1 in (calls or range(1, at)), seen
                 return
             yield f"{name}: call {at}", may_be(at, seen, wanted), seen
         yield f"{name}: the calls come to an end", False, MOST_CALLS
@@ -123,7 +123,9 @@ def few(hostile):
         ("report on the two-site futile cycle", ["report"], sites, 7), ("check of A <-> B", ["check"], joined(ends.ENDS), 64),
         ("certify on one reaction", ["certify"], b"A -> B\n", 7),
     ]:
-        yield from hostile.each(f"reads of at most {most}, {name}", words, text, "FAIL_READ", is_read_fault, MOST_READ=most)
+        # as few reads as give all bytes, and one more that says that none is left
+        reads = [-(-len(text) // most) + 1]
+        yield from hostile.each(f"reads of at most {most}, {name}", words, text, "FAIL_READ", is_read_fault, reads, MOST_READ=most)
     for name, words, text in [("report on one reaction", ["report"], b"A -> B\n"), ("sample 1", ["sample", "1"], b""),
                               ("check of A <-> B", ["check"], joined(ends.ENDS)), ("no command", ["frobnicate"], b"")]:
         yield from hostile.each(f"writes of at most 7, {name}", words, text, "FAIL_WRITE", is_write_fault_after(7), MOST_WRITTEN=7)

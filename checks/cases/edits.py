@@ -225,6 +225,35 @@ EDITS = [
     (43, "refa 1\n", 44, "23 UnknownWord at line 44"),
 ]
 
+# How lines may be spelled, and how not. Each row: how many lines of version 1 come before one, what is in its place, and the
+# fault. A line whose form is good has a fault of what it says, there or further on.
+SPELLINGS = [
+    # classes are numbered from 1
+    *((5, line, "24 BadField at line 6") for line in [
+        "label 1 0", "label 1 -0", "label 1 +1", "label 1 3", "label 1", "label 1 1 1", "label  1 1", "label 1 1 ", "label",
+    ]),
+    *((5, line, "23 UnknownWord at line 6") for line in ["foo 1 1", "", " label 1 1", "label\t1 1", "refa 1", "section graph"]),
+    *((5, line, "26 WrongOrder at line 6") for line in ["up 1 1", "split"]),
+    # of two classes two levels are due
+    (8, "q2 2 1", "24 BadField at line 15"),
+    *((8, line, "24 BadField at line 9") for line in ["q2 3 1", "q2 yes"]),
+    (8, "q3 yes", "26 WrongOrder at line 9"),
+    # 2^72 - 1, 2^72 and 10^68
+    (28, "vec 4722366482869645213695 -4722366482869645213695", "35 BadVector at line 29"),
+    *((28, line, "25 NumberWide at line 29") for line in ["vec 1 -4722366482869645213696", "vec 1 1" + 68 * "0"]),
+    *((28, line, "24 BadField at line 29") for line in ["vec 4722366482869645213696 01", "vec 4722366482869645213696"]),
+    (28, "split", "26 WrongOrder at line 29"),
+    *((34, line, "24 BadField at line 35") for line in ["side 1 0 2", "side 1 0", "side 0 1"]),
+    (34, "walk 1 2", "26 WrongOrder at line 35"),
+    (35, "q12 yes", "26 WrongOrder at line 37"),
+    (35, "q12 none plane 2 1", "26 WrongOrder at line 37"),
+    (35, "q12 open rests 11", "26 WrongOrder at line 37"),
+    *((35, line, "24 BadField at line 36") for line in [
+        "q12 none plane 2 2", "q12 none plane 0 1", "q12 no", "q12 open rests 7",
+    ]),
+    (35, "q11 yes", "26 WrongOrder at line 36"),
+]
+
 # The lines that version 2 has more than version 1 before question 14.
 MORE = 10
 
@@ -242,14 +271,19 @@ TREE_EDITS = [
     # 2^72
     (43, "cuta 0 4722366482869645213696\n", 44, "25 NumberWide", 44),
     (43, "tie 1 0 0\n", 44, "43 TreeEndsEarly", 44),
+    (43, "q15 yes\n", 44, "43 TreeEndsEarly", 44),
     (43, "foo\n", 44, "23 UnknownWord", 44),
+    (43, "tree\n", 44, "23 UnknownWord", 44),
     # only the lines before the children of the prefix plus
     (45, "", END, "43 TreeEndsEarly", 46),
     # not zero on a free column
     (46, "cutb 1 0\n", 47, "41 BadLeaf", 47),
+    (46, "cutb 1\n", 47, "24 BadField", 47),
+    (46, "cutb 1 4722366482869645213696\n", 47, "25 NumberWide", 47),
     # the last node of the tree is removed, or one is added
     (47, "", 48, "43 TreeEndsEarly", 48),
     (48, "cuta 1 0\n", 48, "44 TreeGoesOn", 49),
+    (48, "split\n", 48, "44 TreeGoesOn", 49),
     # a pair that shows nothing
     (39, "q14 no\nalpha 1 1\nweights 1 0\n", 48, "45 BadEvidence", 42),
     (39, "q14 no\nalpha 0 0\nweights 1 1\n", 48, "45 BadEvidence", 42),
@@ -271,6 +305,9 @@ SHARED_EDITS = [
     (0, "crn certificate 3\n", 1, "21 BadHeader at line 1"),
     (4, "", 5, "26 WrongOrder at line 5"),
     (5, "vector\n", 6, "24 BadField at line 6"),
+    # a line has at most 400 numbers, of any length
+    (5, f"vector {500 * '7'}\n", 6, "25 NumberWide at line 6"),
+    (5, f"vector{401 * ' 7'}\n", 6, "24 BadField at line 6"),
     (8, "section rank\n", 9, "24 BadField at line 9"),
     (48, "", 49, "26 WrongOrder at line 49"),
     (48, "section confluence\n", 49, "24 BadField at line 49"),
@@ -282,6 +319,7 @@ SHARED_EDITS = [
     # a list that is shared has another length than the cut that names it
     (5, "vector 0 1 0\n", 6, "46 WrongShape at line 54"),
     (5, "vector 0\n", 6, "46 WrongShape at line 54"),
+    (5, f"vector{400 * ' 7'}\n", 6, "46 WrongShape at line 54"),
     (56, "refa 3\n", 57, "41 BadLeaf at line 57"),
     (57, "", 58, "43 TreeEndsEarly at line 58"),
 ]
@@ -309,6 +347,8 @@ def ends_early(document, length):
 
 
 def tries(program):
+    for before, line, fault in SPELLINGS:
+        yield f"a spelling is rejected: {line!r}", *is_judged(program, edited(BOTH_WAYS, before, f"{line}\n", before + 1), fault)
     for lines, rows in [(BOTH_WAYS, EDITS), (SHARED, SHARED_EDITS)]:
         for before, text, after, fault in rows:
             yield f"an edit is rejected: {text!r} after {before} lines", *is_judged(program, edited(lines, before, text, after), fault)

@@ -1,7 +1,7 @@
 """Networks and texts at the limits, and one above them; and sides of very many terms."""
 
 from .reports import ROW
-from .runs import DONE, decided_lines, ends_so, is_refused, is_reported, run
+from .runs import DONE, decided_lines, ends_so, has_in_turn, is_refused, is_reported, run
 
 MAX_TEXT = 2_097_152
 
@@ -272,8 +272,19 @@ def texts(program):
         yield f"the sums of {text}", text, fault and f"{fault} at line 1"
 
 
+def path_and_back():
+    """A path through all complexes that a network can have, and back along the first 81 of its reactions."""
+    sides = [some(1 + i // 52, chr(ord("A") + i % 52 + 6 * (i % 52 // 26))) for i in range(160)]
+    forward = [f"{left} -> {right}\n" for left, right in zip(sides, sides[1:])]
+    return "".join([*forward, *(f"{right} -> {left}\n" for left, right in zip(sides[:81], sides[1:82]))])
+
+
 def tries(program):
     yield from networks(program)
+    # the first 82 complexes are in one strong class
+    parts = ["\ncomplexes 160: ", "\nreactions 240\nQ1 linkage classes: 1\n", "\nQ2 strong classes: 79, terminal 1\n"]
+    out = run(program, ["report", "--budget", "1"], path_and_back())[1]
+    yield "the largest network has its classes", has_in_turn(out, parts), out
     for name, text, fault in texts(program):
         if fault:
             yield name, *is_refused(program, text, f"refused {fault}\n")
