@@ -37,3 +37,4 @@ mod zero;
 pub use check::{accept_tree, check_answer, check_head, check_signal_answer};
 pub use facts::Facts;
 pub use fault::CheckFault;
+pub use positive::{amount_change, is_conservation, rules_out_conservation, weight_change};

@@ -27,8 +27,8 @@ fn are_positive(values: &[i128]) -> bool
     true
 }
 
-// The entry at a species of the combination of all reactions with these numbers.
-fn amount_change(net: &Network, numbers: &[i128], s: usize) -> i128
+/// The entry at a species of the combination of all reactions with these numbers.
+pub fn amount_change(net: &Network, numbers: &[i128], s: usize) -> i128
     requires numbers { AreFree (length net.now.reactions) numbers.now }
     requires species { s < length net.now.names }
     ensures { result ≡ combination_at numbers.now (vectors net.now) s }
@@ -40,8 +40,8 @@ fn amount_change(net: &Network, numbers: &[i128], s: usize) -> i128
     sum
 }
 
-// The weight that a reaction, counted from 0, adds.
-fn weight_change(net: &Network, weights: &[i128], r: usize) -> i128
+/// The weight that a reaction, counted from 0, adds.
+pub fn weight_change(net: &Network, weights: &[i128], r: usize) -> i128
     requires weights { AreFree (length net.now.names) weights.now }
     requires inside { r < length net.now.reactions }
     ensures { let ends = slice_index_or net.now.reactions r (0, 0) in
@@ -67,8 +67,8 @@ fn is_dependence(net: &Network, numbers: &[i128]) -> bool
     true
 }
 
-// Whether the weights are positive and each reaction conserves the total.
-fn is_conservation(net: &Network, weights: &[i128]) -> bool
+/// Whether the weights are positive and each reaction conserves the total.
+pub fn is_conservation(net: &Network, weights: &[i128]) -> bool
     requires { AreFree (length net.now.names) weights.now }
     ensures { IsTrue result ↔ IsConservationLaw net.now weights.now }
 {
@@ -101,8 +101,8 @@ fn rules_out_dependence(net: &Network, weights: &[i128]) -> bool
     lowers
 }
 
-// Whether the combination increases no species, and decreases one.
-fn rules_out_conservation(net: &Network, numbers: &[i128]) -> bool
+/// Whether the combination increases no species, and decreases one.
+pub fn rules_out_conservation(net: &Network, numbers: &[i128]) -> bool
     requires { AreFree (length net.now.reactions) numbers.now }
     ensures { IsTrue result ↔ RuleOutConservation net.now numbers.now }
 {
