@@ -18,7 +18,13 @@ use Rattle.crn_cert.specs.Valid.{IsValid}
 use Rattle.crn_cert.proofs.CallerLemmas.{valid_answers_are_true}
 use Rattle.crn_farkas.specs.declared.decision.Decision.{Decision}
 use Rattle.crn_farkas.specs.declared.decision.Decision.TheVariants.{Feasible, Infeasible}
-use Rattle.crn_farkas.specs.declared.fault.Stop.TheVariants.{Wide}
+use Rattle.std.specs.Prelude.{Result, Ok, Err}
+use Rattle.std.specs.Result.{MatchResult}
+use Rattle.crn_vec.specs.Vectors.{Mat}
+use Rattle.crn_vec.specs.declared.signs.Kind.{Kind}
+use Rattle.crn_solve.specs.Laws.{IsLawDecision, IsLawStop}
+use Rattle.crn_farkas.specs.declared.fault.Stop.{Stop}
+use Rattle.crn_farkas.specs.declared.fault.Stop.TheVariants.{Wide, NoMemory}
 use Rattle.crn_farkas.specs.Decision.{IsDecision, IsStop}
 use Rattle.crn_cert.specs.Answered.{IsAnswer}
 use Rattle.crn_solve.specs.Inner.Given.{wide_answer, vector_answer}
@@ -103,3 +109,17 @@ pub law_wide : (net : Net) (budget : ℕ) (earlier : Earlier) (index : ℕ) (bas
 law_wide net budget earlier index basis h =
     let gap : IsWideGap net earlier Q8 1 0 index basis.list = ((refl, refl, wide_basis (species_system net) (length net.names) (length net.reactions) index basis.list refl (vectors_count net) h.0), tt) in
     record { formed = (record { head = gap; rows = tt; trees = tt }, (refl, refl)); valid = tt; answered = (gap, (h.2, h.0)) }
+
+-- ---- conservation alone
+
+law_by : (net : Net) (d : Decision) → IsNetwork net → IsDecision (species_system net) (positive_kinds (species_system net)) d → IsLawDecision net d
+law_by net (Feasible x) n h = let s = positive_solution (species_system net) x.list h in (s.free, law net x.list s)
+law_by net (Infeasible u) n h = let c = positive_cut (species_system net) u.list h in (subst (λ (m : ℕ). AreFree m u.list) (vectors_count net) c.free, no_law net u.list n c)
+
+stop_by : (net : Net) (kinds : List Kind) (s : Stop) → IsStop (species_system net) kinds s → IsLawStop net s
+stop_by net kinds (Wide index basis) h = h.0
+stop_by net kinds NoMemory h = tt
+
+pub law_or_stop : (net : Net) (a : Mat) (r : Result Decision Stop) → IsNetwork net → a ≡ species_system net → MatchResult r (λ d. IsDecision a (positive_kinds a) d) (λ s. IsStop a (positive_kinds a) s) → MatchResult r (λ d. IsLawDecision net d) (λ s. IsLawStop net s)
+law_or_stop net a (Ok d) n e h = law_by net d n (subst (λ (m : Mat). IsDecision m (positive_kinds m) d) e h)
+law_or_stop net a (Err s) n e h = stop_by net (positive_kinds (species_system net)) s (subst (λ (m : Mat). IsStop m (positive_kinds m) s) e h)

@@ -17,3 +17,4 @@ mod systems;
 mod zero_answer;
 
 pub use answers::{solve, solve_verdicts};
+pub use positive::law_or_cut;

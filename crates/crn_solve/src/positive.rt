@@ -6,10 +6,11 @@ ghost use Rattle.crn_cert.specs.Questions.{Earlier, Q7, Q8};
 ghost use Rattle.crn_farkas.specs.Decision.{IsDecision, IsStop};
 ghost use Rattle.crn_cert.specs.Answered.{IsAnswer};
 ghost use Rattle.crn_solve.specs.Inner.Given.{vector_answer};
+ghost use Rattle.crn_solve.specs.Laws.{IsLawDecision, IsLawStop};
 
 use crate::open::wide_answer;
 use crate::parts::is_open;
-use crate::systems::positive_kinds;
+use crate::systems::{positive_kinds, species_matrix};
 use crn_cert::{Answer, Proof, Verdict};
 use crn_farkas::{Decision, Solver, Stop};
 use crn_net::Network;
@@ -112,4 +113,14 @@ pub(crate) fn conservative(
         Err(Stop::Wide { index, basis }) => Ok(wide_answer(1, index, basis)),
         Err(Stop::NoMemory) => Err(NoMemory),
     }
+}
+
+/// A conservation law with positive weights, or numbers that rule each one out: what question 8 asks, alone. Takes memory.
+pub fn law_or_cut(alloc: Global, net: &Network) -> Result<Decision, Stop>
+    ensures { MatchResult result (λ d. IsLawDecision net.now d) (λ s. IsLawStop net.now s) }
+{
+    net.meets_definition();
+    let matrix = species_matrix(alloc, net)?;
+    let mut solver = Solver::new(alloc, &matrix)?;
+    decide_positive(alloc, &matrix, &mut solver, None)
 }
