@@ -27,10 +27,10 @@ use Rattle.crn_ctext.specs.Steps.{StepGives}
 use Rattle.crn_io.specs.Device.{SourceSeen}
 use Rattle.crn_vec.proofs.CallerLemmas.{and_first}
 use Rattle.crn_ctext.proofs.CallerLemmas.{zip_long, formed_as_before}
-use Rattle.crn_document.specs.declared.reading.Reading.{Reading}
-use Rattle.crn_document.specs.declared.fault.CheckStop.{CheckStop}
-use Rattle.crn_document.specs.Inner.Steps.{StepIs}
-use Rattle.crn_document.proofs.Steps.{step_map, step_then_is}
+use Rattle.crn_reading.specs.declared.reading.Reading.{Reading}
+use Rattle.crn_reading.specs.declared.fault.CheckStop.{CheckStop}
+use Rattle.crn_reading.specs.Steps.{StepIs}
+use Rattle.crn_reading.proofs.CallerLemmas.{step_map, step_then_is}
 use Rattle.crn_ctext.specs.Meaning.{Known, lists, problems_by, sizes_of, shapes_of, verdict_of, proof_of, meaning}
 use Rattle.crn_ctext.specs.Meaning as said
 use Rattle.crn_check.specs.Facts.{KeptFacts, asked}

@@ -6,8 +6,8 @@ use Rattle.crn_cert.specs.Faults.{Fault, BadLeaf, NodeNotAllowed, TreeEndsEarly,
 use Rattle.crn_ctext.specs.Course.{Course, Give, Line, Test, End, FailsFirst}
 use Rattle.crn_document.specs.Check.{CheckGives, HasFaultNumber, IsFaultNumber}
 use Rattle.crn_document.specs.declared.check.Accepted.{Accepted}
-use Rattle.crn_document.specs.declared.fault.CheckStop.{CheckStop}
-use Rattle.crn_document.specs.declared.fault.CheckStop.TheVariants as stop
+use Rattle.crn_reading.specs.declared.fault.CheckStop.{CheckStop}
+use Rattle.crn_reading.specs.declared.fault.CheckStop.TheVariants as stop
 use Rattle.crn_document.specs.Inner.Courses.{whole_course}
 
 kind_numbered : (fault : Fault) → IsFaultNumber (fault_number fault)

@@ -7,10 +7,10 @@ use Rattle.crn_cert.specs.Faults.{Fault}
 use Rattle.crn_ctext.specs.Course.{Course, Give, Line, Test, End, ◌>>=◌, Gives, FailsFirst, test}
 use Rattle.crn_ctext.proofs.CallerLemmas.{gives_then, fails_before, fails_then, gives_parts, awaits_before, awaits_then, awaits_parts}
 use Rattle.crn_ctext.specs.Steps.{Awaits, cut}
-use Rattle.crn_document.specs.declared.reading.Reading.{Reading}
-use Rattle.crn_document.specs.declared.fault.CheckStop.{CheckStop}
-use Rattle.crn_document.specs.declared.fault.CheckStop.TheVariants as stop
-use Rattle.crn_document.specs.Inner.Steps.{StopIs, StepIs}
+use Rattle.crn_reading.specs.declared.reading.Reading.{Reading}
+use Rattle.crn_reading.specs.declared.fault.CheckStop.{CheckStop}
+use Rattle.crn_reading.specs.declared.fault.CheckStop.TheVariants as stop
+use Rattle.crn_reading.specs.Steps.{StopIs, StepIs}
 
 -- ---- the parts of a course
 

@@ -11,17 +11,18 @@ use Rattle.crn_ctext.specs.Judged.{IsReadOf, IsFaultOf}
 use Rattle.crn_ctext.specs.Linked.{AreSound}
 use Rattle.crn_ctext.specs.Steps.{Awaits, StepGives, StepFails, StepAwaits, StepEnds}
 use Rattle.crn_ctext.proofs.CallerLemmas.{awaited_open, first_is_one, gives_one, gives_or_fails, read_true, settled}
-use Rattle.crn_document.specs.Check.{CheckGives, IsAnswered, IsAccepted, IsTextOf}
+use Rattle.crn_document.specs.Check.{CheckGives, IsAnswered, IsAccepted}
+use Rattle.crn_reading.specs.Reads.{IsTextOf}
 use Rattle.crn_document.specs.declared.check.Accepted.{Accepted}
-use Rattle.crn_document.specs.declared.reading.Reading.{Reading}
-use Rattle.crn_document.specs.declared.fault.CheckStop.{CheckStop}
-use Rattle.crn_document.specs.declared.fault.CheckStop.TheVariants as stop
-use Rattle.crn_document.specs.Inner.Courses.{IsNew, IsWhole, rest_course, whole_course}
-use Rattle.crn_document.specs.Inner.Ending.{LastIs}
-use Rattle.crn_document.specs.Inner.Opening.{count_course, network_course, title_course}
-use Rattle.crn_document.proofs.Bodies.{last_all, last_then}
+use Rattle.crn_reading.specs.declared.reading.Reading.{Reading}
+use Rattle.crn_reading.specs.declared.fault.CheckStop.{CheckStop}
+use Rattle.crn_reading.specs.declared.fault.CheckStop.TheVariants as stop
+use Rattle.crn_reading.specs.Steps.{IsNew}
+use Rattle.crn_document.specs.Inner.Courses.{IsWhole, rest_course, whole_course}
+use Rattle.crn_reading.specs.Ending.{LastIs}
+use Rattle.crn_reading.specs.Opening.{count_course, network_course, title_course}
+use Rattle.crn_reading.proofs.CallerLemmas.{last_all, last_then, text_awaits, text_fails, text_gives, text_stops}
 use Rattle.crn_io.proofs.CallerLemmas.{Consumes-none, begun_none}
-use Rattle.crn_document.proofs.Texts.{text_awaits, text_fails, text_gives, text_stops}
 use Rattle.crn_cert.specs.Faults.{BadNetwork}
 
 -- ---- the parts of a document

@@ -11,11 +11,11 @@ use Rattle.crn_ctext.specs.Course.{Course, Give, ◌>>=◌, test}
 use Rattle.crn_ctext.specs.Blocks.{Problem, Node, Split, Flat, CutA, CutB, asks_leaf, asks_tree, either, goes_on, leaf}
 use Rattle.crn_ctext.specs.Steps.{StepGives}
 use Rattle.crn_ctree.specs.Due.{first, rest}
-use Rattle.crn_document.specs.declared.reading.Reading.{Reading}
-use Rattle.crn_document.specs.declared.fault.CheckStop.{CheckStop}
-use Rattle.crn_document.specs.Inner.Steps.{StopIs, StepIs}
+use Rattle.crn_reading.specs.declared.reading.Reading.{Reading}
+use Rattle.crn_reading.specs.declared.fault.CheckStop.{CheckStop}
+use Rattle.crn_reading.specs.Steps.{StopIs, StepIs}
 use Rattle.crn_document.specs.Inner.Trees.{after_node, asks_due, asks_one, node_test}
-use Rattle.crn_document.proofs.Steps.{step_gives, step_then_is, stop_first}
+use Rattle.crn_reading.proofs.CallerLemmas.{step_gives, step_then_is, stop_first}
 use Rattle.crn_document.proofs.CoursesFollowed.{Follows, follows_on, follows_after, to_right, to_left, none_after, test_holds, test_breaks, step_follows, stop_follows}
 use Rattle.crn_cert.specs.Faults.{NodeNotAllowed}
 

@@ -16,7 +16,7 @@ use Rattle.crn_document.specs.Inner.Answer.{IsHeadOf}
 use Rattle.crn_document.specs.Inner.Heads.{known_of, head_forms}
 use Rattle.crn_document.proofs.Fields.{Holds, one_field, one_number}
 use Rattle.crn_document.proofs.Ranks.{free_row}
-use Rattle.crn_document.proofs.HeadFacts.{Facts, one_small, wide_numbers, wide_small, wide_basis, same_facts, as_form, FactsAt}
+use Rattle.crn_document.proofs.HeadFacts.{Facts, one_small, wide_numbers, wide_small, wide_basis, same_facts, as_form, FactsAt, HeadFacts, head_with, FactsOf, ArePairs, IsWide}
 use Rattle.std.proofs.Common.{Bool, true, false}
 use Rattle.crn_ctext.proofs.CallerLemmas.{zip_long, between_shelves, vector_then, spent_place, rests_place, IsSignalGap}
 use Rattle.crn_cert.specs.Ranges.{IsNarrow}
@@ -28,7 +28,6 @@ use Rattle.crn_ctext.specs.Records.{Small, Turn}
 use Rattle.crn_ctext.specs.Questions.{rows, wide_signal}
 use Rattle.crn_ctext.specs.Blocks.{place_of}
 use Rattle.crn_ctext.specs.Meaning.{has_vector}
-use Rattle.crn_document.proofs.HeadFacts.{HeadFacts, head_with, FactsOf, ArePairs, IsWide}
 use Rattle.crn_document.proofs.Linkages.{pairs_few}
 
 -- ---- a signal

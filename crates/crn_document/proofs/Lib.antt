@@ -1,6 +1,4 @@
-mod Steps
 mod Records
-mod CanonicalTexts
 mod Linkages
 mod Fields
 mod Ranks
@@ -16,13 +14,7 @@ mod Heads
 mod Blocks
 mod Sections
 mod Places
-mod Titles
-mod FoundLines
-mod NetworkLines
-mod LongLines
 mod Tables
-mod Endings
-mod Texts
 mod Said
 mod Bodies
 mod Documents

@@ -30,8 +30,7 @@ use Rattle.crn_document.specs.Inner.Met.{AreMet, IsCutOf, IsNodeLineAs, IsMet, I
 use Rattle.crn_document.specs.Inner.Trees.{ExpectsNode, IsSaidAs, JudgeGives, asks_node_for}
 use Rattle.crn_document.proofs.NodeRecords.{node_said}
 use Rattle.crn_document.proofs.NodeWords.{node_is}
-use Rattle.crn_document.proofs.Records.{reads_one}
-use Rattle.crn_document.proofs.Steps.{tests_give}
+use Rattle.crn_reading.proofs.CallerLemmas.{reads_one, tests_give}
 
 -- ---- a line that is met
 

@@ -32,11 +32,11 @@ use Rattle.crn_ctree.specs.declared.node.Step.TheVariants.{More, Complete}
 use Rattle.crn_ctree.specs.declared.fault.TreeFault.{TreeFault}
 use Rattle.crn_ctree.specs.declared.fault.TreeFault.TheVariants.{BadLeaf, NodeNotAllowed, TreeEndsEarly, WrongShape}
 use Rattle.crn_io.specs.Device.{SourceSeen}
-use Rattle.crn_document.specs.declared.reading.Reading.{Reading}
-use Rattle.crn_document.specs.declared.fault.CheckStop.{CheckStop}
-use Rattle.crn_document.specs.Inner.Steps.{CanRead, StopIs}
+use Rattle.crn_reading.specs.declared.reading.Reading.{Reading}
+use Rattle.crn_reading.specs.declared.fault.CheckStop.{CheckStop}
+use Rattle.crn_reading.specs.Steps.{CanRead, StopIs}
 use Rattle.crn_document.specs.Inner.Trees.{ExpectsNode, IsNode, IsSaidAs, JudgeGives, Leaves, TakesSome, after_node, asks_node_for, asks_one, choices_in, count_a, node_test, problem_in}
-use Rattle.crn_document.proofs.Steps.{stop_first, tests_fail, tests_give}
+use Rattle.crn_reading.proofs.CallerLemmas.{stop_first, tests_fail, tests_give}
 use Rattle.crn_cert.specs.Faults as kinds
 
 -- ---- the node that is due

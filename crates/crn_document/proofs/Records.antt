@@ -6,8 +6,7 @@ use Rattle.std.specs.Prelude.{ℤ, pos, codes}
 use Rattle.crn_io.specs.Device.{SourceSeen}
 use Rattle.crn_ctext.specs.Records.{Record, Form, Fits, Several}
 use Rattle.crn_ctext.specs.Kinds.{just, record_form, small}
-use Rattle.crn_io.specs.Lines.{Place}
-use Rattle.crn_ctext.specs.Course.{Course, Give, Gives, due, ◌>>=◌}
+use Rattle.crn_ctext.specs.Course.{Course, Give, due, ◌>>=◌}
 use Rattle.crn_ctext.specs.Blocks.{reads, asks, asks_all}
 use Rattle.crn_ctext.specs.Documents.{IsOneOf}
 use Rattle.crn_ctext.specs.Expect.{AreSizes, MayBeDue, due_forms, forms_of, is_after, misplaced, sizes_of, tag_of}
@@ -15,13 +14,14 @@ use Rattle.crn_ctext.specs.Questions.{Sizes}
 use Rattle.crn_ctext.specs.declared.expect.Due.TheVariants as due_kinds
 use Rattle.crn_ctext.specs.declared.expect.Due.{Due}
 use Rattle.crn_ctext.specs.declared.expect.Expect.{Expect}
-use Rattle.crn_document.specs.Inner.Records.{asks_for, Expects, IsOwnDue, IsPartDue, IsRowDue, IsSaid, IsRow, AreRows}
+use Rattle.crn_reading.specs.Records.{asks_for, IsSaid}
+use Rattle.crn_document.specs.Inner.Records.{Expects, IsOwnDue, IsPartDue, IsRowDue, IsRow, AreRows}
 use Rattle.crn_ctext.specs.Steps.{StepGives}
 use Rattle.crn_ctext.specs.Meaning.{lists}
-use Rattle.crn_document.specs.declared.reading.Reading.{Reading}
-use Rattle.crn_document.specs.declared.fault.CheckStop.{CheckStop}
-use Rattle.crn_document.specs.Inner.Steps.{IsVersion, StepIs}
-use Rattle.crn_document.proofs.Steps.{step_gives, step_then_is, step_map}
+use Rattle.crn_reading.specs.declared.reading.Reading.{Reading}
+use Rattle.crn_reading.specs.declared.fault.CheckStop.{CheckStop}
+use Rattle.crn_reading.specs.Steps.{IsVersion, StepIs}
+use Rattle.crn_reading.proofs.CallerLemmas.{step_gives, step_then_is, step_map}
 use Rattle.crn_cert.specs.Faults.{Fault, WrongOrder}
 
 abbrev course_by : ℕ → ℕ → Bool → List Form → Fault → Course Record
@@ -125,12 +125,3 @@ rows_then version n form forms all r a b c result old mid new before between now
   where
     more : (t : Unit {0}) (rs : List Record) → AreRows forms b c rs → AreRows all a c (r ∷ rs)
     more t rs h = (subst (λ (fs : List Form). AllZip Fits fs (r ∷ rs)) (sym is) (row.0, h.0), h.1 ∙ ap (λ (x : List (List ℤ)). x ++ lists rs) row.1 ∙ append_assoc a (r.numbers ∷ []) (lists rs))
-
--- ---- a record that was read
-
--- the record that passes all tests of a line is one of those that were due
-pub reads_one : (version n : ℕ) (after : Bool) (forms : List Form) (mis : Fault) (line : List ℕ) (at end : Place) (r : Record) → Gives (reads version n after forms mis line) at r end → IsOneOf forms r
-unfolding Gives
-reads_one version n after forms mis line at end r g =
-    let last = g.2.2.2.2 in
-    subst (λ (x : Record). IsOneOf forms x) last.2.0 last.1.1

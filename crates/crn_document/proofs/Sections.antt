@@ -12,12 +12,12 @@ use Rattle.crn_ctext.specs.Course.{Course, Give, ◌>>=◌}
 use Rattle.crn_ctext.specs.Blocks.{AfterBlocks, asks, asks_all, asks_block, asks_blocks, after_sections, sections}
 use Rattle.crn_ctext.specs.Meaning.{Known, meaning}
 use Rattle.crn_check.specs.Facts.{asked}
-use Rattle.crn_document.specs.declared.reading.Reading.{Reading}
-use Rattle.crn_document.specs.declared.fault.CheckStop.{CheckStop}
+use Rattle.crn_reading.specs.declared.reading.Reading.{Reading}
+use Rattle.crn_reading.specs.declared.fault.CheckStop.{CheckStop}
 use Rattle.crn_ctext.specs.Steps.{StepGives}
 use Rattle.crn_document.specs.Inner.Blocks.{IsOpened, after_by, still_by_tree}
-use Rattle.crn_document.specs.Inner.Steps.{StepIs, StopIs}
-use Rattle.crn_document.proofs.Steps.{step_gives, step_map, stop_first}
+use Rattle.crn_reading.specs.Steps.{StepIs, StopIs}
+use Rattle.crn_reading.proofs.CallerLemmas.{step_gives, step_map, stop_first}
 
 -- ---- sections
 

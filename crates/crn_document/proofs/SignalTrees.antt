@@ -18,13 +18,13 @@ use Rattle.crn_ctext.specs.Meaning.{Known, pairs_of, problem_with, signal_proble
 use Rattle.crn_ctext.proofs.CallerLemmas.{HoldTogether, IsLike, step_awaits_like, step_fails_like, step_gives_like, trees_like}
 use Rattle.crn_ctree.proofs.CallerLemmas.{signal_nodes}
 use Rattle.crn_check.specs.Facts.{KeptFacts}
-use Rattle.crn_document.specs.declared.reading.Reading.{Reading}
-use Rattle.crn_document.specs.declared.fault.CheckStop.{CheckStop}
-use Rattle.crn_document.specs.declared.fault.CheckStop.TheVariants as stop
+use Rattle.crn_reading.specs.declared.reading.Reading.{Reading}
+use Rattle.crn_reading.specs.declared.fault.CheckStop.{CheckStop}
+use Rattle.crn_reading.specs.declared.fault.CheckStop.TheVariants as stop
 use Rattle.crn_document.specs.Inner.Heads.{known_of}
 use Rattle.crn_document.specs.Inner.Parts.{IsKnown, before}
 use Rattle.crn_document.specs.Inner.Signals.{vector_or_none}
-use Rattle.crn_document.specs.Inner.Steps.{StepIs, StopIs}
+use Rattle.crn_reading.specs.Steps.{StepIs, StopIs}
 use Rattle.crn_document.proofs.SignalsKnown.{of_vector, sizes, some_vector, vector_has, vector_known}
 
 -- what a step did by one course it did by a course that gives and fails as the first does

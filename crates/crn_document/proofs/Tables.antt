@@ -13,13 +13,13 @@ use Rattle.crn_ctext.specs.Questions.{first_number}
 use Rattle.crn_ctext.specs.Course.{Course, Give, ◌>>=◌}
 use Rattle.crn_ctext.specs.Blocks.{asks, asks_all, asks_table}
 use Rattle.crn_ctext.specs.Steps.{StepGives}
-use Rattle.crn_document.specs.declared.reading.Reading.{Reading}
-use Rattle.crn_document.specs.declared.fault.CheckStop.{CheckStop}
+use Rattle.crn_reading.specs.declared.reading.Reading.{Reading}
+use Rattle.crn_reading.specs.declared.fault.CheckStop.{CheckStop}
 use Rattle.crn_document.specs.declared.plain.Plain.TheVariants.{Table, Vector}
 use Rattle.crn_document.specs.Inner.Plain.{IsPlain}
-use Rattle.crn_document.specs.Inner.Steps.{IsVersion, StopIs, StepIs}
+use Rattle.crn_reading.specs.Steps.{IsVersion, StopIs, StepIs}
 use Rattle.crn_document.specs.Inner.Table.{AreListed, IsCount, IsTable, MovesBy}
-use Rattle.crn_document.proofs.Steps.{step_gives, step_then_is, step_map, stop_first}
+use Rattle.crn_reading.proofs.CallerLemmas.{step_gives, step_then_is, step_map, stop_first}
 use Rattle.crn_document.proofs.Records.{rows_after, first_row}
 use Rattle.crn_document.proofs.Fields.{Holds, one_field}
 

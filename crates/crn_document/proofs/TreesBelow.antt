@@ -7,11 +7,11 @@ use Rattle.crn_ctext.specs.Blocks.{Problem, asks_tree, asks_trees, has_tree}
 use Rattle.crn_ctext.specs.Meaning.{Known, is_yes, problems_by, signal_problems}
 use Rattle.crn_check.specs.Facts.{asked}
 use Rattle.crn_check.specs.Check.{AsksForTree, IsBuilt, tree_place}
-use Rattle.crn_document.specs.declared.reading.Reading.{Reading}
-use Rattle.crn_document.specs.declared.fault.CheckStop.{CheckStop}
-use Rattle.crn_document.specs.Inner.Steps.{StepIs, StopIs}
+use Rattle.crn_reading.specs.declared.reading.Reading.{Reading}
+use Rattle.crn_reading.specs.declared.fault.CheckStop.{CheckStop}
+use Rattle.crn_reading.specs.Steps.{StepIs, StopIs}
 use Rattle.crn_ctext.specs.Steps.{StepGives}
-use Rattle.crn_document.proofs.Steps.{step_gives, step_map, step_then_is, stop_first}
+use Rattle.crn_reading.proofs.CallerLemmas.{step_gives, step_map, step_then_is, stop_first}
 
 no_signals : (known : Known) (place : ℕ) → (place ≡ 2 → ⊥) → problems_by Q13 known place ≡ []
 no_signals known zero other = refl

@@ -1,34 +1,19 @@
 -- What checking a document answers, by the bytes that were read.
 -- Source: this project's own. Shapes: lines of a document count from 1.
-use Rattle.std.specs.Prelude.{◌≡◌, ◌≤◌, ◌+◌, ◌⊎◌, ℕ, List, ◌++◌, length, Option, Some, None, Result, Ok, Err}
+use Rattle.std.specs.Prelude.{◌≡◌, ◌≤◌, ◌+◌, ◌⊎◌, ℕ, List, ◌++◌, length, Some, Result, Ok, Err}
 use Rattle.crn_io.specs.Device.{SourceSeen, Rose}
 use Rattle.crn_io.specs.Pull.{Consumes, HasNoneLeft}
-use Rattle.crn_io.specs.Read.{ConsumesUpTo}
-use Rattle.crn_io.specs.declared.lines.TheConstants.{MAX_DOCUMENT, MAX_AHEAD}
+use Rattle.crn_io.specs.declared.lines.TheConstants.{MAX_AHEAD}
 use Rattle.crn_cert.specs.Built.{built}
 use Rattle.crn_ctext.specs.Records.{Record}
 use Rattle.crn_ctext.specs.Blocks.{ReadOf}
 use Rattle.crn_ctext.specs.Meaning.{meaning, verdicts_said}
 use Rattle.crn_ctext.specs.Judged.{IsReadOf, IsFaultOf, LeavesOpen}
 use Rattle.crn_ctext.specs.Linked.{AreSound}
+use Rattle.crn_reading.specs.Reads.{IsRead, PullsDocument}
 use Rattle.crn_document.specs.declared.check.Accepted.{Accepted}
-use Rattle.crn_document.specs.declared.fault.CheckStop.{CheckStop}
-use Rattle.crn_document.specs.declared.fault.CheckStop.TheVariants.{Rejected, Failed, NoMemory}
-
--- the bytes that a document is: those that the source had left, if it shows them, and else those
--- that were pulled
-abbrev pub IsTextOf : Option (List ℕ) → List ℕ → List ℕ → Type 0
-IsTextOf None pulled text = text ≡ pulled
-IsTextOf (Some left) pulled text = text ≡ left
-
--- bytes were pulled, no more than one pull after the bound of documents, and this is the text of
--- the document
-pub record IsRead (text : List ℕ) (old new : SourceSeen) : Type 0 where
-  pub pulled : List ℕ
-  pub consumed : Consumes old.left pulled new.left
-  pub bound : length pulled ≤ MAX_DOCUMENT + MAX_AHEAD
-  pub is : IsTextOf old.left pulled text
-  pub faults : new.faults ≡ old.faults
+use Rattle.crn_reading.specs.declared.fault.CheckStop.{CheckStop}
+use Rattle.crn_reading.specs.declared.fault.CheckStop.TheVariants.{Rejected, Failed, NoMemory}
 
 -- The document was read to its end, and gave this network and these blocks. The verdicts are those
 -- that the blocks say, and each is true of the network or open.
@@ -52,10 +37,6 @@ pub record Rejects (code line : ℕ) (old new : SourceSeen) : Type 0 where
   pub read : IsRead text old new
   pub fault : IsFaultOf text line code
   pub near : EndAtFault read.pulled
-
--- no more was pulled than one pull after the bound of documents
-abbrev pub PullsDocument : SourceSeen → SourceSeen → Type 0
-PullsDocument old new = ConsumesUpTo (MAX_DOCUMENT + MAX_AHEAD) old.left new.left
 
 -- what was pulled leaves open whether and where there is a fault
 abbrev pub PullsWhileOpen : SourceSeen → SourceSeen → Type 0

@@ -1,10 +1,8 @@
 -- For the contracts of private functions alone.
-pub mod Steps
 pub mod Records
 pub mod Answer
 pub mod Parts
 pub mod Answers
-pub mod Network
 pub mod Heads
 pub mod Signals
 pub mod Blocks
@@ -12,6 +10,5 @@ pub mod Courses
 pub mod Plain
 pub mod Table
 pub mod Ending
-pub mod Opening
 pub mod Trees
 pub mod Met

@@ -12,18 +12,16 @@ ghost use Rattle.crn_check.specs.Facts.{AreFactsOf, asked};
 ghost use Rattle.crn_check.specs.Check.{AsksForTree, HoldsNoTree, IsBuilt, Judges, shown_by_tree, tree_place};
 ghost use Rattle.crn_cert.specs.Verdicts.{tight};
 ghost use Rattle.crn_document.specs.Inner.Parts.{before, up_to};
-ghost use Rattle.crn_document.specs.Inner.Steps.{GoesOn, StepIs};
+ghost use Rattle.crn_reading.specs.Steps.{GoesOn, StepIs};
 ghost use Rattle.crn_document.specs.Inner.Answer.{AreSmall};
 ghost use Rattle.crn_document.specs.Inner.Heads.{IsHead, class_count, known_of};
 ghost use Rattle.crn_document.specs.Inner.Blocks.{HeadHolds, IsAfter, IsBlock, IsReady, Learns, after_at, after_by, end_course, head_course, parts_after, rows_course, tests_course};
 
 use crate::answer::{answer_of, bare_verdict};
-use crate::fault::CheckStop;
 use crate::head::next_head;
 use crate::linkage::linkage_of;
 use crate::numbers::number_of;
 use crate::parts::{Part, parts_of};
-use crate::reading::Reading;
 use crate::rows::{Below, next_rows, rows_below};
 use crate::signal_trees::shape_of;
 use crate::tree::{ends_in_tree, next_trees};
@@ -32,6 +30,7 @@ use crn_check::{CheckFault, Facts, accept_tree, check_answer, check_head, check_
 use crn_ctree::SharedTable;
 use crn_io::{NoMemory, Source};
 use crn_net::Network;
+use crn_reading::{CheckStop, Reading};
 use crn_vec::{Ints, Nums};
 use std::alloc::Global;
 

@@ -1,10 +1,10 @@
 ghost use Rattle.crn_document.specs.Check.{CheckGives, HasFaultNumber, IsAnswered};
 
-use crate::document::{begin, next_document};
-use crate::fault::CheckStop;
+use crate::document::next_document;
 use crn_cert::Verdicts;
 use crn_io::Source;
 use crn_net::Network;
+use crn_reading::{CheckStop, begin};
 use std::alloc::Global;
 
 /// What a good document says: its network, and a verdict on each question that is answered, in their order.

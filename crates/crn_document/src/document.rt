@@ -1,28 +1,11 @@
-ghost use Rattle.std.specs.Prelude.{◌≡◌, IfOk};
-ghost use Rattle.crn_document.specs.Inner.Courses.{IsNew, IsWhole, whole_course};
-ghost use Rattle.crn_document.specs.Inner.Ending.{LastIs};
+ghost use Rattle.crn_reading.specs.Steps.{IsNew};
+ghost use Rattle.crn_document.specs.Inner.Courses.{IsWhole, whole_course};
+ghost use Rattle.crn_reading.specs.Ending.{LastIs};
 
 use crate::check::Accepted;
-use crate::fault::CheckStop;
-use crate::opening::{next_count, next_network, next_version};
-use crate::reading::Reading;
 use crate::rest::next_rest;
-use crn_io::{Lines, MAX_NUMBERS, NoMemory, Source};
-use crn_vec::Ints;
-use std::alloc::Global;
-
-// A reading at the beginning of a document.
-pub(crate) fn begin(alloc: Global) -> Result<Reading, NoMemory>
-    ensures { IfOk result IsNew }
-{
-    Ok(Reading {
-        alloc,
-        lines: Lines::new(alloc)?,
-        line: 1,
-        version: 0,
-        numbers: Ints::with_room(alloc, MAX_NUMBERS)?,
-    })
-}
+use crn_io::Source;
+use crn_reading::{CheckStop, Reading, next_count, next_network, next_version};
 
 // A whole document.
 pub(crate) fn next_document<S: Source>(

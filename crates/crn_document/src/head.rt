@@ -8,16 +8,13 @@ ghost use Rattle.crn_ctext.specs.Expect.{sizes_of, tag_of};
 ghost use Rattle.crn_ctext.specs.Meaning.{has_vector};
 ghost use Rattle.crn_check.specs.Facts.{HoldsOn, asked};
 ghost use Rattle.crn_check.specs.Check.{IsBuilt};
-ghost use Rattle.crn_document.specs.Inner.Steps.{IsVersion, GoesOn, StepIs};
+ghost use Rattle.crn_reading.specs.Steps.{IsVersion, GoesOn, StepIs};
 ghost use Rattle.crn_document.specs.Inner.Records.{Expects};
 ghost use Rattle.crn_document.specs.Inner.Heads.{FitsCounts, FitsSignals, HasClassSizes, IsHead, head_forms};
 ghost use Rattle.crn_document.specs.Inner.Parts.{IsKnown, before};
 
-use crate::fault::CheckStop;
 use crate::linkage::linkage_of;
 use crate::parts::counts_of;
-use crate::reading::Reading;
-use crate::record::next_record;
 use crate::sizes::head_sizes;
 use crate::strong::{pairs_in, strong_of};
 use crn_cert::Verdict;
@@ -25,6 +22,7 @@ use crn_check::Facts;
 use crn_ctext::{Due, Expect};
 use crn_io::{NoMemory, Source};
 use crn_net::Network;
+use crn_reading::{CheckStop, Reading, next_record};
 use crn_vec::Nums;
 use std::alloc::Global;
 

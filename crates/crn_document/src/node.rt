@@ -3,27 +3,26 @@ ghost use Rattle.crn_io.specs.declared.lines.TheConstants.{MAX_NUMBERS, MAX_SHAR
 ghost use Rattle.crn_ctext.specs.Records.{Record};
 ghost use Rattle.crn_ctext.specs.Blocks.{node_of};
 ghost use Rattle.crn_ctext.specs.Expect.{IsReadAs};
-ghost use Rattle.crn_ctext.specs.Questions.{first_number};
 ghost use Rattle.crn_ctree.specs.Due.{first, rest};
 ghost use Rattle.crn_cert.specs.Nodes.{AreNumbersFor};
 ghost use Rattle.crn_ctree.specs.Gives.{SharedGives, is_cut, said_by};
 ghost use Rattle.crn_ctree.specs.Problem.{problem_of};
 ghost use Rattle.crn_ctree.specs.Shared.{IsPlaceIn, said_by_shared};
-ghost use Rattle.crn_document.specs.Inner.Answer.{AreSmall};
 ghost use Rattle.crn_document.specs.Inner.Met.{AreMet, IsCutOf, IsNodeLineAs, IsDueNodeLine, SaysPlainly};
-ghost use Rattle.crn_document.specs.Inner.Steps.{IsVersion, GoesOn, StepIs};
+ghost use Rattle.crn_reading.specs.Steps.{IsVersion, GoesOn, StepIs};
 ghost use Rattle.crn_document.specs.Inner.Trees.{ExpectsNode, IsNode, IsSaidAs, JudgeGives, Leaves, TakesSome, after_node, asks_node_for, asks_one, count_a as count_a_of, problem_in};
+ghost use Rattle.crn_ctext.specs.Questions.{first_number};
+ghost use Rattle.crn_document.specs.Inner.Answer.{AreSmall};
 
-use crate::fault::CheckStop;
 use crate::met::MetLines;
 use crate::numbers::number_of;
 use crate::quick::read_node;
-use crate::reading::{Reading, next_line};
 use crate::sizes::net_sizes;
 use crn_ctext::{Due, Expect, Word};
 use crn_ctree::{KnownCut, KnownCuts, Node, SharedCut, Step, TreeCheck, TreeFault};
 use crn_io::{NoMemory, Source};
 use crn_net::Network;
+use crn_reading::{CheckStop, Reading, next_line};
 use std::alloc::Global;
 
 /// What is due if a node of a tree is; cuts of part A in it have `count_a` numbers.

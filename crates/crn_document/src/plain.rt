@@ -2,15 +2,13 @@ ghost use Rattle.std.specs.Prelude.{◌≡◌, ◌+◌, [], ◌∷◌, OnOk};
 ghost use Rattle.crn_ctext.specs.Records.{Record};
 ghost use Rattle.crn_ctext.specs.Blocks.{asks};
 ghost use Rattle.crn_ctext.specs.Expect.{AreSizes, sizes_of, tag_of};
-ghost use Rattle.crn_document.specs.Inner.Steps.{IsVersion, GoesOn, StepIs};
+ghost use Rattle.crn_reading.specs.Steps.{IsVersion, GoesOn, StepIs};
 ghost use Rattle.crn_document.specs.Inner.Records.{Expects};
 ghost use Rattle.crn_document.specs.Inner.Plain.{IsPlain, MayBeIn, due_of, plain_form};
 
-use crate::fault::CheckStop;
-use crate::reading::Reading;
-use crate::record::next_record;
 use crn_ctext::{Due, Expect, Sizes};
 use crn_io::Source;
+use crn_reading::{CheckStop, Reading, next_record};
 
 // A record whose form depends on no network. All but the last line are of version 2 alone.
 #[derive(Clone, Copy)]

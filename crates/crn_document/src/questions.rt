@@ -9,20 +9,18 @@ ghost use Rattle.crn_ctext.specs.Blocks.{asks_all, asks_blocks, sections};
 ghost use Rattle.crn_ctext.specs.Meaning.{meaning};
 ghost use Rattle.crn_check.specs.Facts.{asked};
 ghost use Rattle.crn_check.specs.Check.{IsBuilt};
-ghost use Rattle.crn_document.specs.Inner.Steps.{GoesOn, StepIs};
+ghost use Rattle.crn_reading.specs.Steps.{GoesOn, StepIs};
 ghost use Rattle.crn_document.specs.Inner.Records.{Expects};
 ghost use Rattle.crn_document.specs.Inner.Blocks.{IsAfter, IsAt, IsOpened, IsReady, after_by};
 
 use crate::block::{Checked, next_block};
-use crate::fault::CheckStop;
-use crate::reading::Reading;
-use crate::record::next_record;
 use crate::sizes::net_sizes;
 use crn_cert::question_number;
 use crn_ctext::{Due, Expect};
 use crn_ctree::SharedTable;
 use crn_io::Source;
 use crn_net::Network;
+use crn_reading::{CheckStop, Reading, next_record};
 
 // The place of the last question among those that are answered, counted from 1.
 const LAST: u32 = 15;

@@ -1,20 +1,19 @@
 ghost use Rattle.std.specs.Prelude.{◌≡◌, [], false, map, IfOk};
 ghost use Rattle.crn_vec.specs.Network.{IsNetwork};
-ghost use Rattle.crn_document.specs.Inner.Steps.{GoesOn};
+ghost use Rattle.crn_reading.specs.Steps.{GoesOn};
 ghost use Rattle.crn_document.specs.Inner.Blocks.{IsReady};
 ghost use Rattle.crn_document.specs.Inner.Courses.{IsSaidIn, rest_course};
-ghost use Rattle.crn_document.specs.Inner.Ending.{LastIs};
+ghost use Rattle.crn_reading.specs.Ending.{LastIs};
 
 use crate::block::Checked;
 use crate::ending::next_end;
-use crate::fault::CheckStop;
 use crate::questions::next_blocks;
-use crate::reading::Reading;
 use crate::table::next_table;
 use crn_cert::{Rows, Verdicts};
 use crn_check::Facts;
 use crn_io::{NoMemory, Source};
 use crn_net::Network;
+use crn_reading::{CheckStop, Reading};
 use std::alloc::Global;
 
 // No verdicts, with memory for those on this network.

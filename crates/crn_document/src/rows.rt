@@ -6,7 +6,7 @@ ghost use Rattle.crn_ctext.specs.Records.{Record};
 ghost use Rattle.crn_ctext.specs.Blocks.{asks, asks_all};
 ghost use Rattle.crn_ctext.specs.Expect.{sizes_of, tag_of};
 ghost use Rattle.crn_ctext.specs.declared.expect.Due.TheVariants.{Part as DuePart};
-ghost use Rattle.crn_document.specs.Inner.Steps.{IsVersion, GoesOn, StepIs};
+ghost use Rattle.crn_reading.specs.Steps.{IsVersion, GoesOn, StepIs};
 ghost use Rattle.crn_document.specs.Inner.Records.{AreMembers, AreRows, Expects, IsRow, IsRowDue, MayBeRow, fixed_rows, many_rows, pair_rows, part_rows, row_form, rows_below};
 ghost use Rattle.crn_document.specs.Inner.Parts.{IsKnown, before};
 ghost use Rattle.crn_document.specs.declared.rows.Row.TheVariants.{M, Mu, Shelves, Side, Weights};
@@ -14,11 +14,8 @@ ghost use Rattle.crn_cert.specs.Questions.{Q2, on, terminal_of};
 ghost use Rattle.crn_cert.specs.Valid.{strong, exits};
 ghost use Rattle.crn_check.specs.Check.{IsBuilt};
 
-use crate::fault::CheckStop;
 use crate::linkage::fill_members;
 use crate::parts::Part;
-use crate::reading::Reading;
-use crate::record::next_record;
 use crate::sizes::net_sizes;
 use crate::strong::{pairs_in, strong_of};
 use crn_cert::Rows;
@@ -26,6 +23,7 @@ use crn_check::Facts;
 use crn_ctext::{Due, Expect, Word};
 use crn_io::{NoMemory, Source};
 use crn_net::Network;
+use crn_reading::{CheckStop, Reading, next_record};
 use crn_vec::{Ints, Nums};
 use std::alloc::Global;
 

@@ -12,11 +12,9 @@ ghost use Rattle.crn_document.specs.Inner.Blocks.{IsReady};
 ghost use Rattle.crn_document.specs.Inner.Heads.{known_of};
 ghost use Rattle.crn_document.specs.Inner.Parts.{before};
 ghost use Rattle.crn_document.specs.Inner.Signals.{vector_or_none};
-ghost use Rattle.crn_document.specs.Inner.Steps.{GoesOn, StepIs};
+ghost use Rattle.crn_reading.specs.Steps.{GoesOn, StepIs};
 
 use crate::block::Checked;
-use crate::fault::CheckStop;
-use crate::reading::Reading;
 use crate::strong::strong_of;
 use crate::tree::next_tree;
 use crn_cert::Verdict;
@@ -24,6 +22,7 @@ use crn_check::Facts;
 use crn_ctree::{Problem, SharedTable};
 use crn_io::{NoMemory, Source};
 use crn_net::Network;
+use crn_reading::{CheckStop, Reading};
 use crn_shape::Shape;
 use std::alloc::Global;
 

@@ -3,14 +3,13 @@ ghost use Rattle.crn_io.specs.declared.lines.TheConstants.{MAX_SHARED};
 ghost use Rattle.crn_ctext.specs.Kinds.{table_form, vector_form};
 ghost use Rattle.crn_ctext.specs.Questions.{first_number};
 ghost use Rattle.crn_ctext.specs.Blocks.{asks, asks_all, asks_table};
-ghost use Rattle.crn_document.specs.Inner.Steps.{GoesOn, StepIs};
+ghost use Rattle.crn_reading.specs.Steps.{GoesOn, StepIs};
 ghost use Rattle.crn_document.specs.Inner.Table.{AreListed, IsCount, IsTable};
 
-use crate::fault::CheckStop;
 use crate::plain::{Plain, next_plain};
-use crate::reading::Reading;
 use crn_ctree::SharedTable;
 use crn_io::Source;
+use crn_reading::{CheckStop, Reading};
 
 // The one number of a record, which is small.
 fn count_of(numbers: &[i128]) -> u32

@@ -11,18 +11,17 @@ ghost use Rattle.crn_check.specs.Check.{AsksForTree, shown_by_tree, tree_place};
 ghost use Rattle.crn_document.specs.Inner.Blocks.{IsReady};
 ghost use Rattle.crn_document.specs.Inner.Heads.{known_of};
 ghost use Rattle.crn_document.specs.Inner.Parts.{before};
-ghost use Rattle.crn_document.specs.Inner.Steps.{GoesOn, StepIs};
+ghost use Rattle.crn_reading.specs.Steps.{GoesOn, StepIs};
 ghost use Rattle.crn_document.specs.Inner.Trees.{count_a, problem_in};
 
 use crate::block::Checked;
-use crate::fault::CheckStop;
 use crate::met::MetLines;
 use crate::node::{next_node, node_expect};
-use crate::reading::Reading;
 use crate::signal_trees::next_signal_trees;
 use crn_ctree::{InfluenceTable, KnownCuts, Problem, SharedTable, Step, TreeCheck};
 use crn_io::Source;
 use crn_net::Network;
+use crn_reading::{CheckStop, Reading};
 
 // How many numbers a cut of part A of a sign problem has.
 fn count_a(net: &Network, problem: Problem) -> u32

@@ -6,8 +6,8 @@ use Rattle.crn_ctext.specs.Blocks.{ReadOf}
 use Rattle.crn_ctext.specs.Judged.{IsGood, IsReadOf}
 use Rattle.crn_document.specs.Check.{IsAccepted, IsAnswered}
 use Rattle.crn_document.specs.declared.check.Accepted.{Accepted}
-use Rattle.crn_document.specs.declared.fault.CheckStop.{CheckStop}
-use Rattle.crn_document.specs.declared.fault.CheckStop.TheVariants.{NoMemory}
+use Rattle.crn_reading.specs.declared.fault.CheckStop.{CheckStop}
+use Rattle.crn_reading.specs.declared.fault.CheckStop.TheVariants.{NoMemory}
 
 -- a count that stays 0 does not rise
 at_rest : (old new : SourceSeen) → old.faults ≡ 0 → new.faults ≡ 0 → Rose old.faults new.faults → ⊥

@@ -13,9 +13,10 @@ use Rattle.crn_ctext.specs.Judged.{AreFormedOf, IsGood, IsReadOf, ReadDocumentsA
 use Rattle.crn_ctext.specs.Linked.{AreSound, FormedRecordsAreOfAnswers}
 use Rattle.crn_render.specs.Length.{Has32Bits}
 use Rattle.crn_render.specs.Report.{render}
-use Rattle.crn_document.specs.Check.{Accepts, CheckGives, IsTextOf, Rejects}
+use Rattle.crn_document.specs.Check.{Accepts, CheckGives, Rejects}
+use Rattle.crn_reading.specs.Reads.{IsTextOf}
 use Rattle.crn_document.specs.declared.check.Accepted.{Accepted}
-use Rattle.crn_document.specs.declared.fault.CheckStop.TheVariants.{Failed}
+use Rattle.crn_reading.specs.declared.fault.CheckStop.TheVariants.{Failed}
 use Rattle.crn_run.specs.Run.{Devices, IsCheckOf, RunGives, rejected_line, verdicts_in}
 use Rattle.crn_run.specs.Words.{IsCommand}
 use Rattle.crn_run.specs.Inner.Steps.{LineGives}

@@ -24,7 +24,7 @@ use Rattle.crn_document.specs.Inner.Parts.{IsKnown, before, parts_below, up_to}
 use Rattle.crn_document.specs.Inner.Heads.{IsHead, class_count, known_of}
 use Rattle.crn_document.specs.Inner.Records.{many_rows, row_form, rows_below}
 use Rattle.crn_document.specs.declared.block.Checked.{Checked}
-use Rattle.crn_document.specs.declared.reading.Reading.{Reading}
+use Rattle.crn_reading.specs.declared.reading.Reading.{Reading}
 
 -- after these verdicts and these blocks, at this line, which follows a tree or not
 abbrev pub after_by : Net → Earlier → (by_tree : Bool) → (line : ℕ) → List (List Record)

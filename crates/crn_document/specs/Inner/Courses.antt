@@ -1,9 +1,8 @@
 -- For the contracts of private functions alone. The parts of the course of a document, and what is
 -- said of its end.
 -- Source: this project's own format. Shapes: lines of a document count from 1.
-use Rattle.std.specs.Prelude.{◌≡◌, ◌≤◌, ◌+◌, ℕ, true, List, [], ◌∷◌, length}
+use Rattle.std.specs.Prelude.{◌≡◌, ◌+◌, ℕ, List, [], ◌∷◌, length}
 use Rattle.crn_vec.specs.Network.{Net}
-use Rattle.crn_io.specs.declared.lines.TheConstants.{MAX_NUMBERS}
 use Rattle.crn_cert.specs.Built.{built}
 use Rattle.crn_cert.specs.declared.answer.Verdict.{Verdict}
 use Rattle.crn_ctext.specs.Records.{Record}
@@ -12,17 +11,8 @@ use Rattle.crn_ctext.specs.Course.{Course, ◌>>=◌}
 use Rattle.crn_ctext.specs.Blocks.{AfterBlocks, ReadOf, asks, asks_blocks, asks_table, course, lists_of}
 use Rattle.crn_ctext.specs.Meaning.{Known, meaning, verdicts_said, versions}
 use Rattle.crn_document.specs.declared.check.Accepted.{Accepted}
-use Rattle.crn_document.specs.declared.reading.Reading.{Reading}
 use Rattle.crn_document.specs.Inner.Blocks.{after_at}
-use Rattle.crn_document.specs.Inner.Ending.{ends_with}
-
--- nothing was read yet, and there is memory for the numbers of a line
-pub record IsNew (at : Reading) : Type 0 where
-  pub line : at.line ≡ 1
-  pub taken : at.lines.taken ≡ 0
-  pub ahead : at.lines.ahead ≡ []
-  pub goes_on : at.lines.goes_on ≡ true
-  pub room : MAX_NUMBERS ≤ at.numbers.spare + length at.numbers.list
+use Rattle.crn_reading.specs.Ending.{ends_with}
 
 -- what follows the blocks
 abbrev pub last_course : (version : ℕ) → Net → AfterBlocks Known → Course ReadOf

@@ -2,7 +2,7 @@
 -- A record that is due, and the records below a head, by their words.
 -- Source: this project's own format. Shapes: complexes and reactions of a network count from 1 in a
 -- document.
-use Rattle.std.specs.Prelude.{◌≡◌, ◌==◌, ◌&&◌, if◌then◌else◌, ◌-◌, ◌+◌, ◌≤◌, ◌⊎◌, ◌++◌, replicate, ℕ, ℤ, pos, negsuc, List, [], ◌∷◌, length, map, codes, Bool, false}
+use Rattle.std.specs.Prelude.{◌≡◌, ◌==◌, ◌&&◌, if◌then◌else◌, ◌-◌, ◌+◌, ◌≤◌, ◌⊎◌, ◌++◌, replicate, ℕ, ℤ, pos, negsuc, List, [], ◌∷◌, length, map, codes, Bool}
 use Rattle.std.specs.List.{AllZip, flat_map}
 use Rattle.crn_vec.specs.Network.{Net}
 use Rattle.crn_vec.specs.declared.limits.TheConstants.{MAX_COMPLEXES, MAX_REACTIONS}
@@ -10,9 +10,8 @@ use Rattle.crn_pairs.specs.Pairs.{pairs_to}
 use Rattle.crn_ctext.specs.Records.{Record, Form, Fits, Members, Several, Small}
 use Rattle.crn_ctext.specs.Meaning.{lists}
 use Rattle.crn_ctext.specs.Kinds.{just, small, small_form, record_form, free_form}
-use Rattle.crn_ctext.specs.Course.{Course, due, ◌>>=◌}
-use Rattle.crn_ctext.specs.Documents.{IsOneOf}
-use Rattle.crn_ctext.specs.Expect.{IsExpectable, MayBeDue, forms_of, is_after, misplaced, part_field, sizes_of, tag_of, tests_of, text_of}
+use Rattle.crn_ctext.specs.Course.{due}
+use Rattle.crn_ctext.specs.Expect.{IsExpectable, MayBeDue, forms_of, is_after, misplaced, part_field, text_of}
 use Rattle.crn_ctext.specs.declared.expect.Expect.{Expect}
 use Rattle.crn_ctext.specs.declared.expect.Due.{Due}
 use Rattle.crn_ctext.specs.declared.expect.Due.TheVariants.{Part, Base as DueBase, Side as DueSide, Walk as DueWalk}
@@ -23,10 +22,6 @@ use Rattle.crn_document.specs.declared.rows.Row.{Row}
 use Rattle.crn_document.specs.declared.rows.Row.TheVariants.{Label, Up, Depth, From, FromDepth, To, ToDepth, Level, Exit, Back, Base, Dual, Comb, VecOfReactions, VecOfSpecies, CutOfReactions, CutOfSpecies, VecOfComplexes, Side, Walk, Tie, Shelves, Mu, M, Alpha, Weights}
 use Rattle.crn_cert.specs.Faults.{WrongOrder}
 
--- the record that is due at a line
-abbrev pub asks_for : Expect → (line : ℕ) → Course Record
-asks_for e n = due false >>= (λ line. tests_of e n line)
-
 -- these records may be due, none of them a tree's node; `after` says that the line before ended a
 -- tree
 pub record Expects (e : Expect) (version : ℕ) (after : Bool) (forms : List Form) : Type 0 where
@@ -35,12 +30,6 @@ pub record Expects (e : Expect) (version : ℕ) (after : Bool) (forms : List For
   pub by_tree : is_after e.due e.after_tree ≡ after
   pub has : forms_of e ≡ forms
   pub misplaced : misplaced e.due ≡ WrongOrder
-
--- the record is one that was due, and these are its numbers, those of a head after the place of its
--- form
-pub record IsSaid (e : Expect) (read : List ℤ) (r : Record) : Type 0 where
-  pub form : IsOneOf (forms_of e) r
-  pub numbers : read ≡ tag_of e.due (sizes_of e.sizes) r ++ r.numbers
 
 -- the form of a record below a head of this many classes, if complexes have these labels
 abbrev pub row_form : Net → List ℕ → ℕ → Row → Form

@@ -5,7 +5,7 @@ use Rattle.crn_io.specs.declared.lines.TheConstants.{MAX_SHARED}
 use Rattle.crn_ctext.specs.Records.{Record}
 use Rattle.crn_ctext.specs.Blocks.{lists_of}
 use Rattle.crn_ctext.specs.Meaning.{lists}
-use Rattle.crn_document.specs.declared.reading.Reading.{Reading}
+use Rattle.crn_reading.specs.declared.reading.Reading.{Reading}
 
 -- one number of shared lists
 abbrev pub IsCount : List ℤ → Type 0

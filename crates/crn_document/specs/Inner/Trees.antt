@@ -24,7 +24,7 @@ use Rattle.crn_ctree.specs.declared.problem.Problem.TheVariants.{Concordance, Si
 use Rattle.crn_ctree.specs.declared.node.Step.{Step}
 use Rattle.crn_ctree.specs.declared.node.Step.TheVariants.{More, Complete}
 use Rattle.crn_ctree.specs.declared.fault.TreeFault.{TreeFault}
-use Rattle.crn_document.specs.Inner.Records.{IsSaid}
+use Rattle.crn_reading.specs.Records.{IsSaid}
 use Rattle.crn_cert.specs.Faults.{NodeNotAllowed}
 
 -- ---- the line of a node

@@ -3,12 +3,12 @@ use Rattle.std.proofs.lemmas.Result.{err_from_is_err_and}
 use Rattle.crn_check.specs.Facts.{asked}
 use Rattle.crn_check.proofs.CallerLemmas.{answer_treeless}
 use Rattle.crn_document.specs.declared.parts.Part.{Part}
-use Rattle.crn_document.specs.declared.fault.CheckStop.TheVariants as stop
+use Rattle.crn_reading.specs.declared.fault.CheckStop.TheVariants as stop
 use Rattle.crn_document.specs.Inner.Answers.{FitAnswer}
 use Rattle.crn_document.specs.Inner.Blocks.{tests_course}
 use Rattle.crn_document.specs.Inner.Parts.{before}
 use Rattle.crn_document.proofs.Heads.{said_facts}
-use Rattle.crn_document.proofs.Steps.{step_exits, stops_here, tests_give, tests_fail}
+use Rattle.crn_reading.proofs.CallerLemmas.{step_exits, stops_here, tests_give, tests_fail}
 use Rattle.crn_document.proofs.Blocks.{answer_formed, answer_heads, answer_part, answer_tight, block_fails, block_learns, block_fits, said_answer, shown_first, so_far_next}
 use Rattle.crn_document.proofs.Kept.{sides_after, sides_shown, vector_after}
 use Rattle.std.proofs.Common.{◌≡◌, ◌++◌, ◌∷◌, [], ap, Result, OnOk}

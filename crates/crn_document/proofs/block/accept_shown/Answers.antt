@@ -5,7 +5,7 @@ use Rattle.crn_document.proofs.Kept.{sides_after_trees}
 use Rattle.crn_document.specs.Inner.Parts.{before}
 use Rattle.crn_document.proofs.Blocks.{so_far_next}
 use Rattle.crn_document.proofs.Places.{none_later}
-use Rattle.crn_document.proofs.Steps.{step_exits}
+use Rattle.crn_reading.proofs.CallerLemmas.{step_exits}
 use Rattle.crn_document.proofs.block.accept_shown.Goals as goal
 
 pub accept_tree-requires-clause-later : goal.accept_tree-requires-clause-later

@@ -12,10 +12,10 @@ use Rattle.crn_check.specs.Facts.{asked}
 use Rattle.crn_document.specs.Inner.Answer.{AreSmall, IsHeadOf}
 use Rattle.crn_document.specs.Inner.Heads.{IsHead}
 use Rattle.crn_document.specs.Inner.Blocks.{IsAfter, after_at, head_course, rows_course}
-use Rattle.crn_document.specs.Inner.Steps.{StepIs}
+use Rattle.crn_reading.specs.Steps.{StepIs}
 use Rattle.crn_document.proofs.Heads.{said_facts}
 use Rattle.crn_document.proofs.Places.{needs_at}
-use Rattle.crn_document.proofs.Steps.{step_then_is, tests_give, tests_fail}
+use Rattle.crn_reading.proofs.CallerLemmas.{step_then_is, tests_give, tests_fail}
 use Rattle.crn_document.proofs.Blocks.{claims_fail, claims_hold, head_course_by, said_verdict}
 use Rattle.crn_document.proofs.block.after_head.Goals as goal
 

@@ -4,8 +4,8 @@ use Rattle.crn_ctext.specs.Blocks.{asks}
 use Rattle.crn_check.specs.Facts.{asked}
 use Rattle.crn_document.specs.Inner.Heads.{head_forms}
 use Rattle.crn_document.specs.Inner.Blocks.{IsAfter, after_at, head_course}
-use Rattle.crn_document.specs.Inner.Steps.{StepIs}
-use Rattle.crn_document.proofs.Steps.{step_exits, step_then_is, stop_first}
+use Rattle.crn_reading.specs.Steps.{StepIs}
+use Rattle.crn_reading.proofs.CallerLemmas.{step_exits, step_then_is, stop_first}
 use Rattle.crn_document.proofs.block.next_block.Goals as goal
 
 pub after_head-requires-clause-head : goal.after_head-requires-clause-head

@@ -13,14 +13,14 @@ use Rattle.crn_document.proofs.Linkages.{terminal_few}
 use Rattle.crn_vec.specs.declared.limits.TheConstants.{MAX_COMPLEXES}
 use Rattle.crn_check.specs.Facts.{asked}
 use Rattle.crn_document.specs.declared.rows.Row.{Row}
-use Rattle.crn_document.specs.declared.fault.CheckStop.TheVariants as stop
+use Rattle.crn_reading.specs.declared.fault.CheckStop.TheVariants as stop
 use Rattle.crn_document.specs.Inner.Blocks.{IsAfter, after_at, end_course, forms_below, parts_after}
 use Rattle.crn_document.specs.Inner.Parts.{parts_below}
 use Rattle.crn_document.specs.Inner.Records.{MayBeRow, row_form}
-use Rattle.crn_document.specs.Inner.Steps.{StepIs, StopIs}
+use Rattle.crn_reading.specs.Steps.{StepIs, StopIs}
 use Rattle.crn_document.proofs.Heads.{said_facts}
 use Rattle.crn_document.proofs.Ranks.{AreRanks}
-use Rattle.crn_document.proofs.Steps.{step_exits, step_then_is, stop_first, stops_here}
+use Rattle.crn_reading.proofs.CallerLemmas.{step_exits, step_then_is, stop_first, stops_here}
 use Rattle.crn_document.proofs.Blocks.{forms_are, rows_block, rows_counted, rows_course_by, rows_may}
 use Rattle.crn_document.proofs.block.read_rows.Goals as goal
 

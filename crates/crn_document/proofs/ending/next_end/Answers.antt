@@ -2,9 +2,8 @@ use Rattle.std.proofs.Common.{◌∷◌, []}
 use Rattle.std.proofs.lemmas.Result.{err_from_is_err_and}
 use Rattle.crn_ctext.specs.Kinds.{end_form}
 use Rattle.crn_ctext.specs.Blocks.{asks}
-use Rattle.crn_document.specs.Inner.Ending.{ends_with}
-use Rattle.crn_document.proofs.Steps.{stop_first}
-use Rattle.crn_document.proofs.Endings.{end_exits, step_then_ends}
+use Rattle.crn_reading.specs.Ending.{ends_with}
+use Rattle.crn_reading.proofs.CallerLemmas.{stop_first, end_exits, step_then_ends, read_to_the_end}
 use Rattle.crn_document.proofs.ending.next_end.Goals as goal
 
 pub returns-in_err-next_plain : goal.returns-in_err-next_plain
@@ -18,5 +17,5 @@ pub returns : goal.returns
 returns g c = record {
   step = λ read.
       let s = c.in_ok-next_plain.ensures.step in
-      step_then_ends (asks c.args.at.now.version c.args.at.now.line c.args.after_tree (end_form ∷ [])) (λ last. ends_with read) s.0 read c.no_more.result c.args.at.now c.next_plain.new.at _ _ _ s.2 s.3 (let e = c.no_more.ensures.step in e read);
+      step_then_ends (asks c.args.at.now.version c.args.at.now.line c.args.after_tree (end_form ∷ [])) (λ last. ends_with read) s.0 read c.no_more.result c.args.at.now c.next_plain.new.at _ _ _ s.2 s.3 (read_to_the_end read c.no_more.result c.next_plain.new.at _ _ c.no_more.ensures);
 }

@@ -4,10 +4,10 @@ use Rattle.std.specs.List.{AllByRecursion}
 use Rattle.crn_vec.specs.declared.limits.TheConstants.{MAX_COMPLEXES, MAX_REACTIONS}
 use Rattle.crn_ctext.specs.Records.{Record, Form}
 use Rattle.crn_ctext.specs.Documents.{IsOneOf}
-use Rattle.crn_document.specs.Inner.Records.{asks_for, IsSaid}
+use Rattle.crn_reading.specs.Records.{asks_for, IsSaid}
 use Rattle.crn_document.specs.Inner.Heads.{FitsCounts, IsHead, head_forms}
-use Rattle.crn_document.specs.Inner.Steps.{StepIs}
-use Rattle.crn_document.proofs.Steps.{step_says}
+use Rattle.crn_reading.specs.Steps.{StepIs}
+use Rattle.crn_reading.proofs.CallerLemmas.{step_says}
 use Rattle.crn_document.proofs.Records.{as_expected}
 use Rattle.crn_document.proofs.head.next_head.Goals as goal
 

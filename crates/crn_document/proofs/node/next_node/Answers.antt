@@ -15,7 +15,7 @@ use Rattle.crn_document.specs.declared.node.NodeLine.{NodeLine}
 use Rattle.crn_document.specs.Inner.Met.{IsNodeLineAs, IsDueNodeLine}
 use Rattle.crn_document.specs.Inner.Trees.{ExpectsNode, count_a, node_test, problem_in}
 use Rattle.crn_document.proofs.MetLines.{due_node_line}
-use Rattle.crn_document.proofs.Steps.{step_exits}
+use Rattle.crn_reading.proofs.CallerLemmas.{step_exits}
 use Rattle.crn_document.proofs.NodeRecords.{passes, refused, node_read, node_fails, node_stops}
 use Rattle.crn_document.proofs.node.next_node.Goals as goal
 

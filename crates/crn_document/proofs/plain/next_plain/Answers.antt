@@ -1,8 +1,8 @@
 use Rattle.std.proofs.Common.{◌∷◌, []}
-use Rattle.crn_document.specs.Inner.Records.{asks_for, IsSaid}
+use Rattle.crn_reading.specs.Records.{asks_for, IsSaid}
 use Rattle.crn_document.specs.Inner.Plain.{IsPlain, plain_form}
-use Rattle.crn_document.specs.Inner.Steps.{StepIs}
-use Rattle.crn_document.proofs.Steps.{step_says}
+use Rattle.crn_reading.specs.Steps.{StepIs}
+use Rattle.crn_reading.proofs.CallerLemmas.{step_says}
 use Rattle.crn_document.proofs.Records.{as_expected, row_said}
 use Rattle.crn_document.proofs.plain.next_plain.Goals as goal
 

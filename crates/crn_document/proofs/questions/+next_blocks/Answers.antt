@@ -8,8 +8,8 @@ use Rattle.crn_ctext.specs.Meaning.{Known, meaning}
 use Rattle.crn_ctext.specs.Steps.{StepGives}
 use Rattle.crn_check.specs.Facts.{asked}
 use Rattle.crn_document.specs.Inner.Blocks.{IsAfter, IsReady, after_by}
-use Rattle.crn_document.specs.Inner.Steps.{StepIs, StopIs}
-use Rattle.crn_document.proofs.Steps.{step_exits, step_then_is, stop_after, stop_first}
+use Rattle.crn_reading.specs.Steps.{StepIs, StopIs}
+use Rattle.crn_reading.proofs.CallerLemmas.{step_exits, step_then_is, stop_after, stop_first}
 use Rattle.crn_document.proofs.Places.{all_taken, none_left}
 use Rattle.crn_document.proofs.Sections.{after_is, blocks_by, no_blocks, question_course}
 use Rattle.crn_document.proofs.questions.+next_blocks.Goals as goal

@@ -9,9 +9,9 @@ use Rattle.crn_ctext.specs.Meaning.{meaning}
 use Rattle.crn_ctext.specs.Steps.{StepGives}
 use Rattle.crn_document.specs.Inner.Blocks.{after_at, after_by}
 use Rattle.crn_document.specs.Inner.Courses.{last_course}
-use Rattle.crn_document.specs.Inner.Steps.{StopIs}
-use Rattle.crn_document.proofs.Bodies.{after_table, blocks_begin, last_exits, parts_end}
-use Rattle.crn_document.proofs.Steps.{stop_after, stop_first}
+use Rattle.crn_reading.specs.Steps.{StopIs}
+use Rattle.crn_document.proofs.Bodies.{after_table, blocks_begin, parts_end}
+use Rattle.crn_reading.proofs.CallerLemmas.{last_exits, stop_after, stop_first}
 use Rattle.crn_document.proofs.rest.next_parts.Goals as goal
 
 pub returns-in_err-table : goal.returns-in_err-table

@@ -4,8 +4,8 @@ use Rattle.std.proofs.lemmas.Result.{err_from_is_err_and}
 use Rattle.crn_ctext.specs.Blocks.{asks}
 use Rattle.crn_document.specs.declared.rows.Row.{Row}
 use Rattle.crn_document.specs.Inner.Records.{row_form}
-use Rattle.crn_document.specs.Inner.Steps.{StopIs}
-use Rattle.crn_document.proofs.Steps.{step_exits, stop_first}
+use Rattle.crn_reading.specs.Steps.{StopIs}
+use Rattle.crn_reading.proofs.CallerLemmas.{step_exits, stop_first}
 use Rattle.crn_document.proofs.Records.{first_row, rows_after, rows_then, no_rows}
 use Rattle.crn_document.proofs.rows.+next_rows.Goals as goal
 

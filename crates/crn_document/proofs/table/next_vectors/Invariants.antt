@@ -3,9 +3,9 @@ use Rattle.std.specs.Prelude.{ℤ}
 use Rattle.crn_io.specs.Device.{SourceSeen}
 use Rattle.crn_ctext.specs.Kinds.{vector_form}
 use Rattle.crn_ctext.specs.Blocks.{asks_all}
-use Rattle.crn_document.specs.declared.reading.Reading.{Reading}
-use Rattle.crn_document.specs.declared.fault.CheckStop.{CheckStop}
-use Rattle.crn_document.specs.Inner.Steps.{GoesOn, StepIs}
+use Rattle.crn_reading.specs.declared.reading.Reading.{Reading}
+use Rattle.crn_reading.specs.declared.fault.CheckStop.{CheckStop}
+use Rattle.crn_reading.specs.Steps.{GoesOn, StepIs}
 use Rattle.crn_document.specs.Inner.Table.{AreListed}
 use Rattle.crn_document.proofs.table.next_vectors.Given as goal
 

@@ -13,15 +13,14 @@ use Rattle.crn_document.specs.declared.met.MetLine.{MetLine}
 use Rattle.crn_document.specs.Inner.Met.{AreMet}
 use Rattle.crn_ctree.specs.declared.node.Step.{Step}
 use Rattle.crn_ctree.specs.declared.problem.Problem.{Problem}
-use Rattle.crn_document.specs.declared.fault.CheckStop.TheVariants as stop
-use Rattle.crn_document.specs.Inner.Steps.{StepIs, StopIs}
-use Rattle.crn_document.specs.Inner.Trees.{ExpectsNode, Leaves, asks_due, asks_one, count_a, problem_in}
-use Rattle.crn_document.proofs.Steps.{step_exits, stops_here}
+use Rattle.crn_reading.specs.declared.fault.CheckStop.TheVariants as stop
+use Rattle.crn_reading.specs.Steps.{StepIs, StopIs}
+use Rattle.crn_document.specs.Inner.Trees.{ExpectsNode, Leaves, asks_due, asks_one, count_a, problem_in, TakesSome}
+use Rattle.crn_reading.proofs.CallerLemmas.{step_exits, stops_here}
 use Rattle.crn_vec.specs.Problems.{Signed}
 use Rattle.crn_cert.specs.Nodes.{Said, Passing}
 use Rattle.crn_ctree.specs.Problem.{problem_of}
 use Rattle.crn_ctree.proofs.CallerLemmas.{complete_trees_show, passing_none, passing_taken}
-use Rattle.crn_document.specs.Inner.Trees.{TakesSome}
 use Rattle.crn_document.proofs.DueTrees.{due_then, due_stops, none_due, root_tree}
 use Rattle.crn_document.proofs.CoursesFollowed.{step_follows}
 use Rattle.crn_document.proofs.tree.next_tree.Goals as goal

@@ -5,9 +5,9 @@ use Rattle.crn_ctree.specs.Problem.{problem_of}
 use Rattle.crn_io.specs.Device.{SourceSeen}
 use Rattle.crn_io.specs.declared.lines.TheConstants.{MAX_DOCUMENT}
 use Rattle.crn_ctext.specs.Blocks.{asks_tree}
-use Rattle.crn_document.specs.declared.reading.Reading.{Reading}
-use Rattle.crn_document.specs.declared.fault.CheckStop.{CheckStop}
-use Rattle.crn_document.specs.Inner.Steps.{GoesOn, StepIs}
+use Rattle.crn_reading.specs.declared.reading.Reading.{Reading}
+use Rattle.crn_reading.specs.declared.fault.CheckStop.{CheckStop}
+use Rattle.crn_reading.specs.Steps.{GoesOn, StepIs}
 use Rattle.crn_document.specs.Inner.Trees.{ExpectsNode, asks_due, choices_in, count_a, problem_in}
 use Rattle.crn_document.specs.Inner.Met.{AreMet}
 use Rattle.crn_document.proofs.tree.next_tree.Given as goal

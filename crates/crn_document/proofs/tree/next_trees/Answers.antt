@@ -8,7 +8,7 @@ use Rattle.crn_check.specs.Check.{shown_by_tree, tree_place}
 use Rattle.crn_document.specs.Inner.Blocks.{IsReady}
 use Rattle.crn_document.specs.Inner.Heads.{known_of}
 use Rattle.crn_document.specs.Inner.Parts.{before}
-use Rattle.crn_document.specs.Inner.Steps.{StepIs}
+use Rattle.crn_reading.specs.Steps.{StepIs}
 use Rattle.crn_document.specs.Inner.Trees.{problem_in}
 use Rattle.crn_ctext.specs.Blocks.{asks_trees}
 use Rattle.crn_document.proofs.TreesBelow.{other_question, trees_one}

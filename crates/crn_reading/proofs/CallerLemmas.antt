@@ -1,0 +1,13 @@
+-- What other crates may cite of this crate's proofs.
+
+-- A step of a reading, what follows it, and what stops it.
+pub use Rattle.crn_reading.proofs.Steps.{step_gives, step_then_is, step_map, step_says, step_exits, stop_first, stop_after, stops_here, memory_stops}
+-- Tests, which take nothing off the source.
+pub use Rattle.crn_reading.proofs.Steps.{tests_give, tests_fail}
+-- A record that was read is one of those that were due.
+pub use Rattle.crn_reading.proofs.Records.{reads_one}
+-- Steps up to the end.
+pub use Rattle.crn_reading.proofs.Endings.{step_then_ends, end_exits, read_to_the_end}
+pub use Rattle.crn_reading.proofs.LastSteps.{last_all, last_exits, last_is, last_then}
+-- What steps through a whole document say of its text.
+pub use Rattle.crn_reading.proofs.Texts.{text_awaits, text_fails, text_gives, text_stops}

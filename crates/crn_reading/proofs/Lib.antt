@@ -1,0 +1,11 @@
+pub mod CallerLemmas
+mod Steps
+mod FoundLines
+mod Titles
+mod CanonicalTexts
+mod LongLines
+mod NetworkLines
+mod Records
+mod Texts
+mod Endings
+mod LastSteps

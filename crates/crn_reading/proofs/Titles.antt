@@ -1,0 +1,22 @@
+-- The first lines of the two versions, byte by byte.
+use Rattle.std.proofs.Common.{◌≡◌, ◌++◌, ◌∙◌, inl, inr, ap, ℕ, List, codes, false, IsTrue, arith}
+use Rattle.std.proofs.lemmas.Bool.{false≢true}
+use Rattle.std.proofs.lemmas.Fmt.{decimal_digit}
+use Rattle.crn_ctext.specs.Blocks.{title}
+use Rattle.crn_reading.specs.Opening.{IsTitleOf}
+
+-- the first line of version 1
+pub title_one : title 1 ≡ codes "crn certificate 1"
+title_one = ap (λ (ds : List ℕ). codes "crn certificate " ++ ds) (decimal_digit 1 (omega arith))
+
+-- the first line of version 2
+pub title_two : title 2 ≡ codes "crn certificate 2"
+title_two = ap (λ (ds : List ℕ). codes "crn certificate " ++ ds) (decimal_digit 2 (omega arith))
+
+-- a line that is neither is the first line of no version
+pub no_title : (line : List ℕ) → (line ≡ codes "crn certificate 1" → IsTrue false)
+    → (line ≡ codes "crn certificate 2" → IsTrue false)
+    → (version : ℕ) → IsTitleOf line version → ⊥
+no_title line one two version (inl e, same) = false≢true (one (same ∙ ap title e ∙ title_one))
+no_title line one two version (inr (inl e), same) = false≢true (two (same ∙ ap title e ∙ title_two))
+no_title line one two version (inr (inr never), same) = elim never [ ]

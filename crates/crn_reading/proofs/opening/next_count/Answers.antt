@@ -1,0 +1,24 @@
+use Rattle.std.proofs.Common.{refl, false, ◌≡◌, ℕ, List, ◌∙◌, sym, subst}
+use Rattle.std.proofs.lemmas.Result.{err_from_is_err_and}
+use Rattle.crn_ctext.specs.Course.{due, find}
+use Rattle.crn_reading.specs.Opening.{SaysCount}
+use Rattle.crn_reading.proofs.Steps.{stop_first, step_exits}
+use Rattle.crn_reading.proofs.FoundLines.{lines_found, lines_refused}
+use Rattle.crn_reading.proofs.opening.next_count.Goals as goal
+use Rattle.crn_cert.specs.Faults.{BadNetwork}
+
+pub returns-in_err-next_line-clause-step : goal.returns-in_err-next_line-clause-step
+returns-in_err-next_line-clause-step g c =
+    step_exits _ _ c.from_residual.result _ _ _ _ _ (err_from_is_err_and c.from_residual.result c.from_residual.ensures.1) (stop_first (due false) (λ (line : List ℕ). find 2 BadNetwork ℕ (SaysCount line)) _ _ _ _ c.in_err-next_line.ensures.step)
+
+pub returns-in-Some-clause-step : goal.returns-in-Some-clause-step
+returns-in-Some-clause-step g c =
+    let s = c.in_ok-next_line.ensures.step in
+    let count : SaysCount s.0 c.in-Some.count = subst (λ (l : List ℕ). SaysCount l c.in-Some.count) (c.line.ensures ∙ sym s.1) c.in-Some.ensures in
+    lines_found (due false) 2 BadNetwork SaysCount s.0 c.in-Some.count c.in-Some.count (λ (t : ℕ) v. v ≡ t) c.args.at.now c.next_line.new.at _ _ s.2 s.3 count refl
+
+pub returns-in-None-clause-step : goal.returns-in-None-clause-step
+returns-in-None-clause-step g c =
+    let s = c.in_ok-next_line.ensures.step in
+    lines_refused (due false) 2 BadNetwork SaysCount s.0 c.args.at.now c.next_line.new.at _ _ s.2 s.3 c.in_ok-next_line.ensures.reads
+    (λ (v : ℕ) t. let none = c.in-None.ensures in none v (subst (λ (l : List ℕ). SaysCount l v) (s.1 ∙ sym c.line.ensures) t))

@@ -1,0 +1,18 @@
+-- A record that is due, and what is said of it once it was read.
+-- Source: this project's own format. Shapes: lines of a document count from 1.
+use Rattle.std.specs.Prelude.{◌≡◌, ◌++◌, ℕ, ℤ, List, false}
+use Rattle.crn_ctext.specs.Records.{Record}
+use Rattle.crn_ctext.specs.Course.{Course, due, ◌>>=◌}
+use Rattle.crn_ctext.specs.Documents.{IsOneOf}
+use Rattle.crn_ctext.specs.Expect.{forms_of, sizes_of, tag_of, tests_of}
+use Rattle.crn_ctext.specs.declared.expect.Expect.{Expect}
+
+-- the record that is due at a line
+abbrev pub asks_for : Expect → (line : ℕ) → Course Record
+asks_for e n = due false >>= (λ line. tests_of e n line)
+
+-- the record is one that was due, and these are its numbers, those of a head after the place of its
+-- form
+pub record IsSaid (e : Expect) (read : List ℤ) (r : Record) : Type 0 where
+  pub form : IsOneOf (forms_of e) r
+  pub numbers : read ≡ tag_of e.due (sizes_of e.sizes) r ++ r.numbers

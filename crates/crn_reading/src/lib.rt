@@ -1,0 +1,15 @@
+//! Reads a document line by line: its title, its network, its records, and its end.
+#![tactic(auto)]
+
+mod ending;
+mod fault;
+mod network;
+mod opening;
+mod reading;
+mod record;
+
+pub use ending::no_more;
+pub use fault::CheckStop;
+pub use opening::{next_count, next_network, next_version};
+pub use reading::{Reading, begin, next_line};
+pub use record::next_record;
