@@ -87,9 +87,9 @@ class Browser:
             raise RuntimeError(json.dumps(answer["exceptionDetails"])[:2000])
         return answer["result"].get("value")
 
-    def press(self, key, shift=False):
-        said = {"key": key, "windowsVirtualKeyCode": KEYS.get(key, 0), "modifiers": 8 if shift else 0}
-        text = {"Enter": "\r", " ": " "}.get(key, key if len(key) == 1 else "")
+    def press(self, key, control=False):
+        said = {"key": key, "windowsVirtualKeyCode": KEYS.get(key, ord(key.upper()) if len(key) == 1 else 0), "modifiers": 2 if control else 0}
+        text = "" if control else {"Enter": "\r", " ": " "}.get(key, key if len(key) == 1 else "")
         self.call("Input.dispatchKeyEvent", type="keyDown" if text else "rawKeyDown", text=text, **said)
         self.call("Input.dispatchKeyEvent", type="keyUp", **said)
 
