@@ -13,8 +13,8 @@ use Rattle.crn_vec.specs.Linkage.{IsLabelCount}
 use Rattle.crn_vec.specs.Rank.{IsIndependent, IsRank}
 use Rattle.crn_vec.specs.Deficiency.{vectors, class_members, class_reactions, class_vectors, AreAtMostOne, IsClassDeficiency, IsLabelled}
 use Rattle.crn_vec.proofs.CallerLemmas.{all_from, all_in, deficiency_is_one, filter_distinct, filter_from, filter_has, in_range, inside_at, length-minus, vector_long}
-use Rattle.crn_space.proofs.CallerLemmas.{class_deficiencies_sum_to_at_most, few_together, number_of_classes, one_label, range_distinct, rank_leaves, taken, taken_in, taken_vectors}
-use Rattle.crn_laws.specs.Implied.{NetworksHaveDeficiencies, DeficiencyZeroGivesDeficiencyOne}
+use Rattle.crn_space.proofs.CallerLemmas.{IsPart, class_deficiencies_sum_to_at_most, counted, counted_all, few_together, number_of_classes, one_label, part_few, part_filter, part_filters, part_independent, part_map, part_places, range_distinct, rank_leaves, taken, taken_in, taken_vectors}
+use Rattle.crn_laws.specs.Implied.{ClassRanksSumToAtLeast, NetworksHaveDeficiencies, DeficiencyZeroGivesDeficiencyOne}
 use Rattle.crn_laws.proofs.FirstNumbers.{place_in}
 use Rattle.crn_laws.proofs.Labelled.{labelled}
 use Rattle.crn_laws.proofs.Ranked.{ranked}
@@ -129,6 +129,45 @@ networks_have_deficiencies net n =
         each = λ k lt. subst (λ (j : ℕ). IsClassDeficiency net l.labels j (get_or r.ds k 0)) (let e : 0 + k + 1 ≡ k + 1 = omega arith in e) (r.each k lt);
       },
     )
+
+-- ---- the ranks of the classes
+
+abbrev label_of : List ℕ → ℕ × ℕ → ℕ
+label_of labels r = get_or labels r.0 0
+
+-- independent reactions of a linkage class are at most its rank
+class_holds : (net : Net) (labels : List ℕ) (k s : ℕ) (rs : List (ℕ × ℕ)) → IsRank (class_vectors net labels k) s → IsPart rs net.reactions → IsIndependent (map (reaction_vector net) rs)
+    → length (filter (λ r. label_of labels r == k) rs) ≤ s
+class_holds net labels k s rs r part free =
+    let vector = reaction_vector net in
+    let p : ℕ × ℕ → Bool = λ q. label_of labels q == k in
+    let mine = filter p rs in
+    let whole = class_reactions net labels k in
+    let within : IsPart (map vector mine) (map vector whole) = part_map vector mine whole (part_filters p rs net.reactions part) in
+    let alone : IsIndependent (map vector mine) = part_independent (map vector mine) (map vector rs) (part_map vector mine rs (part_filter p rs)) free in
+    omega (arith, part_few (map vector mine) (map vector whole) s r within alone, length-map mine vector)
+
+ranks_hold : (net : Net) (labels : List ℕ) (rs : List (ℕ × ℕ)) (k : ℕ) (ss : List ℕ) → ((j : ℕ) → j < length ss → IsRank (class_vectors net labels (j + k)) (get_or ss j 0)) → IsPart rs net.reactions → IsIndependent (map (reaction_vector net) rs)
+    → counted (label_of labels) rs k (length ss) ≤ sum ss
+ranks_hold net labels rs k [] each part free = omega arith
+ranks_hold net labels rs k (s ∷ ss) each part free =
+    let first : IsRank (class_vectors net labels k) s = subst (λ (l : ℕ). IsRank (class_vectors net labels l) s) (let e : 0 + k ≡ k = omega arith in e) (each 0 (omega arith)) in
+    let here = class_holds net labels k s rs first part free in
+    let more = ranks_hold net labels rs (suc k) ss (λ j lt. subst (λ (l : ℕ). IsRank (class_vectors net labels l) (get_or ss j 0)) (let e : suc j + k ≡ j + suc k = omega arith in e) (each (suc j) (omega (arith, lt)))) part free in
+    omega (arith, here, more, sum_by-cons (λ (x : ℕ). x) s ss)
+
+pub class_ranks_sum_to_at_least : ClassRanksSumToAtLeast
+class_ranks_sum_to_at_least net labels ranks s n l count r each =
+    let below : (k : ℕ) → IsIn k r.places → k < length net.reactions = λ k i. omega (arith, r.choice.below k i, length-map net.reactions (reaction_vector net)) in
+    let rs = taken r.places net.reactions in
+    let part : IsPart rs net.reactions = part_places (0, 0) net.reactions r.places r.choice.ascending below in
+    let free : IsIndependent (map (reaction_vector net) rs) = subst IsIndependent (sym (taken_vectors net net.reactions r.places below)) r.independent in
+    let few = ranks_hold net labels rs 1 ranks each part free in
+    let all : counted (label_of labels) rs 1 (length ranks) ≡ length rs = counted_all (label_of labels) rs 1 (length ranks) (λ q i.
+    let j = all_in (JoinsTwo (length net.complexes)) net.reactions q n.partial.apart (taken_in net.reactions r.places below q i) in
+    let at : q.0 < length labels = omega (arith, j.1, l.long) in
+    (l.right.positive q.0 at, omega (arith, count.most q.0 at))) in
+    omega (arith, few, all, length-map r.places (λ k. get_or net.reactions k (0, 0)), r.count)
 
 -- ---- the hypotheses
 

@@ -1,4 +1,5 @@
 ghost use Rattle.crn_laws.specs.Implied.{
+  ClassRanksSumToAtLeast,
   DeficiencyZeroGivesDeficiencyOne,
   NetworksHaveDeficiencies,
   WeaklyReversibleAreDependent,
@@ -38,6 +39,11 @@ pub fn weakly_reversible_networks_are_regular_by_cut_pairs()
 /// Each network has a deficiency, and one for each of its linkage classes.
 pub fn networks_have_deficiencies()
     ensures { NetworksHaveDeficiencies }
+{}
+
+/// The ranks of the linkage classes sum to at least that of the network.
+pub fn class_ranks_sum_to_at_least_the_rank()
+    ensures { ClassRanksSumToAtLeast }
 {}
 
 /// If the hypotheses of the Deficiency Zero Theorem hold, and each linkage class has one terminal strong class, as in a

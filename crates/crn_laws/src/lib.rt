@@ -4,6 +4,7 @@
 mod laws;
 
 pub use laws::{
+    class_ranks_sum_to_at_least_the_rank,
     deficiency_zero_and_one_terminal_class_each_give_deficiency_one, networks_have_deficiencies,
     renumbered_networks_share_concordance, renumbered_networks_share_dependence_and_conservation,
     renumbered_networks_share_hypotheses, renumbered_networks_share_rank_and_deficiencies,
