@@ -7,7 +7,6 @@ use Rattle.crn_vec.specs.declared.signs.Sign.{Sign}
 use Rattle.crn_cert.specs.Questions.{Question, Q1, Q2, Q3, Q4, Q5, Q6, Q7, Q8, Q9, Q10, Q11, Q12, Q13, Q14, Q15, on}
 use Rattle.crn_cert.specs.Valid.{pair_places}
 use Rattle.crn_cert.specs.Trees.{Plan, IsFormedTree}
-use Rattle.crn_cert.specs.declared.answer.Verdict.{Verdict}
 use Rattle.crn_cert.specs.declared.answer.Proof.{Proof}
 use Rattle.crn_cert.specs.declared.answer.Proof.TheVariants as proof
 use Rattle.crn_cert.specs.declared.answer.Verdict.TheVariants as verdict
@@ -20,17 +19,16 @@ use Rattle.crn_ctext.specs.Blocks.{Problem, problems}
 use Rattle.crn_ctext.specs.Answers.{nodes, proof_nodes, records}
 use Rattle.crn_ctext.specs.Documents as documents
 use Rattle.crn_ctext.specs.Documents.{IsOneOf, IsTree, AreTrees, Parts, leaf_forms}
-use Rattle.crn_ctext.specs.Meaning.{Known, pairs_of, is_yes, shapes_of, meaning, signal_problems}
+use Rattle.crn_ctext.specs.Meaning.{Known, pairs_of, is_yes, meaning, signal_problems}
 use Rattle.crn_cert.specs.declared.head_kind.HeadKind.{HeadKind}
 use Rattle.crn_cert.specs.declared.head_kind.HeadKind.TheVariants.{Classes, Strong, Rank, Deficiency, Yes, YesWeak, YesVec, YesSignal, No, NoReaction, NoVec, NoNumber, NoTerminal, NoClass, NoSum, NoDependence, NoCycle, NoPair, NotRegular, OnlyZero, Plane, NotApplicable, Wide, Budget, Rests}
 use Rattle.crn_cert.specs.Data.{Datum, Nums, Led, Basis}
 use Rattle.crn_cert.specs.Table as table
 use Rattle.crn_cert.specs.Table.{TreeRow, fields, trees, one_or_two, signal_tree, others, rank_in}
 use Rattle.crn_cert.specs.Formed.{IsFormedOf}
-use Rattle.crn_cert.specs.Blocks.{Block, FitsBlock, FitsHead, FitsTree, SaysAnswer, block_of, trees_of, verdict_of, proof_of, proof_by, rank_proof, class_proofs, class_length, at, nat_in, second_in, nums_in, list_in, gap_in}
+use Rattle.crn_cert.specs.Blocks.{Block, FitsBlock, FitsHead, FitsTree, SaysAnswer, trees_of, verdict_of, proof_of, proof_by, rank_proof, class_proofs, class_length, at, nat_in, second_in, nums_in, list_in, gap_in}
 use Rattle.crn_ctext.proofs.Forms.{head_record, row_records}
 use Rattle.crn_ctext.proofs.RowsDerived.{HeadOf, head_by}
-use Rattle.crn_ctext.proofs.RecordsDerived.{records_as_before}
 use Rattle.crn_ctext.proofs.RecordsTyped.{records_are_blocks}
 use Rattle.crn_ctext.proofs.RowsSaid.{blocks_are_records}
 use Rattle.crn_cert.proofs.CallerLemmas.{head_back}
@@ -200,10 +198,6 @@ nodes_in (proof.Two tree second) = ap (λ (t : List Record). nodes tree ++ t) (s
 nodes_in proof.Nothing = refl
 nodes_in p = refl
 
--- the records of a formed answer are those of its block, and formed
-pub answers_are_of_blocks : (known : Known) (q : Question) (v : Verdict) (p : Proof) → PairsFor q known → IsFormedOf known.net known.earlier q v p → records q (shapes_of known) (record { verdict = v; proof = p }) ≡ records_in known q (block_of known.net known.earlier v p)
-answers_are_of_blocks known q v p e f = ap₂ (λ (x y : List Record). x ++ y) (records_as_before known q v p e f) (nodes_in p)
-
 -- ---- the answer of a block has no spares
 
 nums_tight : (d : Datum) → tight_nums (nums_in d) ≡ nums_in d
@@ -227,7 +221,7 @@ verdict_tight kind h r = refl
 rank_tight : (rank : ℕ) (r : List Datum) → tight_rank (rank_proof rank r) ≡ rank_proof rank r
 rank_tight rank r = ap (λ (x : KeptNums). record { base = x; duals = map list_in (take rank (drop 1 r)); combs = map list_in (drop (suc rank) r) }) (nums_tight (at r 0))
 
-classes_tight : (known : Known) (k : ℕ) (ds : List ℕ) (r : List Datum) → map tight_rank (class_proofs known.net known.earlier k ds r) ≡ class_proofs known.net known.earlier k ds r
+pub classes_tight : (known : Known) (k : ℕ) (ds : List ℕ) (r : List Datum) → map tight_rank (class_proofs known.net known.earlier k ds r) ≡ class_proofs known.net known.earlier k ds r
 classes_tight known k [] r = refl
 classes_tight known k (d ∷ ds) r = ap₂ (λ (x : RankProof) (xs : List RankProof). x ∷ xs) (rank_tight (rank_in known.net known.earlier k d) (take (class_length known.net known.earlier k d) r)) (classes_tight known (suc k) ds (drop (class_length known.net known.earlier k d) r))
 
@@ -255,13 +249,3 @@ pub answers_formed : (known : Known) (q : Question) (b : Block) → FitsBlock kn
 answers_formed known q b f =
     subst (λ (c : Block). FitsBlock known.net known.earlier q c × SaysAnswer known.net known.earlier q c (verdict_of b.kind b.head b.rows) (proof_of known.net known.earlier q b.kind b.head b.rows b.trees)) (sym (blocks_are_of_answers known.net known.earlier q b f))
     (f, (sym (verdict_tight b.kind b.head b.rows), sym (proof_tight known q b.kind b.head b.rows b.trees)))
-
--- formed records are those of a formed answer
-pub formed_are_of_answers : OfTrees → (known : Known) (q : Question) (rs : List Record) (p : Parts rs) → PairsFor q known → documents.IsFormed meaning q known rs p → (v : Verdict) × (u : Proof) × IsFormedOf known.net known.earlier q v u × (rs ≡ records q (shapes_of known) (record { verdict = v; proof = u }))
-formed_are_of_answers o known q rs p e f =
-    let found = formed_are_blocks o known q rs p e f in
-    let b = found.0 in
-    let v = verdict_of b.kind b.head b.rows in
-    let u = proof_of known.net known.earlier q b.kind b.head b.rows b.trees in
-    let formed = answers_formed known q b found.1 in
-    (v, u, formed, found.2 ∙ ap (λ (c : Block). records_in known q c) (sym (blocks_are_of_answers known.net known.earlier q b found.1)) ∙ sym (answers_are_of_blocks known q v u e formed))

@@ -1,55 +1,56 @@
--- A formed answer without trees and its records: what is required of the one is required of the other.
-use Rattle.std.proofs.Common.{◌≡◌, ◌∙◌, Bool, true, false, List, [], ◌∷◌, refl, sym, ap, ap₂, subst}
+-- A formed answer and the records of its block: what is required of the one is required of the other.
+use Rattle.std.proofs.Common.{◌≡◌, ◌⊎◌, ◌+◌, ◌∙◌, ℕ, Bool, true, false, List, [], ◌∷◌, length, refl, sym, ap, ap₂, subst, inl, inr}
+use Rattle.std.specs.Prelude.{Option}
+use Rattle.std.specs.Option.{IsSome, IsSomeAnd}
 use Rattle.std.specs.List.{AllZip}
 use Rattle.crn_vec.specs.Network.{Net}
 use Rattle.crn_vec.specs.declared.signs.Sign.{Sign}
-use Rattle.crn_vec.proofs.CallerLemmas.{head_is, tail_is}
+use Rattle.crn_vec.specs.Influence.{plain_table, strong_table}
+use Rattle.crn_vec.proofs.CallerLemmas.{head_is, tail_is, abs_back}
 use Rattle.crn_cert.specs.declared.answer.Gap.{Gap}
 use Rattle.crn_cert.specs.declared.answer.Gap.TheVariants.{Wide, Budget, Rests}
 use Rattle.crn_cert.specs.declared.answer.Verdict.{Verdict}
-use Rattle.crn_cert.specs.declared.answer.Verdict.TheVariants.{Classes, Strong, Rank, Yes, YesWeak, YesVec, NoReaction, NoNumber, NoTerminal, NoClass, NoSum, NoDependence, NoCycle, NotRegular, OnlyZero, Plane, Unknown}
+use Rattle.crn_cert.specs.declared.answer.Verdict.TheVariants.{Classes, Strong, Rank, Deficiency, Yes, YesWeak, YesVec, YesSignal, No, NoReaction, NoNumber, NoTerminal, NoClass, NoSum, NoDependence, NoCycle, NotRegular, OnlyZero, Plane, NotApplicable, Unknown}
 use Rattle.crn_cert.specs.declared.answer.Proof.{Proof}
 use Rattle.crn_cert.specs.declared.answer.RankProof.{RankProof}
 use Rattle.crn_cert.specs.declared.answer.Proof.TheVariants.{Forest, Strong as StrongTrees, Back, Rank as RankRows, Ranks, Sides, Ties, One, Two}
 use Rattle.crn_cert.specs.declared.head_kind.HeadKind.{HeadKind}
-use Rattle.crn_cert.specs.Questions.{Earlier, Question, Q1, Q2, Q3, Q4, Q5, Q6, Q7, Q8, Q9, Q10, Q11, Q12, Q13, Q14, Q15}
-use Rattle.crn_cert.specs.Tests.{Test}
+use Rattle.crn_cert.specs.Questions.{Earlier, Question, Q1, Q2, Q3, Q4, Q5, Q6, Q7, Q8, Q9, Q10, Q11, Q12, Q13, Q14, Q15, on, rank_of}
+use Rattle.crn_cert.specs.Tests.{Test, test}
+use Rattle.crn_cert.specs.Faults.{WrongNumber, WrongVerdict}
 use Rattle.crn_cert.specs.Trees.{Plan}
-use Rattle.crn_cert.specs.Valid.{head_tests, row_tests}
+use Rattle.crn_cert.specs.Valid.{linkage_count, head_tests, row_tests, AreClassNumbers, IsValid}
 use Rattle.crn_cert.specs.Verdicts.{tight, tight_proof}
 use Rattle.crn_cert.specs.Table as table
 use Rattle.crn_cert.specs.Table.{TreeRow, trees}
-use Rattle.crn_cert.specs.Blocks.{Block, FitsTree, block_of, trees_of, proof_of}
+use Rattle.crn_cert.specs.Blocks.{Block, FitsTree, block_of, head_of as kind_of, trees_of, proof_of}
 use Rattle.crn_cert.specs.Formed.{HeadMayBe, IsFormedOf}
 use Rattle.crn_ctext.specs.Records.{Record, Fits}
 use Rattle.crn_ctext.specs.Blocks.{Problem, head_claims, problems, below, is_open, unless}
-use Rattle.crn_ctext.specs.Documents.{IsOneOf, AreTrees, leaf_forms}
+use Rattle.crn_ctext.specs.Documents.{IsFormed, IsOneOf, AreTrees, leaf_forms}
+use Rattle.crn_ctext.specs.Documents as documents
 use Rattle.crn_ctext.specs.Questions.{heads}
-use Rattle.crn_ctext.specs.Answers.{nodes, head_of, records_below, proof_nodes}
+use Rattle.crn_ctext.specs.Answers.{head_of, records, records_below, proof_nodes}
 use Rattle.crn_ctext.specs.Meaning.{Known, shapes_of, sizes_of, verdict_of as said_verdict, proof_of as said_proof, meaning}
 use Rattle.crn_ctext.proofs.Forms.{head_record, row_records}
 use Rattle.crn_ctext.proofs.BlockLaws.{PairsFor}
 use Rattle.crn_ctext.proofs.Shown.{shown}
-use Rattle.crn_ctext.proofs.Joined.{IsLinked, answer}
-use Rattle.crn_ctext.proofs.RanksLinked.{said_again}
+use Rattle.crn_ctext.proofs.KnownBefore.{AreKnown, IsStrong, IsStrongTrue}
+use Rattle.crn_ctext.proofs.Joined.{IsLinked, IsJoinedAt, answer, parts, linked_there, linked_back}
+use Rattle.crn_ctext.proofs.RanksLinked.{said_again, tests_said}
+use Rattle.crn_ctext.proofs.TablesLinked.{concordant_tree, strongly_tree, tables_shown, plain_there, plain_back, strong_there, strong_back}
+use Rattle.crn_ctext.proofs.SignalLinked.{signal_trees, signals_shown, signal_there, signal_back}
 use Rattle.crn_ctext.proofs.RecordsDerived.{records_as_before}
-use Rattle.crn_ctext.proofs.BlocksFormed.{blocks_are_formed, nodes_in}
+use Rattle.crn_ctext.proofs.BlocksFormed.{AreLike, blocks_are_formed, nodes_in, trees_due}
 use Rattle.crn_ctext.proofs.BlocksSaid.{block_said}
-use Rattle.crn_ctext.proofs.BlocksShown.{IsPlain, block_shown}
-use Rattle.crn_ctext.proofs.RecordsTold.{of_trees}
+use Rattle.crn_ctext.proofs.BlocksShown.{block_shown}
+use Rattle.crn_ctext.proofs.RecordsTold.{ComesAfter, of_trees, pairs_for}
 
 -- ---- no trees
 
 none_of : (ts : List Plan) → AllZip FitsTree [] ts → ts ≡ []
 none_of [] f = refl
 none_of (t ∷ ts) f = absurd f
-
-none_due : (net : Net) (earlier : Earlier) (q : Question) (kind : HeadKind) → IsPlain q → trees net earlier q kind ≡ []
-none_due net earlier Q6 kind i = absurd i
-none_due net earlier Q13 kind i = absurd i
-none_due net earlier Q14 kind i = absurd i
-none_due net earlier Q15 kind i = absurd i
-none_due net earlier q kind i = refl
 
 shown_apart : (p : Proof) → trees_of p ≡ [] → shown (tight_proof p) ≡ shown p
 shown_apart (One tree) e = absurd cc
@@ -58,24 +59,6 @@ shown_apart (Ranks list) e = ap (λ (ps : List RankProof). (Ranks ps, [])) (said
 shown_apart p e = refl
 
 -- ---- tests
-
--- an open answer has no tests
-open_heads : (net : Net) (earlier : Earlier) (q : Question) (gap : Gap) → head_tests net earlier q (Unknown gap) ≡ []
-open_heads net earlier Q1 gap = refl
-open_heads net earlier Q2 gap = refl
-open_heads net earlier Q3 gap = refl
-open_heads net earlier Q4 gap = refl
-open_heads net earlier Q5 gap = refl
-open_heads net earlier Q6 gap = refl
-open_heads net earlier Q7 gap = refl
-open_heads net earlier Q8 gap = refl
-open_heads net earlier Q9 gap = refl
-open_heads net earlier Q10 gap = refl
-open_heads net earlier Q11 gap = refl
-open_heads net earlier Q12 gap = refl
-open_heads net earlier Q13 gap = refl
-open_heads net earlier Q14 gap = refl
-open_heads net earlier Q15 gap = refl
 
 open_rows : (net : Net) (earlier : Earlier) (q : Question) (gap : Gap) (p : Proof) → row_tests net earlier q (Unknown gap) p ≡ []
 open_rows net earlier Q1 gap p = refl
@@ -95,106 +78,134 @@ open_rows net earlier Q14 gap p = refl
 open_rows net earlier Q15 gap p = refl
 
 -- no test looks at spares
-rows_tight : (net : Net) (earlier : Earlier) (q : Question) (v : Verdict) (p : Proof) → IsPlain q → row_tests net earlier q (tight v) (tight_proof p) ≡ row_tests net earlier q v p
-rows_tight net earlier Q1 (Unknown gap) p i = refl
-rows_tight net earlier Q1 (Classes count label) (Forest up depth) i = refl
-rows_tight net earlier Q1 (Classes count label) p i = refl
-rows_tight net earlier Q1 v p i = refl
-rows_tight net earlier Q2 (Unknown gap) p i = refl
-rows_tight net earlier Q2 (Strong count terminal label exit) (StrongTrees from from_depth to to_depth level) i = refl
-rows_tight net earlier Q2 (Strong count terminal label exit) p i = refl
-rows_tight net earlier Q2 v p i = refl
-rows_tight net earlier Q3 (Unknown gap) p i = refl
-rows_tight net earlier Q3 Yes (Back back) i = refl
-rows_tight net earlier Q3 Yes p i = refl
-rows_tight net earlier Q3 v p i = refl
-rows_tight net earlier Q4 (Unknown gap) p i = refl
-rows_tight net earlier Q4 v p i = refl
-rows_tight net earlier Q5 (Unknown gap) p i = refl
-rows_tight net earlier Q5 (Rank rank base) (RankRows r) i = refl
-rows_tight net earlier Q5 (Rank rank base) p i = refl
-rows_tight net earlier Q5 v p i = refl
-rows_tight net earlier Q6 v p i = absurd i
-rows_tight net earlier Q7 (Unknown gap) p i = refl
-rows_tight net earlier Q7 v p i = refl
-rows_tight net earlier Q8 (Unknown gap) p i = refl
-rows_tight net earlier Q8 v p i = refl
-rows_tight net earlier Q9 (Unknown gap) p i = refl
-rows_tight net earlier Q9 v p i = refl
-rows_tight net earlier Q10 (Unknown gap) p i = refl
-rows_tight net earlier Q10 v p i = refl
-rows_tight net earlier Q11 (Unknown gap) p i = refl
-rows_tight net earlier Q11 Yes (Sides sides) i = refl
-rows_tight net earlier Q11 Yes p i = refl
-rows_tight net earlier Q11 v p i = refl
-rows_tight net earlier Q12 (Unknown gap) p i = refl
-rows_tight net earlier Q12 (YesVec vector) (Ties ties) i = refl
-rows_tight net earlier Q12 (YesVec vector) p i = refl
-rows_tight net earlier Q12 OnlyZero (Ties ties) i = refl
-rows_tight net earlier Q12 OnlyZero p i = refl
-rows_tight net earlier Q12 v p i = refl
-rows_tight net earlier Q13 v p i = absurd i
-rows_tight net earlier Q14 v p i = absurd i
-rows_tight net earlier Q15 v p i = absurd i
+rows_tight : (net : Net) (earlier : Earlier) (q : Question) (v : Verdict) (p : Proof) → row_tests net earlier q (tight v) (tight_proof p) ≡ row_tests net earlier q v p
+rows_tight net earlier Q1 (Unknown gap) p = refl
+rows_tight net earlier Q1 (Classes count label) (Forest up depth) = refl
+rows_tight net earlier Q1 (Classes count label) p = refl
+rows_tight net earlier Q1 v p = refl
+rows_tight net earlier Q2 (Unknown gap) p = refl
+rows_tight net earlier Q2 (Strong count terminal label exit) (StrongTrees from from_depth to to_depth level) = refl
+rows_tight net earlier Q2 (Strong count terminal label exit) p = refl
+rows_tight net earlier Q2 v p = refl
+rows_tight net earlier Q3 (Unknown gap) p = refl
+rows_tight net earlier Q3 Yes (Back back) = refl
+rows_tight net earlier Q3 Yes p = refl
+rows_tight net earlier Q3 v p = refl
+rows_tight net earlier Q4 (Unknown gap) p = refl
+rows_tight net earlier Q4 v p = refl
+rows_tight net earlier Q5 (Unknown gap) p = refl
+rows_tight net earlier Q5 (Rank rank base) (RankRows r) = refl
+rows_tight net earlier Q5 (Rank rank base) p = refl
+rows_tight net earlier Q5 v p = refl
+rows_tight net earlier Q6 (Unknown gap) p = refl
+rows_tight net earlier Q6 (Deficiency total classes) (Ranks list) = tests_said net earlier 1 1 list
+rows_tight net earlier Q6 (Deficiency total classes) p = refl
+rows_tight net earlier Q6 v p = refl
+rows_tight net earlier Q7 (Unknown gap) p = refl
+rows_tight net earlier Q7 v p = refl
+rows_tight net earlier Q8 (Unknown gap) p = refl
+rows_tight net earlier Q8 v p = refl
+rows_tight net earlier Q9 (Unknown gap) p = refl
+rows_tight net earlier Q9 v p = refl
+rows_tight net earlier Q10 (Unknown gap) p = refl
+rows_tight net earlier Q10 v p = refl
+rows_tight net earlier Q11 (Unknown gap) p = refl
+rows_tight net earlier Q11 Yes (Sides sides) = refl
+rows_tight net earlier Q11 Yes p = refl
+rows_tight net earlier Q11 v p = refl
+rows_tight net earlier Q12 (Unknown gap) p = refl
+rows_tight net earlier Q12 (YesVec vector) (Ties ties) = refl
+rows_tight net earlier Q12 (YesVec vector) p = refl
+rows_tight net earlier Q12 OnlyZero (Ties ties) = refl
+rows_tight net earlier Q12 OnlyZero p = refl
+rows_tight net earlier Q12 v p = refl
+rows_tight net earlier Q13 (Unknown gap) p = refl
+rows_tight net earlier Q13 No (One tree) = refl
+rows_tight net earlier Q13 No (Two tree second) = refl
+rows_tight net earlier Q13 No p = refl
+rows_tight net earlier Q13 v p = refl
+rows_tight net earlier Q14 (Unknown gap) p = refl
+rows_tight net earlier Q14 Yes (One tree) = refl
+rows_tight net earlier Q14 Yes p = refl
+rows_tight net earlier Q14 v p = refl
+rows_tight net earlier Q15 (Unknown gap) p = refl
+rows_tight net earlier Q15 Yes (One tree) = refl
+rows_tight net earlier Q15 Yes p = refl
+rows_tight net earlier Q15 v p = refl
 
 never : (b : Bool) → unless {A = Test} b [] ≡ []
 never true = refl
 never false = refl
 
+-- the tests of a head on deficiencies, by what they rest on
+abbrev deficiency_tests : Net → ℕ → ℕ → Option ℕ → Type 0 → List {1} Test
+deficiency_tests net total count rank Numbers = test 0 WrongVerdict (IsSome rank) ∷ test 0 WrongNumber (IsSomeAnd rank (λ s. total + count + s ≡ length net.complexes) × Numbers) ∷ []
+
 -- the tests of the record of a head are those of the verdict
-claims_are : (known : Known) (q : Question) (v : Verdict) → IsPlain q → HeadMayBe known.net known.earlier q v → head_claims meaning q known (head_of q v) ≡ head_tests known.net known.earlier q v
-claims_are known Q1 v i h = never (is_open (head_of Q1 v))
-claims_are known Q2 v i h = never (is_open (head_of Q2 v))
-claims_are known Q3 Yes i h = refl
-claims_are known Q3 (NoReaction r) i h = refl
-claims_are known Q3 (Unknown (Wide system class index basis)) i h = absurd h
-claims_are known Q3 (Unknown (Budget nodes)) i h = absurd h
-claims_are known Q3 (Unknown (Rests question)) i h = absurd h
-claims_are known Q3 v i h = absurd h
-claims_are known Q4 Yes i h = refl
-claims_are known Q4 (NoReaction r) i h = refl
-claims_are known Q4 (Unknown (Wide system class index basis)) i h = absurd h
-claims_are known Q4 (Unknown (Budget nodes)) i h = absurd h
-claims_are known Q4 (Unknown (Rests question)) i h = absurd h
-claims_are known Q4 v i h = absurd h
-claims_are known Q5 v i h = never (is_open (head_of Q5 v))
-claims_are known Q6 v i h = absurd i
-claims_are known Q7 v i h = never (is_open (head_of Q7 v))
-claims_are known Q8 v i h = never (is_open (head_of Q8 v))
-claims_are known Q9 (YesWeak true) i h = refl
-claims_are known Q9 (YesWeak false) i h = refl
-claims_are known Q9 (NoNumber d) i h = refl
-claims_are known Q9 (Unknown (Rests question)) i h = refl
-claims_are known Q9 (Unknown (Wide system class index basis)) i h = absurd h
-claims_are known Q9 (Unknown (Budget nodes)) i h = absurd h
-claims_are known Q9 v i h = absurd h
-claims_are known Q10 Yes i h = refl
-claims_are known Q10 (NoTerminal class count) i h = refl
-claims_are known Q10 (NoClass class d) i h = refl
-claims_are known Q10 (NoSum sum) i h = refl
-claims_are known Q10 (Unknown (Rests question)) i h = refl
-claims_are known Q10 (Unknown (Wide system class index basis)) i h = absurd h
-claims_are known Q10 (Unknown (Budget nodes)) i h = absurd h
-claims_are known Q10 v i h = absurd h
-claims_are known Q11 Yes i h = refl
-claims_are known Q11 (NoTerminal class count) i h = refl
-claims_are known Q11 NoDependence i h = refl
-claims_are known Q11 (NoCycle r walk) i h = refl
-claims_are known Q11 (Unknown (Rests question)) i h = refl
-claims_are known Q11 (Unknown (Wide system class index basis)) i h = absurd h
-claims_are known Q11 (Unknown (Budget nodes)) i h = absurd h
-claims_are known Q11 v i h = absurd h
-claims_are known Q12 (YesVec vector) i h = refl
-claims_are known Q12 NotRegular i h = refl
-claims_are known Q12 OnlyZero i h = refl
-claims_are known Q12 (Plane first second one two) i h = refl
-claims_are known Q12 (Unknown (Wide system class index basis)) i h = refl
-claims_are known Q12 (Unknown (Rests question)) i h = refl
-claims_are known Q12 (Unknown (Budget nodes)) i h = absurd h
-claims_are known Q12 v i h = absurd h
-claims_are known Q13 v i h = absurd i
-claims_are known Q14 v i h = absurd i
-claims_are known Q15 v i h = absurd i
+claims_are : (known : Known) (q : Question) (v : Verdict) → HeadMayBe known.net known.earlier q v → head_claims meaning q known (head_of q v) ≡ head_tests known.net known.earlier q v
+claims_are known Q1 v h = never (is_open (head_of Q1 v))
+claims_are known Q2 v h = never (is_open (head_of Q2 v))
+claims_are known Q3 Yes h = refl
+claims_are known Q3 (NoReaction r) h = refl
+claims_are known Q3 (Unknown (Wide system class index basis)) h = absurd h
+claims_are known Q3 (Unknown (Budget nodes)) h = absurd h
+claims_are known Q3 (Unknown (Rests question)) h = absurd h
+claims_are known Q3 v h = absurd h
+claims_are known Q4 Yes h = refl
+claims_are known Q4 (NoReaction r) h = refl
+claims_are known Q4 (Unknown (Wide system class index basis)) h = absurd h
+claims_are known Q4 (Unknown (Budget nodes)) h = absurd h
+claims_are known Q4 (Unknown (Rests question)) h = absurd h
+claims_are known Q4 v h = absurd h
+claims_are known Q5 v h = never (is_open (head_of Q5 v))
+claims_are known Q6 (Deficiency total classes) h =
+    ap (λ (xs : List ℕ). deficiency_tests known.net total (linkage_count known.earlier) (rank_of (on known.earlier Q5)) (AreClassNumbers known.net known.earlier 1 xs)) (abs_back classes.list)
+claims_are known Q6 (Unknown (Wide system class index basis)) h = refl
+claims_are known Q6 (Unknown (Rests question)) h = refl
+claims_are known Q6 (Unknown (Budget nodes)) h = absurd h
+claims_are known Q6 v h = absurd h
+claims_are known Q7 v h = never (is_open (head_of Q7 v))
+claims_are known Q8 v h = never (is_open (head_of Q8 v))
+claims_are known Q9 (YesWeak true) h = refl
+claims_are known Q9 (YesWeak false) h = refl
+claims_are known Q9 (NoNumber d) h = refl
+claims_are known Q9 (Unknown (Rests question)) h = refl
+claims_are known Q9 (Unknown (Wide system class index basis)) h = absurd h
+claims_are known Q9 (Unknown (Budget nodes)) h = absurd h
+claims_are known Q9 v h = absurd h
+claims_are known Q10 Yes h = refl
+claims_are known Q10 (NoTerminal class count) h = refl
+claims_are known Q10 (NoClass class d) h = refl
+claims_are known Q10 (NoSum sum) h = refl
+claims_are known Q10 (Unknown (Rests question)) h = refl
+claims_are known Q10 (Unknown (Wide system class index basis)) h = absurd h
+claims_are known Q10 (Unknown (Budget nodes)) h = absurd h
+claims_are known Q10 v h = absurd h
+claims_are known Q11 Yes h = refl
+claims_are known Q11 (NoTerminal class count) h = refl
+claims_are known Q11 NoDependence h = refl
+claims_are known Q11 (NoCycle r walk) h = refl
+claims_are known Q11 (Unknown (Rests question)) h = refl
+claims_are known Q11 (Unknown (Wide system class index basis)) h = absurd h
+claims_are known Q11 (Unknown (Budget nodes)) h = absurd h
+claims_are known Q11 v h = absurd h
+claims_are known Q12 (YesVec vector) h = refl
+claims_are known Q12 NotRegular h = refl
+claims_are known Q12 OnlyZero h = refl
+claims_are known Q12 (Plane first second one two) h = refl
+claims_are known Q12 (Unknown (Wide system class index basis)) h = refl
+claims_are known Q12 (Unknown (Rests question)) h = refl
+claims_are known Q12 (Unknown (Budget nodes)) h = absurd h
+claims_are known Q12 v h = absurd h
+claims_are known Q13 (YesSignal turn shelves mu level weights) h = refl
+claims_are known Q13 No h = refl
+claims_are known Q13 NotApplicable h = refl
+claims_are known Q13 (Unknown (Wide system class index basis)) h = refl
+claims_are known Q13 (Unknown (Budget nodes)) h = refl
+claims_are known Q13 (Unknown (Rests question)) h = refl
+claims_are known Q13 v h = absurd h
+claims_are known Q14 v h = never (is_open (head_of Q14 v))
+claims_are known Q15 v h = never (is_open (head_of Q15 v))
 
 -- those of the records below an open head are none, and below a decided one are asked
 below_are : (net : Net) (earlier : Earlier) (q : Question) (v : Verdict) (p : Proof) → unless (is_open (head_of q v)) (row_tests net earlier q v p) ≡ row_tests net earlier q v p
@@ -203,37 +214,154 @@ below_are net earlier q (Unknown (Budget nodes)) p = sym (open_rows net earlier 
 below_are net earlier q (Unknown (Rests question)) p = sym (open_rows net earlier q (Rests question) p)
 below_are net earlier q v p = refl
 
--- ---- an answer
+-- ---- an answer and its block
 
 abbrev Due : Problem → List Sign → Record → Type 0
 Due w prefix r = IsOneOf (leaf_forms w) r
 
-pub linked : (known : Known) (q : Question) (v : Verdict) (p : Proof) → IsPlain q → PairsFor q known → IsFormedOf known.net known.earlier q v p → IsLinked known q (answer v p)
-linked known q v p i e f =
-    let b : Block = block_of known.net known.earlier v p in
+abbrev block : Known → Verdict → Proof → Block
+block known v p = block_of known.net known.earlier v p
+
+-- the records of a block, but for its trees
+abbrev head_in : Question → Block → Record
+head_in q b = head_record q b.kind b.head
+
+abbrev rows_in : Known → Question → Block → List Record
+rows_in known q b = row_records (table.rows known.net known.earlier q b.kind b.head) b.rows
+
+-- those of the answer are they
+above : (known : Known) (q : Question) (v : Verdict) (p : Proof) → PairsFor q known → IsFormedOf known.net known.earlier q v p → (head_of q v ≡ head_in q (block known v p)) × (records_below (shapes_of known) (answer v p) ≡ rows_in known q (block known v p))
+above known q v p e f =
+    let head = head_in q (block known v p) in
+    let rows = rows_in known q (block known v p) in
+    let own = records_below (shapes_of known) (answer v p) in
+    let all : head_of q v ∷ own ≡ head ∷ rows = records_as_before known q v p e f in
+    (head_is (head_of q v) head own rows all, tail_is (head_of q v) head own rows all)
+
+-- the records of a formed answer are formed
+pub block_formed : (known : Known) (q : Question) (v : Verdict) (p : Proof) → PairsFor q known → IsFormedOf known.net known.earlier q v p → IsFormed meaning q known (records q (shapes_of known) (answer v p)) (parts q known (answer v p))
+block_formed known q v p e f =
+    let b : Block = block known v p in
+    let own = records_below (shapes_of known) (answer v p) in
+    let a = above known q v p e f in
+    let formed = blocks_are_formed of_trees known q b e f.0 in
+    record {
+      head = subst (λ (h : Record). IsOneOf (heads q (sizes_of known)) h) (sym a.0) formed.head;
+      rows = subst (λ (h : Record). AllZip Fits (below q (shapes_of known) h) own) (sym a.0) (subst (λ (rs : List Record). AllZip Fits (below q (shapes_of known) (head_in q b)) rs) (sym a.1) formed.rows);
+      trees = subst (λ (h : Record). AreTrees Due (problems meaning q known h) (proof_nodes p)) (sym a.0) (subst (λ (ns : List Record). AreTrees Due (problems meaning q known (head_in q b)) ns) (sym (nodes_in p)) formed.trees);
+    }
+
+-- and say its verdict
+pub block_says : (known : Known) (q : Question) (v : Verdict) (p : Proof) → PairsFor q known → IsFormedOf known.net known.earlier q v p → said_verdict q (sizes_of known) (head_of q v) (records_below (shapes_of known) (answer v p)) ≡ tight v
+block_says known q v p e f =
+    let b : Block = block known v p in
+    let fits = f.0 in
+    let a = above known q v p e f in
+    ap₂ (λ (h : Record) (rs : List Record). said_verdict q (sizes_of known) h rs) a.0 a.1 ∙ block_said known q b.kind b.head b.rows fits.head fits.rows ∙ f.1.0
+
+-- problems like no trees are none
+none_like : (ts : List TreeRow) (ws : List {1} Problem) → ts ≡ [] → AreLike ts ws → ws ≡ []
+none_like [] [] e l = refl
+none_like [] (w ∷ ws) e l = absurd l
+none_like (t ∷ ts) ws e l = absurd cc
+
+-- a formed answer to which no trees are due
+pub linked : (known : Known) (q : Question) (v : Verdict) (p : Proof) → trees known.net known.earlier q (block known v p).kind ≡ [] → PairsFor q known → IsFormedOf known.net known.earlier q v p → IsLinked known q (answer v p)
+linked known q v p due e f =
+    let b : Block = block known v p in
     let fits = f.0 in
     let own = records_below (shapes_of known) (answer v p) in
-    let head : Record = head_record q b.kind b.head in
-    let rows : List Record = row_records (table.rows known.net known.earlier q b.kind b.head) b.rows in
-    let above : head_of q v ∷ own ≡ head ∷ rows = records_as_before known q v p e f in
-    let hd : head_of q v ≡ head = head_is (head_of q v) head own rows above in
-    let tl : own ≡ rows = tail_is (head_of q v) head own rows above in
-    let formed = blocks_are_formed of_trees known q b e fits in
-    let none : trees_of p ≡ [] = none_of (trees_of p) (subst (λ (ts : List TreeRow). AllZip FitsTree ts (trees_of p)) (none_due known.net known.earlier q b.kind i) fits.trees) in
-    let says : said_verdict q (sizes_of known) (head_of q v) own ≡ tight v =
-    ap₂ (λ (h : Record) (rs : List Record). said_verdict q (sizes_of known) h rs) hd tl ∙ block_said known q b.kind b.head b.rows fits.head fits.rows ∙ f.1.0 in
+    let a = above known q v p e f in
+    let none : trees_of p ≡ [] = none_of (trees_of p) (subst (λ (ts : List TreeRow). AllZip FitsTree ts (trees_of p)) due fits.trees) in
+    let says = block_says known q v p e f in
     let whole : said_proof q (shapes_of known) (head_of q v) own ≡ tight_proof p =
-    ap₂ (λ (h : Record) (rs : List Record). said_proof q (shapes_of known) h rs) hd tl ∙ block_shown known q b.kind b.head b.rows i fits.head fits.rows
+    ap₂ (λ (h : Record) (rs : List Record). said_proof q (shapes_of known) h rs) a.0 a.1 ∙ block_shown known q b.kind b.head b.rows fits.head fits.rows
     ∙ ap (λ (ts : List Plan). proof_of known.net known.earlier q b.kind b.head b.rows ts) (sym none) ∙ f.1.1 in
     record {
-      formed = record {
-        head = subst (λ (h : Record). IsOneOf (heads q (sizes_of known)) h) (sym hd) formed.head;
-        rows = subst (λ (h : Record). AllZip Fits (below q (shapes_of known) h) own) (sym hd) (subst (λ (rs : List Record). AllZip Fits (below q (shapes_of known) head) rs) (sym tl) formed.rows);
-        trees = subst (λ (h : Record). AreTrees Due (problems meaning q known h) (proof_nodes p)) (sym hd) (subst (λ (ns : List Record). AreTrees Due (problems meaning q known head) ns) (sym (nodes_in p)) formed.trees);
-      };
-      heads = claims_are known q v i fits.head;
+      formed = block_formed known q v p e f;
+      bare = none_like (trees known.net known.earlier q b.kind) (problems meaning q known (head_of q v)) due
+          (subst (λ (h : Record). AreLike (trees known.net known.earlier q b.kind) (problems meaning q known h)) (sym a.0) (trees_due known q b.kind b.head e fits.head));
+      heads = claims_are known q v fits.head;
       rows = ap₂ (λ (w : Verdict) (u : Proof). unless (is_open (head_of q v)) (row_tests known.net known.earlier q w u)) says whole
-          ∙ ap (λ (ts : List {1} Test). unless (is_open (head_of q v)) ts) (rows_tight known.net known.earlier q v p i) ∙ below_are known.net known.earlier q v p;
+          ∙ ap (λ (ts : List {1} Test). unless (is_open (head_of q v)) ts) (rows_tight known.net known.earlier q v p) ∙ below_are known.net known.earlier q v p;
       says = says;
       shows = ap shown whole ∙ shown_apart p none;
     }
+
+-- ---- answers with trees
+
+-- the answers that have trees
+abbrev HaveTrees : Question → Verdict → Type 0
+HaveTrees Q13 No = Unit {0}
+HaveTrees Q14 Yes = Unit {0}
+HaveTrees Q15 Yes = Unit {0}
+HaveTrees q v = ⊥
+
+by_trees : (P : Question → Verdict → Type 0) (q : Question) (v : Verdict) → HaveTrees q v → P Q13 No → P Q14 Yes → P Q15 Yes → P q v
+by_trees P Q13 No t a b c = a
+by_trees P Q14 Yes t a b c = b
+by_trees P Q15 Yes t a b c = c
+by_trees P q v t a b c = absurd t
+
+bare_or : (net : Net) (earlier : Earlier) (q : Question) (v : Verdict) → (trees net earlier q (kind_of v).0 ≡ []) ⊎ HaveTrees q v
+bare_or net earlier Q13 No = inr tt
+bare_or net earlier Q13 (Unknown (Wide system class index basis)) = inl refl
+bare_or net earlier Q13 (Unknown (Budget nodes)) = inl refl
+bare_or net earlier Q13 (Unknown (Rests question)) = inl refl
+bare_or net earlier Q13 v = inl refl
+bare_or net earlier Q14 Yes = inr tt
+bare_or net earlier Q14 (Unknown (Wide system class index basis)) = inl refl
+bare_or net earlier Q14 (Unknown (Budget nodes)) = inl refl
+bare_or net earlier Q14 (Unknown (Rests question)) = inl refl
+bare_or net earlier Q14 v = inl refl
+bare_or net earlier Q15 Yes = inr tt
+bare_or net earlier Q15 (Unknown (Wide system class index basis)) = inl refl
+bare_or net earlier Q15 (Unknown (Budget nodes)) = inl refl
+bare_or net earlier Q15 (Unknown (Rests question)) = inl refl
+bare_or net earlier Q15 v = inl refl
+bare_or net earlier q v = inl refl
+
+-- ---- each question
+
+abbrev IsThere : Known → Question → Verdict → Proof → Type 0
+IsThere known q v p = documents.IsValid meaning q known (records q (shapes_of known) (answer v p)) (parts q known (answer v p))
+
+strong_for : (b : Bool) (known : Known) → b ≡ true → AreKnown b known.earlier → IsStrong (on known.earlier Q2)
+strong_for b known o k = subst (λ (x : Bool). AreKnown x known.earlier) o k
+
+there_by : (b : Bool) (q : Question) → ComesAfter b q → (known : Known) (v : Verdict) (p : Proof) → AreKnown b known.earlier → IsFormedOf known.net known.earlier q v p → (trees known.net known.earlier q (kind_of v).0 ≡ []) ⊎ HaveTrees q v → IsValid known.net known.earlier q (answer v p) → IsThere known q v p
+there_by b q o known v p k f (inl due) valid = linked_there known q (answer v p) (linked known q v p due (pairs_for b q known o k) f) valid
+there_by b q o known v p k f (inr t) valid =
+    by_trees (λ (q : Question) (v : Verdict). ComesAfter b q → IsFormedOf known.net known.earlier q v p → IsValid known.net known.earlier q (answer v p) → IsThere known q v p) q v t
+    (λ o f valid. signal_there known p (strong_for b known o k) f valid) (λ o f valid. plain_there known p f valid) (λ o f valid. strong_there known p f valid) o f valid
+
+back_by : (b : Bool) (q : Question) → ComesAfter b q → (known : Known) (v : Verdict) (p : Proof) → AreKnown b known.earlier → IsStrongTrue b known → IsFormedOf known.net known.earlier q v p → (trees known.net known.earlier q (kind_of v).0 ≡ []) ⊎ HaveTrees q v → IsThere known q v p → IsValid known.net known.earlier q (answer v p)
+back_by b q o known v p k s f (inl due) valid = linked_back known q (answer v p) (linked known q v p due (pairs_for b q known o k) f) valid
+back_by b q o known v p k s f (inr t) valid =
+    by_trees (λ (q : Question) (v : Verdict). ComesAfter b q → IsFormedOf known.net known.earlier q v p → IsThere known q v p → IsValid known.net known.earlier q (answer v p)) q v t
+    (λ o f valid. signal_back known p (strong_for b known o k) (subst (λ (x : Bool). IsStrongTrue x known) o s) f valid) (λ o f valid. plain_back known p f valid) (λ o f valid. strong_back known p f valid) o f valid
+
+abbrev AlikeShown : Known → Question → Verdict → Verdict → Proof → Proof → Type 0
+AlikeShown known q v w p r = head_of q v ≡ head_of q w → records_below (shapes_of known) (answer v p) ≡ records_below (shapes_of known) (answer w r) → proof_nodes p ≡ proof_nodes r → shown p ≡ shown r
+
+bare_shown : (b : Bool) (q : Question) → ComesAfter b q → ((net : Net) (earlier : Earlier) (kind : HeadKind) → trees net earlier q kind ≡ []) → (known : Known) (v w : Verdict) (p r : Proof) → AreKnown b known.earlier → IsFormedOf known.net known.earlier q v p → IsFormedOf known.net known.earlier q w r → AlikeShown known q v w p r
+bare_shown b q o none known v w p r k f g head rows nodes =
+    let e = pairs_for b q known o k in
+    let l = linked known q v p (none known.net known.earlier (kind_of v).0) e f in
+    let m = linked known q w r (none known.net known.earlier (kind_of w).0) e g in
+    sym l.shows ∙ ap₂ (λ (x : Record) (xs : List Record). shown (said_proof q (shapes_of known) x xs)) head rows ∙ m.shows
+
+shows_by : (b : Bool) (q : Question) → ComesAfter b q → (known : Known) (v w : Verdict) (p r : Proof) → AreKnown b known.earlier → IsFormedOf known.net known.earlier q v p → IsFormedOf known.net known.earlier q w r → AlikeShown known q v w p r
+shows_by b Q13 o known v w p r k f g head rows nodes = signals_shown known p r (strong_for b known o k) (signal_trees known.net known.earlier v p f) (signal_trees known.net known.earlier w r g) nodes
+shows_by b Q14 o known v w p r k f g head rows nodes = tables_shown known.net (plain_table known.net) p r (concordant_tree known.net known.earlier v p f) (concordant_tree known.net known.earlier w r g) nodes
+shows_by b Q15 o known v w p r k f g head rows nodes = tables_shown known.net (strong_table known.net) p r (strongly_tree known.net known.earlier v p f) (strongly_tree known.net known.earlier w r g) nodes
+shows_by b q o known v w p r k f g head rows nodes = bare_shown b q o (λ net earlier kind. refl) known v w p r k f g head rows nodes
+
+pub joined : (b : Bool) (q : Question) → ComesAfter b q → IsJoinedAt b q
+joined b q o = record {
+  formed = λ known v p k f. block_formed known q v p (pairs_for b q known o k) f;
+  there = λ known v p k f valid. there_by b q o known v p k f (bare_or known.net known.earlier q v) valid;
+  back = λ known v p k s f valid. back_by b q o known v p k s f (bare_or known.net known.earlier q v) valid;
+  says = λ known v p k f. block_says known q v p (pairs_for b q known o k) f;
+  shows = λ known v w p r k f g head rows nodes. shows_by b q o known v w p r k f g head rows nodes;
+}

@@ -1,8 +1,8 @@
 -- The proof that the records below a head show is that of the block, but for its trees.
 use Rattle.std.proofs.Common.{◌≡◌, ◌∙◌, ◌-◌, ◌+◌, ◌++◌, ℕ, zero, suc, List, [], ◌∷◌, length, map, take, drop, refl, sym, ap, ap₂, subst}
 use Rattle.std.specs.Prelude.{ℤ, pos, replicate, codes}
-use Rattle.std.specs.List.{AllByRecursion, AllZip, range_with_len}
-use Rattle.std.proofs.lemmas.List.{take-map, drop-map}
+use Rattle.std.specs.List.{AllByRecursion, AllZip, flat_map, range_with_len}
+use Rattle.std.proofs.lemmas.List.{append-nil, take-map, drop-map}
 use Rattle.crn_vec.proofs.CallerLemmas.{abs_back, all_append}
 use Rattle.crn_vec.specs.Kept.{KeptNums}
 use Rattle.crn_cert.specs.declared.answer.Proof.TheVariants as proof
@@ -10,13 +10,20 @@ use Rattle.crn_cert.specs.declared.answer.RankProof.{RankProof}
 use Rattle.crn_cert.specs.Questions.{Question, Q1, Q2, Q3, Q4, Q5, Q6, Q7, Q8, Q9, Q10, Q11, Q12, Q13, Q14, Q15}
 use Rattle.crn_cert.specs.Valid.{linkage_count, pair_places}
 use Rattle.crn_cert.specs.declared.head_kind.HeadKind.{HeadKind}
-use Rattle.crn_cert.specs.declared.head_kind.HeadKind.TheVariants.{Classes, Strong, Rank, Yes, YesWeak, YesVec, NoReaction, NoVec, NoNumber, NoTerminal, NoClass, NoSum, NoDependence, NoCycle, NotRegular, OnlyZero, Plane, Wide, Rests}
-use Rattle.crn_cert.specs.Data.{Datum, Nums, Ints, Marks, Field, FreeSeveral, Side, Fits}
-use Rattle.crn_cert.specs.Table.{Row, row, rows, rank_rows, fields, sizes_of}
-use Rattle.crn_cert.specs.Blocks.{FitsRow, FitsHead, proof_of, rank_proof, list_in}
-use Rattle.crn_cert.proofs.CallerLemmas.{AllOf, given, fields_in, fields_of, head_back, rows_back}
+use Rattle.crn_cert.specs.declared.head_kind.HeadKind.TheVariants.{Classes, Strong, Rank, Deficiency, Yes, YesWeak, YesVec, YesSignal, No, NoReaction, NoVec, NoNumber, NoTerminal, NoClass, NoSum, NoDependence, NoCycle, NoPair, NotRegular, OnlyZero, Plane, NotApplicable, Wide, Budget, Rests}
+use Rattle.crn_cert.specs.Data.{Datum, Nums, Ints, Marks, Led, Field, FreeSeveral, Side, Fits}
+use Rattle.crn_cert.specs.Parts.{AreClassProofs}
+use Rattle.crn_cert.specs.Verdicts.{tight_rank}
+use Rattle.crn_cert.specs.Table.{Row, row, rows, rank_rows, class_rows, fields, sizes_of}
+use Rattle.crn_cert.specs.Blocks.{Block, FitsBlock, FitsRow, FitsHead, proof_of, rank_proof, class_proofs, rank_data, list_in}
+use Rattle.crn_cert.proofs.CallerLemmas.{AllOf, given, fields_in, fields_of, head_back, rows_back, classes_formed, blocks_are_of_answers}
 use Rattle.crn_ctext.specs.Questions.{later_numbers}
-use Rattle.crn_ctext.specs.Meaning.{Known, nums, lists, shapes_of, proof_of as said_proof, rank_proof as said_rank}
+use Rattle.crn_ctext.specs.Records.{Record}
+use Rattle.crn_ctext.specs.Answers.{rank_records}
+use Rattle.crn_ctext.specs.Meaning.{Known, nums, lists, shapes_of, proof_of as said_proof, rank_proof as said_rank, class_proofs as said_classes}
+use Rattle.crn_ctext.proofs.RanksLinked.{places_from, sizes_from, classes_said as ranks_said}
+use Rattle.crn_ctext.proofs.RecordsDerived.{classes_said}
+use Rattle.crn_ctext.proofs.BlocksFormed.{answers_formed, classes_tight}
 use Rattle.crn_ctext.proofs.Forms.{numbers_of, head_record, row_records}
 
 -- ---- numbers of records
@@ -92,63 +99,85 @@ ties_shown known (Ints zs ∷ us) f =
     ap (λ (t : List (List ℤ)). proof.Ties t) (free_lists (replicate count (row (codes "tie") (FreeSeveral width))) us (are_free (codes "tie") width count) f.1)
 ties_shown known (d ∷ us) f = absurd f.0
 
--- the questions whose answers have no trees, and whose proofs are not by class
-abbrev pub IsPlain : Question → Type 0
-IsPlain Q6 = ⊥
-IsPlain Q13 = ⊥
-IsPlain Q14 = ⊥
-IsPlain Q15 = ⊥
-IsPlain q = Unit {0}
+-- the proofs of the ranks of all classes
+classes_shown : (known : Known) (total : ℕ) (ds : List ℕ) (r : List Datum) → FitsHead Q6 (sizes_of known.net known.earlier) Deficiency (Led total ds ∷ []) → AllZip FitsRow (rows known.net known.earlier Q6 Deficiency (Led total ds ∷ [])) r → IsShown known Q6 Deficiency (Led total ds ∷ []) r
+classes_shown known total ds r h f =
+    let net = known.net in
+    let earlier = known.earlier in
+    let b : Block = record { kind = Deficiency; head = Led total ds ∷ []; rows = r; trees = [] } in
+    let fits : FitsBlock net earlier Q6 b = record { head = h; rows = f; trees = tt } in
+    let ps : List RankProof = class_proofs net earlier 1 ds r in
+    let each : AreClassProofs net earlier 1 ds ps = classes_formed net earlier total (kept ds) ps (answers_formed known Q6 b fits) in
+    let again : flat_map rank_data ps ≡ r = ap (λ (c : Block). c.rows) (blocks_are_of_answers net earlier Q6 b fits) in
+    let below : row_records (class_rows net earlier 1 ds) r ≡ flat_map rank_records ps = ap (λ (us : List Datum). row_records (class_rows net earlier 1 ds) us) (sym again) ∙ classes_said known 1 ds ps each in
+    let count : length ds ≡ linkage_count earlier = (let s = h.0.1 in s.long) in
+    let all : said_classes (sizes_from earlier 1 (linkage_count earlier)) (places_from net earlier 1 (linkage_count earlier)) (map pos ds) (flat_map rank_records ps) ≡ map tight_rank ps =
+    subst (λ (n : ℕ). said_classes (sizes_from earlier 1 n) (places_from net earlier 1 n) (map pos ds) (flat_map rank_records ps) ≡ map tight_rank ps) count (ranks_said net earlier 1 ds ps each) in
+    ap (λ (xs : List RankProof). proof.Ranks xs)
+    (ap₂ (λ (zs : List ℤ) (rs : List Record). said_classes (sizes_from earlier 1 (linkage_count earlier)) (places_from net earlier 1 (linkage_count earlier)) zs rs) (append-nil (map pos ds)) below ∙ all ∙ classes_tight known 1 ds r)
 
-shown_by : (known : Known) (q : Question) (kind : HeadKind) → IsPlain q → (a : HeadOf known q kind) (r : List Datum) → FitsHead q (sizes_of known.net known.earlier) kind (head_by known q kind a) → AllZip FitsRow (due known q kind a) r → IsShown known q kind (head_by known q kind a) r
-shown_by known Q1 Classes i a r h f = by_rows known Q1 Classes a r f (λ b. ap₂ (λ (x y : KeptNums). proof.Forest x y) (nums_back b.1.0) (nums_back b.1.1.0))
-shown_by known Q2 Strong i a r h f = by_rows known Q2 Strong a r f (λ b.
+shown_by : (known : Known) (q : Question) (kind : HeadKind) (a : HeadOf known q kind) (r : List Datum) → FitsHead q (sizes_of known.net known.earlier) kind (head_by known q kind a) → AllZip FitsRow (due known q kind a) r → IsShown known q kind (head_by known q kind a) r
+shown_by known Q1 Classes a r h f = by_rows known Q1 Classes a r f (λ b. ap₂ (λ (x y : KeptNums). proof.Forest x y) (nums_back b.1.0) (nums_back b.1.1.0))
+shown_by known Q2 Strong a r h f = by_rows known Q2 Strong a r f (λ b.
     ap₂ (λ (x y : KeptNums). proof.Strong x y (nums (map pos b.1.1.1.0)) (nums (map pos b.1.1.1.1.0)) (nums (map pos b.1.1.1.1.1.0))) (nums_back b.1.0) (nums_back b.1.1.0)
     ∙ ap₂ (λ (x y : KeptNums). proof.Strong (kept b.1.0) (kept b.1.1.0) x y (nums (map pos b.1.1.1.1.1.0))) (nums_back b.1.1.1.0) (nums_back b.1.1.1.1.0)
     ∙ ap (λ (x : KeptNums). proof.Strong (kept b.1.0) (kept b.1.1.0) (kept b.1.1.1.0) (kept b.1.1.1.1.0) x) (nums_back b.1.1.1.1.1.0))
-shown_by known Q3 Yes i a r h f = by_rows known Q3 Yes a r f (λ b. ap (λ (x : KeptNums). proof.Back x) (nums_back b.0))
-shown_by known Q3 NoReaction i a r h f = refl
-shown_by known Q4 Yes i a r h f = refl
-shown_by known Q4 NoReaction i a r h f = refl
-shown_by known Q5 Rank i a r h f = ap (λ (x : RankProof). proof.Rank x) (rank_shown (length known.net.names) a.0 (range_with_len 1 (length known.net.reactions)) r f)
-shown_by known Q5 Wide i a r h f = refl
-shown_by known Q7 YesVec i a r h f = refl
-shown_by known Q7 NoVec i a r h f = refl
-shown_by known Q7 Wide i a r h f = refl
-shown_by known Q8 YesVec i a r h f = refl
-shown_by known Q8 NoVec i a r h f = refl
-shown_by known Q8 Wide i a r h f = refl
-shown_by known Q9 YesWeak i a r h f = refl
-shown_by known Q9 NoNumber i a r h f = refl
-shown_by known Q9 Rests i a r h f = refl
-shown_by known Q10 Yes i a r h f = refl
-shown_by known Q10 NoTerminal i a r h f = refl
-shown_by known Q10 NoClass i a r h f = refl
-shown_by known Q10 NoSum i a r h f = refl
-shown_by known Q10 Rests i a r h f = refl
-shown_by known Q11 Yes i a r h f = ap (λ (t : List (List ℤ)). proof.Sides t) (sides_shown (length known.net.complexes) (pair_places known.net known.earlier) r f)
-shown_by known Q11 NoTerminal i a r h f = refl
-shown_by known Q11 NoDependence i a r h f = refl
-shown_by known Q11 NoCycle i a r h f = refl
-shown_by known Q11 Rests i a r h f = refl
-shown_by known Q12 YesVec i a r h f = ties_shown known r f
-shown_by known Q12 NotRegular i a r h f = refl
-shown_by known Q12 OnlyZero i a r h f =
+shown_by known Q3 Yes a r h f = by_rows known Q3 Yes a r f (λ b. ap (λ (x : KeptNums). proof.Back x) (nums_back b.0))
+shown_by known Q3 NoReaction a r h f = refl
+shown_by known Q4 Yes a r h f = refl
+shown_by known Q4 NoReaction a r h f = refl
+shown_by known Q5 Rank a r h f = ap (λ (x : RankProof). proof.Rank x) (rank_shown (length known.net.names) a.0 (range_with_len 1 (length known.net.reactions)) r f)
+shown_by known Q5 Wide a r h f = refl
+shown_by known Q6 Deficiency a r h f = classes_shown known a.0.0 a.0.1 r h f
+shown_by known Q6 Wide a r h f = refl
+shown_by known Q6 Rests a r h f = refl
+shown_by known Q7 YesVec a r h f = refl
+shown_by known Q7 NoVec a r h f = refl
+shown_by known Q7 Wide a r h f = refl
+shown_by known Q8 YesVec a r h f = refl
+shown_by known Q8 NoVec a r h f = refl
+shown_by known Q8 Wide a r h f = refl
+shown_by known Q9 YesWeak a r h f = refl
+shown_by known Q9 NoNumber a r h f = refl
+shown_by known Q9 Rests a r h f = refl
+shown_by known Q10 Yes a r h f = refl
+shown_by known Q10 NoTerminal a r h f = refl
+shown_by known Q10 NoClass a r h f = refl
+shown_by known Q10 NoSum a r h f = refl
+shown_by known Q10 Rests a r h f = refl
+shown_by known Q11 Yes a r h f = ap (λ (t : List (List ℤ)). proof.Sides t) (sides_shown (length known.net.complexes) (pair_places known.net known.earlier) r f)
+shown_by known Q11 NoTerminal a r h f = refl
+shown_by known Q11 NoDependence a r h f = refl
+shown_by known Q11 NoCycle a r h f = refl
+shown_by known Q11 Rests a r h f = refl
+shown_by known Q12 YesVec a r h f = ties_shown known r f
+shown_by known Q12 NotRegular a r h f = refl
+shown_by known Q12 OnlyZero a r h f =
     let width = length known.net.names + linkage_count known.earlier in
     let count = length known.net.complexes in
     ap (λ (t : List (List ℤ)). proof.Ties t) (free_lists (replicate count (row (codes "tie") (FreeSeveral width))) r (are_free (codes "tie") width count) f)
-shown_by known Q12 Plane i a r h f = refl
-shown_by known Q12 Wide i a r h f = refl
-shown_by known Q12 Rests i a r h f = refl
-shown_by known Q6 kind i a r h f = absurd i
-shown_by known Q13 kind i a r h f = absurd i
-shown_by known Q14 kind i a r h f = absurd i
-shown_by known Q15 kind i a r h f = absurd i
-shown_by known q kind i a r h f = absurd h
+shown_by known Q12 Plane a r h f = refl
+shown_by known Q12 Wide a r h f = refl
+shown_by known Q12 Rests a r h f = refl
+shown_by known Q13 YesSignal a r h f = refl
+shown_by known Q13 No a r h f = refl
+shown_by known Q13 NotApplicable a r h f = refl
+shown_by known Q13 Wide a r h f = refl
+shown_by known Q13 Budget a r h f = refl
+shown_by known Q13 Rests a r h f = refl
+shown_by known Q14 Yes a r h f = refl
+shown_by known Q14 NoPair a r h f = refl
+shown_by known Q14 Wide a r h f = refl
+shown_by known Q14 Budget a r h f = refl
+shown_by known Q15 Yes a r h f = refl
+shown_by known Q15 NoPair a r h f = refl
+shown_by known Q15 Wide a r h f = refl
+shown_by known Q15 Budget a r h f = refl
+shown_by known q kind a r h f = absurd h
 
-pub block_shown : (known : Known) (q : Question) (kind : HeadKind) (h r : List Datum) → IsPlain q → FitsHead q (sizes_of known.net known.earlier) kind h → AllZip FitsRow (rows known.net known.earlier q kind h) r → IsShown known q kind h r
-block_shown known q kind h r i f g =
+pub block_shown : (known : Known) (q : Question) (kind : HeadKind) (h r : List Datum) → FitsHead q (sizes_of known.net known.earlier) kind h → AllZip FitsRow (rows known.net known.earlier q kind h) r → IsShown known q kind h r
+block_shown known q kind h r f g =
     let a = head_back (fields q (sizes_of known.net known.earlier) kind) h f in
     let head = subst (λ (h : List Datum). FitsHead q (sizes_of known.net known.earlier) kind h) a.1 f in
     let below = subst (λ (h : List Datum). AllZip FitsRow (rows known.net known.earlier q kind h) r) a.1 g in
-    subst (λ (h : List Datum). IsShown known q kind h r) (sym a.1) (shown_by known q kind i a.0 r head below)
+    subst (λ (h : List Datum). IsShown known q kind h r) (sym a.1) (shown_by known q kind a.0 r head below)

@@ -38,11 +38,9 @@ pub use Rattle.crn_ctext.proofs.TreesAlike.{IsLike, HoldTogether, like_itself, l
 -- What records of given forms are, and what a course gives in two parts.
 pub use Rattle.crn_ctext.proofs.FieldsTyped.{zip_none}
 pub use Rattle.crn_ctext.proofs.AnswersApart.{zip_long}
-pub use Rattle.crn_ctext.proofs.FieldsTyped.{between_bits}
-pub use Rattle.crn_ctext.proofs.FieldsTyped.{between_shelves}
-pub use Rattle.crn_ctext.proofs.SignalLinked.{vector_then, spent_place, rests_place}
+pub use Rattle.crn_ctext.proofs.SignalLinked.{spent_place, rests_place}
 pub use Rattle.crn_ctext.proofs.RanksLinked.{record_is}
 pub use Rattle.crn_ctext.proofs.TreesAlike.{gives_parts}
--- The head of a verdict, and its lists with those of its proof, are those of its block.
-pub use Rattle.crn_ctext.proofs.FormedBefore.{HeadMayBe, IsFormedOf, IsSignalGap}
-pub use Rattle.crn_ctext.proofs.AsBefore.{formed_as_before, head_is_before}
+-- Records that fit the forms of a question, and after which no tree is due, are those of a formed answer.
+pub use Rattle.crn_ctext.proofs.RecordsFormed.{records_formed}
+pub use Rattle.crn_ctext.proofs.BlockLaws.{PairsFor}

@@ -12,7 +12,6 @@ use Rattle.crn_cert.specs.declared.answer.Answer.{Answer}
 use Rattle.crn_cert.specs.Questions.{Earlier, Question, Q1, Q2, Q3, Q4, Q5, Q6, Q7, Q8, Q9, Q10, Q11, Q12, Q13, Q14, Q15}
 use Rattle.crn_cert.specs.Built.{built}
 use Rattle.crn_cert.specs.Formed.{IsFormedOf, AreFormed}
-use Rattle.crn_ctext.proofs.AsBefore.{formed_as_before}
 use Rattle.crn_cert.specs.Trees.{Plan, Both, Three, RulesA, RulesB, Level, node_count}
 use Rattle.crn_cert.specs.TreeSizes.{HasFewNodes, HaveFewNodes}
 use Rattle.crn_cert.proofs.CallerLemmas.{IsTreeless}
@@ -20,12 +19,14 @@ use Rattle.crn_ctext.specs.Answers.{nodes, proof_nodes, all_records}
 use Rattle.crn_ctext.specs.Documents.{Share, FitsShare, document, document2}
 use Rattle.crn_ctext.specs.Linked.{records_of}
 use Rattle.crn_ctext.specs.Meaning.{Known, meaning}
-use Rattle.crn_ctext.proofs.Joined.{parts, joined}
+use Rattle.crn_ctext.proofs.Joined.{parts}
+use Rattle.crn_ctext.proofs.RecordsTold.{AreInOrder}
+use Rattle.crn_ctext.proofs.BlocksLinked.{joined}
 use Rattle.crn_ctext.proofs.KnownBefore.{AreKnown, after}
-use Rattle.crn_ctext.proofs.AnswersLinked.{AreLinkedFor, known_after, built_linked, known_next, formed_next}
-use Rattle.crn_ctext.proofs.TablesLinked.{IsTreeOrNone, tree_or_none}
+use Rattle.crn_ctext.proofs.AnswersLinked.{known_after, built_in_order, known_next, formed_next}
+use Rattle.crn_ctext.proofs.TablesLinked.{IsTreeOrNone, concordant_tree, strongly_tree}
 use Rattle.crn_ctext.proofs.SignalLinked.{HasSignalTrees, signal_trees}
-use Rattle.crn_ctext.proofs.WrittenAnswers.{IsShortQuestion, ShortFor, built_short, concordant_rows, strongly_rows}
+use Rattle.crn_ctext.proofs.WrittenAnswers.{IsShortQuestion, ShortFor, built_short}
 use Rattle.crn_ctext.proofs.DocumentsShort.{node_limit, AreFewNodes, first_few, second_few}
 
 -- ---- one answer
@@ -91,18 +92,18 @@ few_for Q10 s = short_few Q10 s
 few_for Q11 s = short_few Q11 s
 few_for Q12 s = short_few Q12 s
 few_for Q13 s = record {
-  few = λ net earlier v p h few. signals_few net earlier p (signal_trees net earlier v p ((formed_as_before Q13 net earlier v p).0 h).1) few;
+  few = λ net earlier v p h few. signals_few net earlier p (signal_trees net earlier v p h) few;
 }
 few_for Q14 s = record {
-  few = λ net earlier v p h few. one_few MAX_BUDGET net p (tree_or_none net v p (concordant_rows net earlier v p h)) few;
+  few = λ net earlier v p h few. one_few MAX_BUDGET net p (concordant_tree net earlier v p h) few;
 }
 few_for Q15 s = record {
-  few = λ net earlier v p h few. one_few MAX_BUDGET net p (tree_or_none net v p (strongly_rows net earlier v p h)) few;
+  few = λ net earlier v p h few. one_few MAX_BUDGET net p (strongly_tree net earlier v p h) few;
 }
 
 -- ---- all answers
 
-few_by : (b : Bool) (qs : List Question) → AreLinkedFor b qs → AllByRecursion ShortFor qs → (known : Known) (answers : List Answer) → AreKnown b known.earlier → AreFormed known.net known.earlier qs answers → HaveFewNodes MAX_BUDGET answers
+few_by : (b : Bool) (qs : List Question) → AreInOrder b qs → AllByRecursion ShortFor qs → (known : Known) (answers : List Answer) → AreKnown b known.earlier → AreFormed known.net known.earlier qs answers → HaveFewNodes MAX_BUDGET answers
     → AreFewNodes qs known (all_records meaning qs known answers)
 unfolding AreFewNodes all_records
 few_by b [] links shorts known [] n f few = refl
@@ -121,7 +122,7 @@ few_by b (q ∷ qs) links shorts known (a ∷ answers) n f few =
 
 -- the records of formed answers whose trees have few nodes
 answers_few : (net : Net) (answers : List Answer) → AreFormed net [] built answers → HaveFewNodes MAX_BUDGET answers → AreFewNodes built (meaning.start net) (records_of net answers)
-answers_few net answers f few = few_by false built built_linked built_short (meaning.start net) answers tt f few
+answers_few net answers f few = few_by false built built_in_order built_short (meaning.start net) answers tt f few
 
 -- ---- documents
 

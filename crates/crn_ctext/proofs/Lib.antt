@@ -59,7 +59,6 @@ mod KnownBefore
 mod Joined
 mod TablesLinked
 mod SignalLinked
-mod Linking
 mod AnswersLinked
 mod PrefixesSaid
 mod RecordsLinked
@@ -68,7 +67,6 @@ mod FewNodes
 mod GoodLaws
 mod DueSteps
 mod WordsApart
-mod FormedExamples
 mod LineNumbers
 mod DigitGroups
 mod LineCame
@@ -78,8 +76,6 @@ mod LineForms
 mod LineTries
 mod LineSought
 mod LineRows
-mod FormedBefore
-mod AsBefore
 mod BlockLaws
 mod HeadsDerived
 mod RowsDerived
@@ -93,4 +89,5 @@ mod BlocksSaid
 mod RecordsTold
 mod Forms
 mod BlocksShown
+mod RecordsFormed
 mod BlocksLinked

@@ -1,36 +1,29 @@
--- Ranks as records: those of a formed proof fit its forms, say the proof, and follow from the forms; so for each linkage class.
-use Rattle.std.proofs.Common.{◌≡◌, ◌≢◌, ◌≤◌, ◌<◌, ◌+◌, ◌-◌, ◌++◌, ◌∙◌, ℕ, zero, suc, List, [], ◌∷◌, length, map, take, drop, refl, sym, ap, ap₂, subst, inl, inr, arith}
-use Rattle.std.specs.Prelude.{ℤ, pos, codes, replicate, slice_index}
-use Rattle.std.specs.List.{AllByRecursion, AllZip, flat_map, range_with_len}
-use Rattle.std.proofs.lemmas.Int.{ints}
+-- Ranks as records: those of a formed proof say it; so for each linkage class.
+use Rattle.std.proofs.Common.{◌≡◌, ◌≢◌, ◌≤◌, ◌<◌, ◌+◌, ◌-◌, ◌++◌, ◌∙◌, ℕ, suc, List, [], ◌∷◌, length, map, take, drop, refl, sym, ap, ap₂, subst, inl, inr, arith}
+use Rattle.std.specs.Prelude.{ℤ, pos, codes}
+use Rattle.std.specs.List.{flat_map, range_with_len}
 use Rattle.std.proofs.lemmas.List.{append-nil, length-append, length-map, take_at, drop_at}
 use Rattle.std.proofs.Math.Numerals.{add-one}
 use Rattle.crn_vec.specs.Lists.{IsIn, IsAscending}
 use Rattle.crn_vec.specs.Network.{Net}
 use Rattle.crn_vec.specs.Deficiency.{class_members}
-use Rattle.crn_vec.proofs.CallerLemmas.{eq_or, above_in, above_ascending, all_from, abs_back}
+use Rattle.crn_vec.proofs.CallerLemmas.{eq_or, above_in, above_ascending, abs_back}
 use Rattle.crn_cert.specs.declared.answer.RankProof.{RankProof}
 use Rattle.crn_cert.specs.Questions.{Earlier}
 use Rattle.crn_cert.specs.Tests.{Test}
-use Rattle.crn_cert.specs.Ranges.{AreFrom, AreFree, AreFreeRows}
-use Rattle.crn_cert.specs.Data.{IsBasisOf}
+use Rattle.crn_cert.specs.Ranges.{AreFree}
 use Rattle.crn_cert.specs.Parts.{IsRankProof, AreClassProofs}
 use Rattle.crn_cert.specs.RankTests.{rank_tests}
 use Rattle.crn_cert.specs.Valid.{linkage, class_places, class_rank_tests}
 use Rattle.crn_cert.proofs.CallerLemmas.{class_ascending}
-use Rattle.crn_ctext.specs.Records.{Record, Form, Field, Rising, Members, Takes, AreNarrow, AreOf, AreBetween, Fits}
-use Rattle.crn_ctext.specs.Kinds.{small, just, record_form, free_form}
-use Rattle.crn_ctext.specs.Questions.{rank_forms, class_forms}
+use Rattle.crn_ctext.specs.Records.{Record, Fits}
+use Rattle.crn_ctext.specs.Kinds.{free_form}
 use Rattle.crn_ctext.specs.Documents.{one_word}
-use Rattle.crn_ctext.specs.Answers.{small_record, rank_records}
-use Rattle.crn_ctext.specs.Meaning.{Known, sizes_of, lengths, lists, rank_proof, class_proofs}
+use Rattle.crn_ctext.specs.Answers.{rank_records}
+use Rattle.crn_ctext.specs.Meaning.{lengths, lists, rank_proof, class_proofs}
 use Rattle.crn_cert.specs.Verdicts.{tight_rank}
 
--- ---- numbers
-
-pub between : (least greatest : ℕ) (xs : List ℕ) → AllByRecursion (λ x. (least ≤ x) × (x ≤ greatest)) xs → AreBetween (pos least) (pos greatest) (map pos xs)
-between least greatest [] p = tt
-between least greatest (x ∷ xs) p = ((omega (arith, ints, p.0.0), omega (arith, ints, p.0.1)), between least greatest xs p.1)
+-- ---- records
 
 pub record_is : (r : Record) (words : List (List ℕ)) (numbers : List ℤ) → r.words ≡ words → r.numbers ≡ numbers → r ≡ record { words = words; numbers = numbers }
 record_is r words numbers w n = ap₂ (λ (ws : List (List ℕ)) (zs : List ℤ). record { words = ws; numbers = zs }) w n
@@ -70,46 +63,11 @@ free_row word count r f =
     let all : p.0 ≡ r.numbers = sym (p.2 ∙ ap (λ (t : List ℤ). p.0 ++ t) p.4 ∙ append-nil p.0) in
     (record_is r (word ∷ []) r.numbers f.0 refl, subst (AreFree count) all (record { long = p.3.0; each = p.3.1 }))
 
-rows_fit : (word : List ℕ) (width : ℕ) (rows : List (List ℤ)) → AllByRecursion (AreFree width) rows → AllZip Fits (replicate (length rows) (free_form word width)) (map (one_word word) rows)
-rows_fit word width [] a = tt
-rows_fit word width (r ∷ rs) a = (free_fits word width r a.0, rows_fit word width rs a.1)
-
-pub free_rows_fit : (word : List ℕ) (count width : ℕ) (rows : List (List ℤ)) → AreFreeRows count width rows → AllZip Fits (replicate count (free_form word width)) (map (one_word word) rows)
-free_rows_fit word count width rows a =
-    let long = a.long in
-    let each = a.each in
-    subst (λ (n : ℕ). AllZip Fits (replicate n (free_form word width)) (map (one_word word) rows)) long (rows_fit word width rows each)
-
--- ---- forms one after another
-
-zip_both : (forms more : List Form) (rows rest : List Record) → AllZip Fits forms rows → AllZip Fits more rest → AllZip Fits (forms ++ more) (rows ++ rest)
-zip_both [] more [] rest p q = q
-zip_both [] more (r ∷ rows) rest p q = absurd p
-zip_both (form ∷ forms) more [] rest p q = absurd p
-zip_both (form ∷ forms) more (r ∷ rows) rest p q = (p.0, zip_both forms more rows rest p.1 q)
-
 -- ---- a rank
 
 -- a proof of these lists
 abbrev pub proof_with : List ℕ → List (List ℤ) → List (List ℤ) → RankProof
 proof_with base duals combs = record { base = record { list = base; spare = 0 }; duals = duals; combs = combs }
-
-base_fits : (rank : ℕ) (members base : List ℕ) → length base ≡ rank → IsAscending base → ((r : ℕ) → IsIn r base → IsIn r members) → Fits (record_form (codes "base") (Members rank members ∷ [])) (small_record (codes "base") base)
-base_fits rank members base long up from = (refl, (map pos base, [], sym (append-nil (map pos base)), ((base, refl, long, up, all_from (λ r. IsIn r members) base from), tt), refl))
-
-pub rank_fits : (known : Known) (members : List ℕ) (rank : ℕ) (p : RankProof) → IsRankProof known.net members rank p → AllZip Fits (rank_forms (sizes_of known) rank members) (rank_records p)
-rank_fits known members rank p f =
-    let long = f.long in
-    let up = f.ascending in
-    let from = f.from in
-    let duals = f.duals in
-    let combs = f.combs in
-    let other = length members - rank in
-    let last : AllZip Fits (replicate other (free_form (codes "comb") (1 + rank))) (map (one_word (codes "comb")) p.combs) = subst (λ (w : ℕ). AllZip Fits (replicate other (free_form (codes "comb") w)) (map (one_word (codes "comb")) p.combs)) (let w : suc rank ≡ 1 + rank = omega arith in w) (free_rows_fit (codes "comb") other (suc rank) p.combs combs) in (
-      base_fits rank members p.base.list long up from,
-      zip_both (replicate rank (free_form (codes "dual") (length known.net.names))) (replicate other (free_form (codes "comb") (1 + rank))) (map (one_word (codes "dual")) p.duals) (map (one_word (codes "comb")) p.combs)
-          (free_rows_fit (codes "dual") rank (length known.net.names) p.duals duals) last,
-    )
 
 lists_back : (us vs : List (List ℤ)) → lists (map (one_word (codes "dual")) us ++ map (one_word (codes "comb")) vs) ≡ us ++ vs
 lists_back [] [] = refl
@@ -151,21 +109,9 @@ sizes_from earlier k n = lengths (map (λ j. class_members (linkage earlier) j) 
 next : (k : ℕ) → suc k ≡ k + 1
 next k = sym (add-one k)
 
-abbrev pub forms_from : Known → ℕ → List ℕ → List Form
-forms_from known k ds = class_forms (sizes_of known) (sizes_from known.earlier k (length ds)) (places_from known.net known.earlier k (length ds)) (map pos ds)
-
 -- the rank that the class has by its deficiency
 abbrev rank_at : Earlier → ℕ → ℕ → ℕ
 rank_at earlier k d = length (class_members (linkage earlier) k) - 1 - d
-
-pub classes_fit : (known : Known) (k : ℕ) (ds : List ℕ) (ps : List RankProof) → AreClassProofs known.net known.earlier k ds ps → AllZip Fits (forms_from known k ds) (flat_map rank_records ps)
-classes_fit known k [] [] f = tt
-classes_fit known k [] (p ∷ ps) f = absurd f
-classes_fit known k (d ∷ ds) [] f = absurd f
-classes_fit known k (d ∷ ds) (p ∷ ps) f =
-    let members = class_places known.net known.earlier k in
-    let more = subst (λ (j : ℕ). AllZip Fits (forms_from known j ds) (flat_map rank_records ps)) (next k) (classes_fit known (suc k) ds ps f.1) in
-    zip_both (rank_forms (sizes_of known) (rank_at known.earlier k d) members) (forms_from known (k + 1) ds) (rank_records p) (flat_map rank_records ps) (rank_fits known members (rank_at known.earlier k d) p f.0) more
 
 abbrev proofs_from : Net → Earlier → ℕ → List ℕ → List Record → List RankProof
 proofs_from net earlier k ds rs = class_proofs (sizes_from earlier k (length ds)) (places_from net earlier k (length ds)) (map pos ds) rs
@@ -197,41 +143,3 @@ said_again (p ∷ ps) = ap (λ (t : List RankProof). tight_rank p ∷ t) (said_a
 pub tests_said : (net : Net) (earlier : Earlier) (part k : ℕ) (ps : List RankProof) → class_rank_tests net earlier part k (map tight_rank ps) ≡ class_rank_tests net earlier part k ps
 tests_said net earlier part k [] = refl
 tests_said net earlier part k (p ∷ ps) = ap (λ (ts : List {1} Test). rank_tests net (class_places net earlier k) part p.base.list p.duals p.combs ++ ts) (tests_said net earlier (part + 1 + length p.duals + length p.combs) (suc k) ps)
-
--- how many reactions a class has, by its place
-pub places_at : (net : Net) (earlier : Earlier) (a n k : ℕ) → k < n → slice_index (lengths (places_from net earlier a n)) k ≡ length (class_places net earlier (a + k))
-places_at net earlier a zero k lt = absurd (omega (arith, lt))
-places_at net earlier a (suc n) zero lt = ap (λ (j : ℕ). length (class_places net earlier j)) (omega arith)
-places_at net earlier a (suc n) (suc k) lt = places_at net earlier (a + 1) n k (omega (arith, lt)) ∙ ap (λ (j : ℕ). length (class_places net earlier j)) (omega arith)
-
--- ---- open by a wide vector
-
--- the numbers of an open head
-abbrev pub FitFields : List Field → List ℤ → Type 0
-FitFields fields zs = AreOf (λ field part. Takes field part × AreNarrow field part) fields zs
-
--- one number, and then others
-pub number_then : (least greatest n : ℕ) (fields : List Field) (zs : List ℤ) → least ≤ n → n ≤ greatest → FitFields fields zs → FitFields (small 1 least greatest ∷ fields) (pos n ∷ zs)
-number_then least greatest n fields zs a b f = (pos n ∷ [], zs, refl, ((refl, ((omega (arith, ints, a), omega (arith, ints, b)), tt)), tt), f)
-
-rising_fits : (count greatest : ℕ) (xs : List ℕ) → AreFrom count 1 greatest xs → IsAscending xs → FitFields (Rising count greatest ∷ []) (map pos xs)
-rising_fits count greatest xs p up =
-    let long = p.long in
-    let each = p.each in
-    (map pos xs, [], sym (append-nil (map pos xs)), ((length-map xs pos ∙ long, (xs, refl, up, between 1 greatest xs each)), tt), refl)
-
--- the fields of an index and a basis, also after the class, which is none
-abbrev basis_fields : ℕ → ℕ → List Field
-basis_fields columns rows = small 1 1 (columns + rows) ∷ Rising columns (columns + rows) ∷ []
-
-abbrev open_fields : ℕ → ℕ → List Field
-open_fields columns rows = just 0 ∷ basis_fields columns rows
-
-pub wide_fits : (system columns rows index : ℕ) (basis : List ℕ) → IsBasisOf columns rows index basis → FitFields (just system ∷ just 0 ∷ small 1 1 (columns + rows) ∷ Rising columns (columns + rows) ∷ []) (map pos (system ∷ 0 ∷ index ∷ basis))
-wide_fits system columns rows index basis b =
-    let at = b.coordinate in
-    let members = b.members in
-    let up = b.ascending in
-    let all = columns + rows in
-    number_then system system system (open_fields columns rows) (map pos (0 ∷ index ∷ basis)) (omega arith) (omega arith) (number_then 0 0 0 (basis_fields columns rows) (map pos (index ∷ basis)) (omega arith) (omega arith)
-    (number_then 1 all index (Rising columns all ∷ []) (map pos basis) at.0 at.1 (rising_fits columns all basis members up)))

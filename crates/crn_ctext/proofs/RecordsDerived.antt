@@ -1,7 +1,7 @@
 -- The records of a formed answer are those of its block.
 use Rattle.std.proofs.Common.{◌≡◌, ◌+◌, ◌-◌, ◌++◌, ◌∙◌, ℕ, zero, suc, Bool, true, false, List, [], ◌∷◌, length, map, refl, sym, ap, ap₂, arith}
 use Rattle.std.specs.Prelude.{ℤ, pos, replicate, codes}
-use Rattle.std.specs.List.{flat_map, range_with_len}
+use Rattle.std.specs.List.{AllZip, flat_map, range_with_len}
 use Rattle.std.proofs.lemmas.List.{append-nil}
 use Rattle.crn_cert.specs.declared.answer.Gap.TheVariants.{Wide as WideGap, Budget as Spent, Rests as RestsOn}
 use Rattle.crn_cert.specs.declared.answer.Verdict.{Verdict}
@@ -18,13 +18,24 @@ use Rattle.crn_ctext.specs.Documents.{one_word}
 use Rattle.crn_ctext.specs.Answers.{head_word, rank_records, side_records, small_record}
 use Rattle.crn_ctext.specs.Meaning.{Known, is_yes, pairs_of}
 use Rattle.crn_cert.specs.Data.{Datum, Ints, FreeSeveral, Side}
-use Rattle.crn_cert.specs.Table.{Row, row, rank_rows, rank_in, class_rows}
+use Rattle.crn_cert.specs.Table.{Row, TreeRow, row, rank_rows, rank_in, class_rows, one_or_two}
 use Rattle.crn_cert.specs.Formed.{IsFormedOf}
-use Rattle.crn_cert.specs.Blocks.{rank_data, side_data}
+use Rattle.crn_cert.specs.Blocks.{FitsTree, rank_data, side_data, trees_of, proof_by}
+use Rattle.crn_cert.specs.Verdicts.{tight_proof}
 use Rattle.crn_ctext.proofs.Forms.{row_record, row_records}
 use Rattle.crn_ctext.proofs.BlockLaws.{PairsFor, RecordsAsBefore, AreRecordsOf}
-use Rattle.crn_ctext.proofs.AsBefore.{bare, none_fit, formed_as_before}
-use Rattle.crn_cert.proofs.CallerLemmas.{rank_long, below_long, duals_long}
+use Rattle.crn_cert.proofs.CallerLemmas.{rank_long, below_long, duals_long, free_there, rank_formed, classes_formed, sides_formed}
+
+-- if no tree is due, a proof by trees is nothing
+pub bare : (P : Proof → Type 0) (p : Proof) → AllZip FitsTree [] (trees_of p) → proof_by (trees_of p) ≡ tight_proof p → P Nothing → P p
+bare P Nothing t e k = k
+bare P (One tree) t e k = absurd t
+bare P (Two tree second) t e k = absurd t
+bare P p t e k = absurd cc
+
+none_fit : (b : Bool) (t : TreeRow) → AllZip FitsTree (one_or_two b t) [] → ⊥
+none_fit true t f = f
+none_fit false t f = f
 
 free_records : (word : List ℕ) (count width : ℕ) (us : List (List ℤ)) → length us ≡ count → row_records (replicate count (row word (FreeSeveral width))) (map Ints us) ≡ map (one_word word) us
 free_records word zero width [] e = refl
@@ -45,7 +56,7 @@ rank_said species rank members p d c =
     (both_records (replicate rank (row (codes "dual") (FreeSeveral species))) (replicate n (row (codes "comb") (FreeSeveral (suc rank)))) (map Ints p.duals) (map Ints p.combs) (duals_long species rank p.duals d)
     ∙ ap₂ (λ (x y : List Record). x ++ y) (free_records (codes "dual") rank species p.duals d) (free_records (codes "comb") n (suc rank) p.combs c))
 
-classes_said : (known : Known) (k : ℕ) (ds : List ℕ) (ps : List RankProof) → AreClassProofs known.net known.earlier k ds ps → row_records (class_rows known.net known.earlier k ds) (flat_map rank_data ps) ≡ flat_map rank_records ps
+pub classes_said : (known : Known) (k : ℕ) (ds : List ℕ) (ps : List RankProof) → AreClassProofs known.net known.earlier k ds ps → row_records (class_rows known.net known.earlier k ds) (flat_map rank_data ps) ≡ flat_map rank_records ps
 classes_said known k [] [] f = refl
 classes_said known k [] (p ∷ ps) f = absurd f
 classes_said known k (d ∷ ds) [] f = absurd f
@@ -127,7 +138,7 @@ weak_as_before known v p e f = let b = f.0 in absurd b.head
 -- ---- question 5
 
 rank_as_before : (known : Known) (v : Verdict) (p : Proof) → PairsFor Q5 known → IsFormedOf known.net known.earlier Q5 v p → AreRecordsOf known Q5 v p
-rank_as_before known (Rank rank base) (RankRows p) e f = (let g = formed_as_before Q5 known.net known.earlier (Rank rank base) (RankRows p) in let r = (g.0 f).1.1 in let d = r.duals in let c = r.combs in ap (λ (t : List Record). small_head Q5 (pos rank ∷ []) ∷ t) (append-nil (rank_records p) ∙ sym (rank_said (length known.net.names) rank (range_with_len 1 (length known.net.reactions)) p d.long c.long)))
+rank_as_before known (Rank rank base) (RankRows p) e f = (let r = rank_formed known.net known.earlier rank base p f in let d = r.duals in let c = r.combs in ap (λ (t : List Record). small_head Q5 (pos rank ∷ []) ∷ t) (append-nil (rank_records p) ∙ sym (rank_said (length known.net.names) rank (range_with_len 1 (length known.net.reactions)) p d.long c.long)))
 rank_as_before known (Unknown (WideGap system class index basis)) p e f = let whole = f.0 in bare (λ (x : Proof). AreRecordsOf known Q5 (Unknown (WideGap system class index basis)) x) p whole.trees f.1.1 (wide_said Q5 system class index basis)
 rank_as_before known (Rank rank base) p e f = absurd (let s = f.1.1 in cc)
 rank_as_before known (Unknown (Spent nodes)) p e f = let b = f.0 in absurd b.head
@@ -137,7 +148,7 @@ rank_as_before known v p e f = let b = f.0 in absurd b.head
 -- ---- question 6
 
 deficiency_as_before : (known : Known) (v : Verdict) (p : Proof) → PairsFor Q6 known → IsFormedOf known.net known.earlier Q6 v p → AreRecordsOf known Q6 v p
-deficiency_as_before known (Deficiency total classes) (Ranks list) e f = (let g = formed_as_before Q6 known.net known.earlier (Deficiency total classes) (Ranks list) in let r = (g.0 f).1 in ap₂ (λ (x : List ℤ) (t : List Record). small_head Q6 x ∷ t) (sym (append-nil (map pos (total ∷ classes.list)))) (append-nil (flat_map rank_records list) ∙ sym (classes_said known 1 classes.list list r)))
+deficiency_as_before known (Deficiency total classes) (Ranks list) e f = (let r = classes_formed known.net known.earlier total classes list f in ap₂ (λ (x : List ℤ) (t : List Record). small_head Q6 x ∷ t) (sym (append-nil (map pos (total ∷ classes.list)))) (append-nil (flat_map rank_records list) ∙ sym (classes_said known 1 classes.list list r)))
 deficiency_as_before known (Unknown (WideGap system class index basis)) p e f = let whole = f.0 in bare (λ (x : Proof). AreRecordsOf known Q6 (Unknown (WideGap system class index basis)) x) p whole.trees f.1.1 (wide_said Q6 system class index basis)
 deficiency_as_before known (Unknown (RestsOn question)) p e f = let whole = f.0 in bare (λ (x : Proof). AreRecordsOf known Q6 (Unknown (RestsOn question)) x) p whole.trees f.1.1 (refl)
 deficiency_as_before known (Deficiency total classes) p e f = absurd (let s = f.1.1 in cc)
@@ -189,7 +200,7 @@ one_as_before known v p e f = let b = f.0 in absurd b.head
 -- ---- question 11
 
 regular_as_before : (known : Known) (v : Verdict) (p : Proof) → PairsFor Q11 known → IsFormedOf known.net known.earlier Q11 v p → AreRecordsOf known Q11 v p
-regular_as_before known Yes (Sides sides) e f = (let g = formed_as_before Q11 known.net known.earlier Yes (Sides sides) in let r = (g.0 f).1 in ap (λ (t : List Record). yes_head Q11 ∷ t) (append-nil (side_records (pairs_of known) sides) ∙ ap (λ (ps : List ℕ). side_records ps sides) e ∙ sym (sides_said (length known.net.complexes) (pair_places known.net known.earlier) sides r.long)))
+regular_as_before known Yes (Sides sides) e f = (let r = sides_formed known.net known.earlier sides f in ap (λ (t : List Record). yes_head Q11 ∷ t) (append-nil (side_records (pairs_of known) sides) ∙ ap (λ (ps : List ℕ). side_records ps sides) e ∙ sym (sides_said (length known.net.complexes) (pair_places known.net known.earlier) sides r.long)))
 regular_as_before known (NoTerminal k count) p e f = let whole = f.0 in bare (λ (x : Proof). AreRecordsOf known Q11 (NoTerminal k count) x) p whole.trees f.1.1 (refl)
 regular_as_before known NoDependence p e f = let whole = f.0 in bare (λ (x : Proof). AreRecordsOf known Q11 NoDependence x) p whole.trees f.1.1 (refl)
 regular_as_before known (NoCycle r walk) p e f = let whole = f.0 in bare (λ (x : Proof). AreRecordsOf known Q11 (NoCycle r walk) x) p whole.trees f.1.1 (refl)
@@ -202,9 +213,9 @@ regular_as_before known v p e f = let b = f.0 in absurd b.head
 -- ---- question 12
 
 confluence_as_before : (known : Known) (v : Verdict) (p : Proof) → PairsFor Q12 known → IsFormedOf known.net known.earlier Q12 v p → AreRecordsOf known Q12 v p
-confluence_as_before known (YesVec vector) (Ties ties) e f = (let g = formed_as_before Q12 known.net known.earlier (YesVec vector) (Ties ties) in let r = (g.0 f).1.1 in ap (λ (t : List Record). yes_head Q12 ∷ one_word (codes "vec") vector.list ∷ t) (append-nil (map (one_word (codes "tie")) ties) ∙ sym (free_records (codes "tie") _ _ ties r.long)))
+confluence_as_before known (YesVec vector) (Ties ties) e f = (let b = f.0 in let below = b.rows in let r = free_there (codes "tie") _ _ ties below.1 in ap (λ (t : List Record). yes_head Q12 ∷ one_word (codes "vec") vector.list ∷ t) (append-nil (map (one_word (codes "tie")) ties) ∙ sym (free_records (codes "tie") _ _ ties r.long)))
 confluence_as_before known NotRegular p e f = let whole = f.0 in bare (λ (x : Proof). AreRecordsOf known Q12 NotRegular x) p whole.trees f.1.1 (refl)
-confluence_as_before known OnlyZero (Ties ties) e f = (let g = formed_as_before Q12 known.net known.earlier OnlyZero (Ties ties) in let r = (g.0 f).1 in ap (λ (t : List Record). zero_head Q12 ∷ t) (append-nil (map (one_word (codes "tie")) ties) ∙ sym (free_records (codes "tie") _ _ ties r.long)))
+confluence_as_before known OnlyZero (Ties ties) e f = (let b = f.0 in let below = b.rows in let r = free_there (codes "tie") _ _ ties below in ap (λ (t : List Record). zero_head Q12 ∷ t) (append-nil (map (one_word (codes "tie")) ties) ∙ sym (free_records (codes "tie") _ _ ties r.long)))
 confluence_as_before known (Plane first second one two) p e f = let whole = f.0 in bare (λ (x : Proof). AreRecordsOf known Q12 (Plane first second one two) x) p whole.trees f.1.1 (refl)
 confluence_as_before known (Unknown (WideGap system class index basis)) p e f = let whole = f.0 in bare (λ (x : Proof). AreRecordsOf known Q12 (Unknown (WideGap system class index basis)) x) p whole.trees f.1.1 (wide_said Q12 system class index basis)
 confluence_as_before known (Unknown (RestsOn question)) p e f = let whole = f.0 in bare (λ (x : Proof). AreRecordsOf known Q12 (Unknown (RestsOn question)) x) p whole.trees f.1.1 (refl)

@@ -15,17 +15,16 @@ use Rattle.crn_cert.specs.Trees.{Plan, Both, Three, RulesA, RulesB, Level}
 use Rattle.crn_vec.specs.Network.{Net, IsNetwork}
 use Rattle.crn_vec.proofs.CallerLemmas.{all_append}
 use Rattle.crn_cert.proofs.CallerLemmas.{shares_fit as cut_shares_fit, IsTreeless, treeless}
-use Rattle.crn_ctext.proofs.TablesLinked.{TableRows, tree_or_none}
+use Rattle.crn_ctext.proofs.TablesLinked.{concordant_tree, strongly_tree}
 use Rattle.crn_ctext.proofs.SignalLinked.{signal_trees}
 use Rattle.crn_ctext.proofs.CutLists.{one_tree_cuts, signal_cuts}
 use Rattle.crn_cert.specs.Built.{built}
 use Rattle.crn_cert.specs.Formed.{AreFormed, IsFormedOf, IsFormed as IsFormedAnswer}
-use Rattle.crn_ctext.proofs.FormedBefore.{RowsMayBe, RowsLinkage, RowsStrong}
-use Rattle.crn_ctext.proofs.AsBefore.{formed_as_before}
 use Rattle.crn_cert.specs.declared.head_kind.HeadKind.{HeadKind}
 use Rattle.crn_cert.specs.Table.{trees}
 use Rattle.crn_cert.specs.Questions.{Earlier, Question, Q1, Q2, Q3, Q4, Q5, Q6, Q7, Q8, Q9, Q10, Q11, Q12, Q13, Q14, Q15, on}
 use Rattle.crn_cert.specs.Valid.{pair_places}
+use Rattle.crn_cert.specs.declared.answer.Gap.TheVariants.{Wide, Budget, Rests}
 use Rattle.crn_cert.specs.declared.answer.Verdict.{Verdict}
 use Rattle.crn_cert.specs.declared.answer.Verdict.TheVariants.{Classes, Strong, Unknown}
 use Rattle.crn_cert.specs.declared.answer.Proof.{Proof}
@@ -81,26 +80,21 @@ same_records q s other a e = ap (λ (rs : List Record). head_of q a.verdict ∷ 
 
 -- ---- formed answers to the first two questions have no sides
 
-sees_nothing : (p : Proof) → p ≡ proof.Nothing → SeesNoPairs p
-sees_nothing p e = rw e tt
+sees_first : (net : Net) (earlier : Earlier) (v : Verdict) (p : Proof) → IsFormedOf net earlier Q1 v p → SeesNoPairs p
+sees_first net earlier (Classes count label) (proof.Sides rows) f = absurd (let s = f.1.1 in cc)
+sees_first net earlier (Unknown (Wide system class index basis)) (proof.Sides rows) f = let b = f.0 in absurd b.head
+sees_first net earlier (Unknown (Budget nodes)) (proof.Sides rows) f = let b = f.0 in absurd b.head
+sees_first net earlier (Unknown (Rests question)) (proof.Sides rows) f = let b = f.0 in absurd b.head
+sees_first net earlier v (proof.Sides rows) f = let b = f.0 in absurd b.head
+sees_first net earlier v p f = tt
 
-sees_linkage : (net : Net) (v : Verdict) (p : Proof) → RowsLinkage net v p → SeesNoPairs p
-sees_linkage net (Classes count label) (proof.Forest up depth) h = tt
-sees_linkage net (Classes count label) p h = absurd h
-sees_linkage net v p h = absurd h
-
-sees_first : (net : Net) (earlier : Earlier) (v : Verdict) (p : Proof) → RowsMayBe net earlier Q1 v p → SeesNoPairs p
-sees_first net earlier (Unknown gap) p h = sees_nothing p h
-sees_first net earlier v p h = sees_linkage net v p h
-
-sees_strong : (net : Net) (v : Verdict) (p : Proof) → RowsStrong net v p → SeesNoPairs p
-sees_strong net (Strong count terminal label exit) (proof.Strong from from_depth to to_depth level) h = tt
-sees_strong net (Strong count terminal label exit) p h = absurd h
-sees_strong net v p h = absurd h
-
-sees_second : (net : Net) (earlier : Earlier) (v : Verdict) (p : Proof) → RowsMayBe net earlier Q2 v p → SeesNoPairs p
-sees_second net earlier (Unknown gap) p h = sees_nothing p h
-sees_second net earlier v p h = sees_strong net v p h
+sees_second : (net : Net) (earlier : Earlier) (v : Verdict) (p : Proof) → IsFormedOf net earlier Q2 v p → SeesNoPairs p
+sees_second net earlier (Strong count terminal label exit) (proof.Sides rows) f = absurd (let s = f.1.1 in cc)
+sees_second net earlier (Unknown (Wide system class index basis)) (proof.Sides rows) f = let b = f.0 in absurd b.head
+sees_second net earlier (Unknown (Budget nodes)) (proof.Sides rows) f = let b = f.0 in absurd b.head
+sees_second net earlier (Unknown (Rests question)) (proof.Sides rows) f = let b = f.0 in absurd b.head
+sees_second net earlier v (proof.Sides rows) f = let b = f.0 in absurd b.head
+sees_second net earlier v p f = tt
 
 -- a formed answer to the question has no trees
 abbrev pub IsShortQuestion : Question → Type 0
@@ -135,33 +129,19 @@ short_plain q s = record {
   cuts = λ net earlier v p n h. subst (AllByRecursion (IsShareable MAX_NUMBERS)) (sym (no_cuts p (s net earlier v p h))) tt;
 }
 
-concordant_by : (net : Net) (earlier : Earlier) (v : Verdict) (p : Proof) → RowsMayBe net earlier Q14 v p → TableRows net v p
-concordant_by net earlier (Unknown gap) p h = h
-concordant_by net earlier v p h = h
-
-pub concordant_rows : (net : Net) (earlier : Earlier) (v : Verdict) (p : Proof) → IsFormedOf net earlier Q14 v p → TableRows net v p
-concordant_rows net earlier v p h = concordant_by net earlier v p ((formed_as_before Q14 net earlier v p).0 h).1
-
-strongly_by : (net : Net) (earlier : Earlier) (v : Verdict) (p : Proof) → RowsMayBe net earlier Q15 v p → TableRows net v p
-strongly_by net earlier (Unknown gap) p h = h
-strongly_by net earlier v p h = h
-
-pub strongly_rows : (net : Net) (earlier : Earlier) (v : Verdict) (p : Proof) → IsFormedOf net earlier Q15 v p → TableRows net v p
-strongly_rows net earlier v p h = strongly_by net earlier v p ((formed_as_before Q15 net earlier v p).0 h).1
-
 signal_plain : IsPlainFor Q13
 signal_plain = record {
-  cuts = λ net earlier v p n h. signal_cuts net earlier p n (signal_trees net earlier v p ((formed_as_before Q13 net earlier v p).0 h).1);
+  cuts = λ net earlier v p n h. signal_cuts net earlier p n (signal_trees net earlier v p h);
 }
 
 concordant_plain : IsPlainFor Q14
 concordant_plain = record {
-  cuts = λ net earlier v p n h. one_tree_cuts net p n (tree_or_none net v p (concordant_rows net earlier v p h));
+  cuts = λ net earlier v p n h. one_tree_cuts net p n (concordant_tree net earlier v p h);
 }
 
 strongly_plain : IsPlainFor Q15
 strongly_plain = record {
-  cuts = λ net earlier v p n h. one_tree_cuts net p n (tree_or_none net v p (strongly_rows net earlier v p h));
+  cuts = λ net earlier v p n h. one_tree_cuts net p n (strongly_tree net earlier v p h);
 }
 
 plain_for : (q : Question) → ShortFor q → IsPlainFor q
@@ -253,9 +233,9 @@ all_written net (a ∷ b ∷ xs) h =
     let start : Known = meaning.start net in
     let pairs = strong_pairs net b.verdict in
     let p = pairs_then net a b h.0 h.1.0 in (
-      same_rows (shapes_of start) (shapes_with pairs) a.proof (sees_first net [] a.verdict a.proof ((formed_as_before Q1 net [] a.verdict a.proof).0 h.0).1),
+      same_rows (shapes_of start) (shapes_with pairs) a.proof (sees_first net [] a.verdict a.proof h.0),
       (
-        same_rows (shapes_of (after_answer Q1 start a)) (shapes_with pairs) b.proof (sees_second net ((Q1, tight a.verdict) ∷ []) b.verdict b.proof ((formed_as_before Q2 net ((Q1, tight a.verdict) ∷ []) b.verdict b.proof).0 h.1.0).1),
+        same_rows (shapes_of (after_answer Q1 start a)) (shapes_with pairs) b.proof (sees_second net ((Q1, tight a.verdict) ∷ []) b.verdict b.proof h.1.0),
         written_after pairs (Q3 ∷ Q4 ∷ Q5 ∷ Q6 ∷ Q7 ∷ Q8 ∷ Q9 ∷ Q10 ∷ Q11 ∷ Q12 ∷ Q13 ∷ Q14 ∷ Q15 ∷ []) (after_answer Q2 (after_answer Q1 start a) b) xs p.0 p.1,
       ),
     )

@@ -22,11 +22,11 @@ use Rattle.crn_ctext.specs.Records.{Record, Form, Fits}
 use Rattle.crn_ctext.specs.Questions.{Shapes, later_numbers}
 use Rattle.crn_ctext.specs.Course.{Course, Give, ◌>>=◌, Gives}
 use Rattle.crn_ctext.specs.Course as course
-use Rattle.crn_ctext.specs.Blocks.{AfterBlocks, Problem, asks_all, asks_trees, claims, has_tree, is_open, problems, unless}
+use Rattle.crn_ctext.specs.Blocks.{AfterBlocks, Problem, asks_all, asks_trees, below, claims, has_tree, is_open, problems, unless}
 use Rattle.crn_ctext.specs.Steps.{StepGives}
 use Rattle.crn_io.specs.Device.{SourceSeen}
 use Rattle.crn_vec.proofs.CallerLemmas.{and_first}
-use Rattle.crn_ctext.proofs.CallerLemmas.{zip_long, formed_as_before}
+use Rattle.crn_ctext.proofs.CallerLemmas.{zip_long, records_formed, PairsFor}
 use Rattle.crn_reading.specs.declared.reading.Reading.{Reading}
 use Rattle.crn_reading.specs.declared.fault.CheckStop.{CheckStop}
 use Rattle.crn_reading.specs.Steps.{StepIs}
@@ -48,6 +48,8 @@ use Rattle.crn_document.specs.Inner.Blocks.{HeadHolds, IsAfter, IsBlock, Learns,
 use Rattle.crn_document.proofs.Fields.{part_within}
 use Rattle.crn_document.proofs.Ranks.{AreRanks}
 use Rattle.crn_document.proofs.Heads.{said_facts}
+use Rattle.crn_document.proofs.Linkages.{pairs_known}
+use Rattle.crn_document.proofs.TreesBelow.{no_tree_below}
 
 -- ---- claims
 
@@ -165,10 +167,36 @@ other_answer : (P : Verdict → Proof → Type 0) (net : Net) (earlier : Earlier
 other_answer P net earlier n head rs a is p =
     subst (λ (v : Verdict). P v (said_proof net earlier n head rs)) is.verdict_is (subst (λ (w : Proof). P a.verdict w) is.proof_is p)
 
+-- the pairs are known on which the forms rest
+pairs_for : (net : Net) (n : ℕ) (facts : KeptFacts) → IsBuilt n → IsKnown net (before n) facts → PairsFor (asked n) (known_of net facts.earlier)
+pairs_for net n facts (inl e) k = subst (λ (m : ℕ). PairsFor (asked m) (known_of net facts.earlier)) (sym e) tt
+pairs_for net n facts (inr (inl e)) k = subst (λ (m : ℕ). PairsFor (asked m) (known_of net facts.earlier)) (sym e) tt
+pairs_for net n facts (inr (inr (inl e))) k = subst (λ (m : ℕ). PairsFor (asked m) (known_of net facts.earlier)) (sym e) tt
+pairs_for net n facts (inr (inr (inr (inl e)))) k = subst (λ (m : ℕ). PairsFor (asked m) (known_of net facts.earlier)) (sym e) tt
+pairs_for net n facts (inr (inr (inr (inr (inl e))))) k = subst (λ (m : ℕ). PairsFor (asked m) (known_of net facts.earlier)) (sym e) tt
+pairs_for net n facts (inr (inr (inr (inr (inr (inl e)))))) k = subst (λ (m : ℕ). PairsFor (asked m) (known_of net facts.earlier)) (sym e) tt
+pairs_for net n facts (inr (inr (inr (inr (inr (inr (inl e))))))) k = subst (λ (m : ℕ). PairsFor (asked m) (known_of net facts.earlier)) (sym e) tt
+pairs_for net n facts (inr (inr (inr (inr (inr (inr (inr (inl e)))))))) k = subst (λ (m : ℕ). PairsFor (asked m) (known_of net facts.earlier)) (sym e) tt
+pairs_for net n facts (inr (inr (inr (inr (inr (inr (inr (inr (inl e))))))))) k = subst (λ (m : ℕ). PairsFor (asked m) (known_of net facts.earlier)) (sym e) tt
+pairs_for net n facts (inr (inr (inr (inr (inr (inr (inr (inr (inr (inl e)))))))))) k = subst (λ (m : ℕ). PairsFor (asked m) (known_of net facts.earlier)) (sym e) tt
+pairs_for net n facts (inr (inr (inr (inr (inr (inr (inr (inr (inr (inr (inl e))))))))))) k = subst (λ (m : ℕ). PairsFor (asked m) (known_of net facts.earlier)) (sym e) (pairs_known net n facts k (inl e))
+pairs_for net n facts (inr (inr (inr (inr (inr (inr (inr (inr (inr (inr (inr (inl e)))))))))))) k = subst (λ (m : ℕ). PairsFor (asked m) (known_of net facts.earlier)) (sym e) tt
+pairs_for net n facts (inr (inr (inr (inr (inr (inr (inr (inr (inr (inr (inr (inr (inl e))))))))))))) k = subst (λ (m : ℕ). PairsFor (asked m) (known_of net facts.earlier)) (sym e) (pairs_known net n facts k (inr e))
+pairs_for net n facts (inr (inr (inr (inr (inr (inr (inr (inr (inr (inr (inr (inr (inr (inl e)))))))))))))) k = subst (λ (m : ℕ). PairsFor (asked m) (known_of net facts.earlier)) (sym e) tt
+pairs_for net n facts (inr (inr (inr (inr (inr (inr (inr (inr (inr (inr (inr (inr (inr (inr (inl e))))))))))))))) k = subst (λ (m : ℕ). PairsFor (asked m) (known_of net facts.earlier)) (sym e) tt
+pairs_for net n facts (inr (inr (inr (inr (inr (inr (inr (inr (inr (inr (inr (inr (inr (inr (inr (none)))))))))))))))) k = absurd none
+
 pub answer_formed : (net : Net) (n : ℕ) (facts : KeptFacts) (head : List ℤ) (rows : List (List ℤ)) (h : Record) (rs : List Record) (a : Answer) → (AsksForTree n → said.number head 0 ≡ tree_place n → ⊥) → IsBuilt n → IsKnown net (before n) facts → HeadHolds net facts.earlier n head → IsBlock net facts.earlier n head rows h rs → IsAnswerOf net facts.earlier n head rs a → IsFormed net facts.earlier (asked n) a
 answer_formed net n facts head rows h rs a other built known hold b is =
+    let earlier = facts.earlier in
+    let q = asked n in
+    let here = known_of net earlier in
     let f = said_facts net n facts head h built known b.is_head in
-    same_answer (λ v p. IsFormedOf net facts.earlier (asked n) v p) net facts.earlier n head rs a is ((formed_as_before (asked n) net facts.earlier (said_verdict n head rs) (said_proof net facts.earlier n head rs)).1 (let g = f.formed in g rs other hold b.fit))
+    let below_is : below q (shapes_of here) h ≡ forms_below net earlier n head = f.below_is in
+    let none : problems meaning q here h ≡ [] = sym f.trees_are ∙ no_tree_below n built here (said.number head 0) other in
+    let formed = records_formed here q h rs (pairs_for net n facts built known) (let s = b.is_head in s.form) (subst (λ (fs : List Form). AllZip Fits fs rs) (sym below_is) b.fit) none in
+    same_answer (λ v p. IsFormedOf net earlier q v p) net earlier n head rs a is
+    (subst (λ (v : Verdict). IsFormedOf net earlier q v (said_proof net earlier n head rs)) (let s = f.said in s rs) (subst (λ (p : Proof). IsFormedOf net earlier q (verdict_of q (sizes_of here) h rs) p) (let s = f.shown in s rs) formed))
 
 pub answer_holds : (net : Net) (earlier : Earlier) (n : ℕ) (head : List ℤ) (rs : List Record) (a : Answer) → IsAnswerOf net earlier n head rs a → AllHold (tests_of net earlier (asked n) a) → AllHold (row_tests net earlier (asked n) (said_verdict n head rs) (said_proof net earlier n head rs))
 answer_holds net earlier n head rs a is h =

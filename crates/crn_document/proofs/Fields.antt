@@ -3,9 +3,8 @@ use Rattle.std.proofs.Common.{◌≡◌, ◌≤◌, ◌<◌, ◌^◌, ◌++◌, 
 use Rattle.std.specs.Prelude.{ℤ, pos, negsuc, nat_abs}
 use Rattle.std.specs.List.{AllByRecursion}
 use Rattle.std.proofs.lemmas.Int.{ints}
-use Rattle.std.proofs.lemmas.List.{append-nil, length-map}
+use Rattle.std.proofs.lemmas.List.{append-nil}
 use Rattle.crn_cert.specs.Tests.{Test, FailsFirst}
-use Rattle.crn_cert.specs.Ranges.{AreFrom}
 use Rattle.crn_ctext.specs.Records.{Record, Field, Takes, AreNarrow, AreOf, AreBetween, Fits}
 use Rattle.crn_ctext.specs.Kinds.{small, small_form}
 use Rattle.crn_document.specs.Inner.Answer.{AreSmall}
@@ -23,11 +22,6 @@ pub naturals : (least greatest : ℕ) (zs : List ℤ) → AreBetween (pos least)
 naturals least greatest [] b = tt
 naturals least greatest (negsuc n ∷ zs) b = absurd (omega (arith, ints, b.0.0))
 naturals least greatest (pos n ∷ zs) b = ((omega (arith, ints, b.0.0), omega (arith, ints, b.0.1)), naturals least greatest zs b.1)
-
-pub fits_from : (word : List ℕ) (count least greatest : ℕ) (r : Record) → Fits (small_form word count least greatest) r → AreFrom count least greatest (map nat_abs r.numbers)
-fits_from word count least greatest r f =
-    let p = one_field (small count least greatest) r.numbers f.1 in
-    record { long = length-map r.numbers nat_abs ∙ p.0.0; each = naturals least greatest r.numbers p.0.1 }
 
 pub one_number : (least greatest : ℕ) (zs : List ℤ) → Holds (small 1 least greatest) zs → (n : ℕ) × (zs ≡ pos n ∷ []) × ((least ≤ n) × (n ≤ greatest))
 one_number least greatest [] p = absurd (let e = p.0.0 in omega (arith, e))

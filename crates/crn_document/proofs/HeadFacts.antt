@@ -8,7 +8,8 @@ use Rattle.crn_vec.specs.Lists.{IsAscending}
 use Rattle.crn_vec.specs.Network.{Net, IsNetwork}
 use Rattle.crn_vec.specs.declared.limits.TheConstants.{MAX_COMPLEXES}
 use Rattle.crn_vec.proofs.CallerLemmas.{abs_back}
-use Rattle.crn_ctext.proofs.CallerLemmas.{zip_long, record_is, HeadMayBe, IsFormedOf}
+use Rattle.crn_cert.specs.Formed.{HeadMayBe}
+use Rattle.crn_ctext.proofs.CallerLemmas.{zip_long, record_is}
 use Rattle.crn_cert.specs.Questions.{Earlier}
 use Rattle.crn_cert.specs.Data.{IsBasisOf}
 use Rattle.crn_cert.specs.Tests.{AllHold}
@@ -21,7 +22,6 @@ use Rattle.crn_ctext.specs.Blocks.{is_open, below, problems, unless}
 use Rattle.crn_ctext.specs.Documents.{IsOneOf}
 use Rattle.crn_ctext.specs.Meaning.{meaning, number, lists, pairs_of, problems_by, sizes_of, shapes_of, verdict_of, proof_of}
 use Rattle.crn_check.specs.Facts.{asked}
-use Rattle.crn_check.specs.Check.{AsksForTree, tree_place}
 use Rattle.crn_document.specs.Inner.Answer.{AreSmall, AreSmallRows, IsHeadOf, verdict_of_head}
 use Rattle.crn_document.specs.Inner.Answers.{FitAnswer, proof_of_head}
 use Rattle.crn_document.specs.Inner.Blocks.{HeadHolds, forms_below, parts_after}
@@ -46,8 +46,6 @@ pub record HeadFacts (net : Net) (earlier : Earlier) (n : ℕ) (h : Record) (t :
   pub head_parts : PartsWithin 7 (head_tests net earlier (asked n) (verdict_of_head (asked n) t []))
   pub heads_same : (rs : List Record) → AllHold (head_tests net earlier (asked n) (verdict_of_head (asked n) t [])) → AllHold (head_tests net earlier (asked n) (verdict_of_head (asked n) t rs))
   pub fit : (rs : List Record) → HeadHolds net earlier n t → AllZip Fits (forms_below net earlier n t) rs → FitAnswer (asked n) t (parts_after net earlier n t) (lists rs)
-  pub formed : (rs : List Record) → (AsksForTree n → number t 0 ≡ tree_place n → ⊥) → HeadHolds net earlier n t → AllZip Fits (forms_below net earlier n t) rs
-      → IsFormedOf net earlier (asked n) (verdict_of_head (asked n) t rs) (proof_of_head (asked n) (shapes_of (known_of net earlier)) (parts_after net earlier n t) t rs)
   pub row_parts : (rs : List Record) → HeadHolds net earlier n t → AllZip Fits (forms_below net earlier n t) rs
       → PartsWithin (suc (length rs)) (row_tests net earlier (asked n) (verdict_of_head (asked n) t rs) (proof_of_head (asked n) (shapes_of (known_of net earlier)) (parts_after net earlier n t) t rs))
 

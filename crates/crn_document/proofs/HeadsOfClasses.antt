@@ -1,25 +1,14 @@
 -- What the heads of questions 1 to 4 say.
-use Rattle.std.proofs.Common.{◌≤◌, ◌-◌, ℕ, List, [], ◌∷◌, length, map, refl, inl, inr, arith}
-use Rattle.std.specs.Prelude.{pos, codes, nat_abs}
-use Rattle.std.specs.List.{AllZip}
+use Rattle.std.proofs.Common.{◌≤◌, ◌-◌, ℕ, List, [], ◌∷◌, length, refl, inl, inr, arith}
+use Rattle.std.specs.Prelude.{pos, codes}
 use Rattle.crn_vec.specs.Network.{Net, IsNetwork}
 use Rattle.crn_ctext.proofs.CallerLemmas.{zip_long}
 use Rattle.crn_cert.specs.Questions.{Earlier}
-use Rattle.crn_cert.specs.Ranges.{AreFrom}
-use Rattle.crn_ctext.specs.Records.{Record, Form, CountAndPart, Fits}
+use Rattle.crn_ctext.specs.Records.{Record, Form, CountAndPart}
 use Rattle.crn_ctext.specs.Kinds.{small, small_form}
 use Rattle.crn_ctext.specs.Questions.{head, yes, no}
-use Rattle.crn_ctext.specs.Meaning.{row}
-use Rattle.crn_document.proofs.Fields.{fits_from, one_field, one_number}
+use Rattle.crn_document.proofs.Fields.{one_field, one_number}
 use Rattle.crn_document.proofs.HeadFacts.{Facts, one_small, AreSmallForms, small_rows, few_rows, form_of, same_facts, as_form, FactsAt}
-
-linkage_rows : (c r k : ℕ) (rs : List Record) → AllZip Fits (small_form (codes "label") c 1 k ∷ small_form (codes "up") c 0 r ∷ small_form (codes "depth") c 0 (c - 1) ∷ []) rs
-    → AreFrom c 1 k (map nat_abs (row rs 0)) × (AreFrom c 0 r (map nat_abs (row rs 1)) × AreFrom c 0 (c - 1) (map nat_abs (row rs 2)))
-linkage_rows c r k [] z = absurd z
-linkage_rows c r k (x ∷ []) z = absurd z.1
-linkage_rows c r k (x ∷ y ∷ []) z = absurd z.1.1
-linkage_rows c r k (x ∷ y ∷ u ∷ v ∷ rs) z = absurd z.1.1.1
-linkage_rows c r k (x ∷ y ∷ u ∷ []) z = (fits_from (codes "label") c 1 k x z.0, (fits_from (codes "up") c 0 r y z.1.0, fits_from (codes "depth") c 0 (c - 1) u z.1.1.0))
 
 linkage_facts : (net : Net) (earlier : Earlier) (k : ℕ) → IsNetwork net → (1 ≤ k) × (k ≤ length net.complexes) → Facts net earlier 1 (codes "q1" ∷ []) (pos k ∷ [])
 linkage_facts net earlier k network range =
@@ -34,7 +23,7 @@ linkage_facts net earlier k network range =
       ranks = λ long. tt;
       is_head = (k, refl, omega (arith, few, range.1));
       few = omega (arith, few, range.1);
-      may = range;
+      may = (range, tt);
       below_is = refl;
       said = λ rs. refl;
       shown = λ rs. refl;
@@ -45,41 +34,12 @@ linkage_facts net earlier k network range =
       head_parts = tt;
       heads_same = λ rs p. p;
       fit = λ rs hold z. (few_rows forms rs z, small_rows forms rs smalls z);
-      formed = λ rs other hold z. let f = linkage_rows c r k rs z in (range, (f.0, record { names_are = f.1.0; depth_is = f.1.1 }));
       row_parts = λ rs hold z. let l = zip_long forms rs z in (omega (arith, l), (omega (arith, l), tt));
     }
 
 abbrev strong_row_forms : ℕ → ℕ → ℕ → List Form
 strong_row_forms c r k = small_form (codes "label") c 1 k ∷ small_form (codes "from") c 0 r ∷ small_form (codes "fromdepth") c 0 (c - 1) ∷ small_form (codes "to") c 0 r
     ∷ small_form (codes "todepth") c 0 (c - 1) ∷ small_form (codes "level") k 0 c ∷ small_form (codes "exit") k 0 r ∷ []
-
-record StrongRows (c r k : ℕ) (rs : List Record) : Type 0 where
-  labels : AreFrom c 1 k (map nat_abs (row rs 0))
-  from : AreFrom c 0 r (map nat_abs (row rs 1))
-  from_depth : AreFrom c 0 (c - 1) (map nat_abs (row rs 2))
-  to : AreFrom c 0 r (map nat_abs (row rs 3))
-  to_depth : AreFrom c 0 (c - 1) (map nat_abs (row rs 4))
-  levels : AreFrom k 0 c (map nat_abs (row rs 5))
-  exits : AreFrom k 0 r (map nat_abs (row rs 6))
-
-strong_rows : (c r k : ℕ) (rs : List Record) → AllZip Fits (strong_row_forms c r k) rs → StrongRows c r k rs
-strong_rows c r k [] z = absurd z
-strong_rows c r k (a ∷ []) z = absurd z.1
-strong_rows c r k (a ∷ b ∷ []) z = absurd z.1.1
-strong_rows c r k (a ∷ b ∷ d ∷ []) z = absurd z.1.1.1
-strong_rows c r k (a ∷ b ∷ d ∷ e ∷ []) z = absurd z.1.1.1.1
-strong_rows c r k (a ∷ b ∷ d ∷ e ∷ f ∷ []) z = absurd z.1.1.1.1.1
-strong_rows c r k (a ∷ b ∷ d ∷ e ∷ f ∷ g ∷ []) z = absurd z.1.1.1.1.1.1
-strong_rows c r k (a ∷ b ∷ d ∷ e ∷ f ∷ g ∷ h ∷ i ∷ rs) z = absurd z.1.1.1.1.1.1.1
-strong_rows c r k (a ∷ b ∷ d ∷ e ∷ f ∷ g ∷ h ∷ []) z = record {
-  labels = fits_from (codes "label") c 1 k a z.0;
-  from = fits_from (codes "from") c 0 r b z.1.0;
-  from_depth = fits_from (codes "fromdepth") c 0 (c - 1) d z.1.1.0;
-  to = fits_from (codes "to") c 0 r e z.1.1.1.0;
-  to_depth = fits_from (codes "todepth") c 0 (c - 1) f z.1.1.1.1.0;
-  levels = fits_from (codes "level") k 0 c g z.1.1.1.1.1.0;
-  exits = fits_from (codes "exit") k 0 r h z.1.1.1.1.1.1.0;
-}
 
 strong_facts : (net : Net) (earlier : Earlier) (k m : ℕ) → IsNetwork net → (1 ≤ m) × (m ≤ k) × (k ≤ length net.complexes) → Facts net earlier 2 (codes "q2" ∷ []) (pos k ∷ pos m ∷ [])
 strong_facts net earlier k m network range =
@@ -94,7 +54,7 @@ strong_facts net earlier k m network range =
       ranks = λ long. tt;
       is_head = (k, m, refl, omega (arith, few, range.2), omega (arith, few, range.1, range.2));
       few = omega (arith, few, range.2);
-      may = ((omega (arith, range.0, range.1), range.2), (range.0, range.1));
+      may = (((omega (arith, range.0, range.1), range.2), (range.0, range.1)), tt);
       below_is = refl;
       said = λ rs. refl;
       shown = λ rs. refl;
@@ -105,15 +65,8 @@ strong_facts net earlier k m network range =
       head_parts = tt;
       heads_same = λ rs p. p;
       fit = λ rs hold z. (few_rows forms rs z, small_rows forms rs smalls z);
-      formed = λ rs other hold z. let f = strong_rows c r k rs z in
-          (((omega (arith, range.0, range.1), range.2), (range.0, range.1)), (f.labels, f.exits, record { names_are = f.from; depth_is = f.from_depth }, record { names_are = f.to; depth_is = f.to_depth }, f.levels));
       row_parts = λ rs hold z. let l = zip_long forms rs z in (omega (arith, l), (omega (arith, l), (omega (arith, l), (omega (arith, l), (omega (arith, l), (omega (arith, l), tt))))));
     }
-
-reverse_rows : (r : ℕ) (rs : List Record) → AllZip Fits (small_form (codes "back") r 1 r ∷ []) rs → AreFrom r 1 r (map nat_abs (row rs 0))
-reverse_rows r [] z = absurd z
-reverse_rows r (x ∷ y ∷ rs) z = absurd z.1
-reverse_rows r (x ∷ []) z = fits_from (codes "back") r 1 r x z.0
 
 reversible_facts : (net : Net) (earlier : Earlier) → IsNetwork net → Facts net earlier 3 (codes "q3" ∷ yes) []
 reversible_facts net earlier network = record {
@@ -133,7 +86,6 @@ reversible_facts net earlier network = record {
   head_parts = tt;
   heads_same = λ rs p. p;
   fit = λ rs hold z. let many = network.partial.reactions_limit in let forms = small_form (codes "back") (length net.reactions) 1 (length net.reactions) ∷ [] in (few_rows forms rs z, small_rows forms rs (form_of (codes "back") (length net.reactions) 1 (length net.reactions) (omega (arith, many)), tt) z);
-  formed = λ rs other hold z. (tt, reverse_rows (length net.reactions) rs z);
   row_parts = λ rs hold z. (omega arith, tt);
 }
 
@@ -144,7 +96,7 @@ irreversible_facts net earlier k network range = record {
   ranks = λ long. tt;
   is_head = inr (k, refl, (let few = network.partial.reactions_limit in omega (arith, few, range.1)));
   few = omega arith;
-  may = range;
+  may = (range, tt);
   below_is = refl;
   said = λ rs. refl;
   shown = λ rs. refl;
@@ -155,7 +107,6 @@ irreversible_facts net earlier k network range = record {
   head_parts = (omega arith, tt);
   heads_same = λ rs p. p;
   fit = λ rs hold z. (few_rows [] rs z, small_rows [] rs tt z);
-  formed = λ rs other hold z. (range, tt);
   row_parts = λ rs hold z. tt;
 }
 
@@ -177,7 +128,6 @@ weak_facts net earlier network = record {
   head_parts = (omega arith, tt);
   heads_same = λ rs p. p;
   fit = λ rs hold z. tt;
-  formed = λ rs other hold z. (tt, tt);
   row_parts = λ rs hold z. tt;
 }
 
@@ -188,7 +138,7 @@ not_weak_facts net earlier k network range = record {
   ranks = λ long. tt;
   is_head = inr (k, refl, (let few = network.partial.reactions_limit in omega (arith, few, range.1)));
   few = omega arith;
-  may = range;
+  may = (range, tt);
   below_is = refl;
   said = λ rs. refl;
   shown = λ rs. refl;
@@ -199,7 +149,6 @@ not_weak_facts net earlier k network range = record {
   head_parts = (omega arith, tt);
   heads_same = λ rs p. p;
   fit = λ rs hold z. tt;
-  formed = λ rs other hold z. (range, tt);
   row_parts = λ rs hold z. tt;
 }
 

@@ -1,29 +1,19 @@
 -- What the heads of questions 14 and 15 say.
 use Rattle.std.proofs.Common.{◌≡◌, ◌≤◌, ◌+◌, ℕ, List, [], ◌∷◌, length, refl, inl, inr, arith}
 use Rattle.std.specs.Prelude.{ℤ, pos, codes}
-use Rattle.std.specs.List.{AllZip}
 use Rattle.crn_vec.specs.Network.{Net, IsNetwork}
 use Rattle.crn_vec.specs.declared.limits.TheConstants.{MAX_BUDGET}
 use Rattle.crn_ctext.proofs.CallerLemmas.{zip_long}
 use Rattle.crn_cert.specs.Questions.{Earlier}
-use Rattle.crn_cert.specs.Ranges.{AreFree}
-use Rattle.crn_ctext.specs.Records.{Record, Form, AreRising, Fits}
+use Rattle.crn_ctext.specs.Records.{Record, Form, AreRising}
 use Rattle.crn_ctext.specs.Kinds.{small, free_form}
 use Rattle.crn_ctext.specs.Questions.{head, yes, no, wide, spent, open_by}
-use Rattle.crn_ctext.specs.Meaning.{row}
 use Rattle.crn_document.proofs.Fields.{one_field, one_number}
-use Rattle.crn_document.proofs.Ranks.{free_row}
 use Rattle.crn_document.proofs.HeadFacts.{Facts, one_small, wide_numbers, wide_small, wide_basis, same_facts, as_form, FactsAt}
 
 -- the two lists of a no
 abbrev pair_forms : ℕ → List Form
 pair_forms r = free_form (codes "alpha") r ∷ free_form (codes "weights") r ∷ []
-
-pair_lists : (r : ℕ) (rs : List Record) → AllZip Fits (pair_forms r) rs → AreFree r (row rs 0) × AreFree r (row rs 1)
-pair_lists r [] f = absurd f
-pair_lists r (x ∷ []) f = absurd f.1
-pair_lists r (x ∷ y ∷ z ∷ rs) f = absurd f.1.1
-pair_lists r (x ∷ y ∷ []) f = (free_row (codes "alpha") r x f.0, free_row (codes "weights") r y f.1.0)
 
 concordance_facts : (net : Net) (earlier : Earlier) → Facts net earlier 14 (codes "q14" ∷ yes) []
 concordance_facts net earlier = record {
@@ -43,7 +33,6 @@ concordance_facts net earlier = record {
   head_parts = tt;
   heads_same = λ rs p. p;
   fit = λ rs hold z. tt;
-  formed = λ rs other hold z. absurd (other (inr (inl refl)) refl);
   row_parts = λ rs hold z. tt;
 }
 
@@ -65,7 +54,6 @@ no_concordance_facts net earlier = record {
   head_parts = tt;
   heads_same = λ rs p. p;
   fit = λ rs hold z. tt;
-  formed = λ rs other hold z. (tt, pair_lists (length net.reactions) rs z);
   row_parts = λ rs hold z. let l = zip_long (pair_forms (length net.reactions)) rs z in (omega (arith, l), tt);
 }
 
@@ -76,7 +64,7 @@ concordance_wide_facts net earlier index basis network low high long rising = re
   ranks = λ long. tt;
   is_head = (_, inr (inr (inl refl)));
   few = omega arith;
-  may = (refl, refl, wide_basis (length net.reactions) (length net.names) index basis low high long rising);
+  may = ((refl, refl, wide_basis (length net.reactions) (length net.names) index basis low high long rising), tt);
   below_is = refl;
   said = λ rs. refl;
   shown = λ rs. refl;
@@ -87,7 +75,6 @@ concordance_wide_facts net earlier index basis network low high long rising = re
   head_parts = tt;
   heads_same = λ rs p. p;
   fit = λ rs hold z. tt;
-  formed = λ rs other hold z. ((refl, refl, wide_basis (length net.reactions) (length net.names) index basis low high long rising), refl);
   row_parts = λ rs hold z. tt;
 }
 
@@ -98,7 +85,7 @@ concordance_spent_facts net earlier k range = record {
   ranks = λ long. tt;
   is_head = (_, inr (inr (inr refl)));
   few = omega arith;
-  may = range;
+  may = (range, tt);
   below_is = refl;
   said = λ rs. refl;
   shown = λ rs. refl;
@@ -109,7 +96,6 @@ concordance_spent_facts net earlier k range = record {
   head_parts = tt;
   heads_same = λ rs p. p;
   fit = λ rs hold z. tt;
-  formed = λ rs other hold z. (range, refl);
   row_parts = λ rs hold z. tt;
 }
 
@@ -131,7 +117,6 @@ strongly_facts net earlier = record {
   head_parts = tt;
   heads_same = λ rs p. p;
   fit = λ rs hold z. tt;
-  formed = λ rs other hold z. absurd (other (inr (inr refl)) refl);
   row_parts = λ rs hold z. tt;
 }
 
@@ -153,7 +138,6 @@ no_strongly_facts net earlier = record {
   head_parts = tt;
   heads_same = λ rs p. p;
   fit = λ rs hold z. tt;
-  formed = λ rs other hold z. (tt, pair_lists (length net.reactions) rs z);
   row_parts = λ rs hold z. let l = zip_long (pair_forms (length net.reactions)) rs z in (omega (arith, l), tt);
 }
 
@@ -164,7 +148,7 @@ strongly_wide_facts net earlier index basis network low high long rising = recor
   ranks = λ long. tt;
   is_head = (_, inr (inr (inl refl)));
   few = omega arith;
-  may = (refl, refl, wide_basis (length net.reactions) (length net.names) index basis low high long rising);
+  may = ((refl, refl, wide_basis (length net.reactions) (length net.names) index basis low high long rising), tt);
   below_is = refl;
   said = λ rs. refl;
   shown = λ rs. refl;
@@ -175,7 +159,6 @@ strongly_wide_facts net earlier index basis network low high long rising = recor
   head_parts = tt;
   heads_same = λ rs p. p;
   fit = λ rs hold z. tt;
-  formed = λ rs other hold z. ((refl, refl, wide_basis (length net.reactions) (length net.names) index basis low high long rising), refl);
   row_parts = λ rs hold z. tt;
 }
 
@@ -186,7 +169,7 @@ strongly_spent_facts net earlier k range = record {
   ranks = λ long. tt;
   is_head = (_, inr (inr (inr refl)));
   few = omega arith;
-  may = range;
+  may = (range, tt);
   below_is = refl;
   said = λ rs. refl;
   shown = λ rs. refl;
@@ -197,7 +180,6 @@ strongly_spent_facts net earlier k range = record {
   head_parts = tt;
   heads_same = λ rs p. p;
   fit = λ rs hold z. tt;
-  formed = λ rs other hold z. (range, refl);
   row_parts = λ rs hold z. tt;
 }
 

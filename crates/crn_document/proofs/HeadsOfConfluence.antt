@@ -1,18 +1,17 @@
 -- What the heads of questions 11 and 12 say.
 use Rattle.std.proofs.Common.{◌≡◌, ◌≢◌, ◌≤◌, ◌<◌, ◌+◌, ◌-◌, ◌^◌, ◌++◌, ◌∙◌, ℕ, suc, List, [], ◌∷◌, drop, length, map, replicate, refl, sym, subst, ap, ap₂, inl, inr, arith}
-use Rattle.std.specs.Prelude.{ℤ, pos, codes, nat_abs, slice_index_or}
-use Rattle.std.specs.List.{AllByRecursion, AllZip}
+use Rattle.std.specs.Prelude.{ℤ, pos, codes, slice_index_or}
+use Rattle.std.specs.List.{AllZip}
 use Rattle.std.proofs.lemmas.Int.{ints}
 use Rattle.std.proofs.lemmas.List.{append-nil, length-map, length-replicate}
 use Rattle.crn_vec.specs.Network.{Net, IsNetwork}
 use Rattle.crn_vec.specs.declared.limits.TheConstants.{MAX_COMPLEXES}
-use Rattle.crn_ctext.proofs.CallerLemmas.{zip_long, between_bits}
+use Rattle.crn_ctext.proofs.CallerLemmas.{zip_long}
 use Rattle.crn_cert.specs.Questions.{Earlier}
-use Rattle.crn_cert.specs.Data.{IsWalkOf}
 use Rattle.crn_cert.specs.Valid.{linkage, linkage_count, pair_places, side_tests}
 use Rattle.crn_cert.specs.ConfluenceTests.{tie_tests}
-use Rattle.crn_cert.specs.Ranges.{AreFree, AreFreeRows, AreBits}
-use Rattle.crn_ctext.specs.Records.{Record, Form, AreRising, Several, TwoOf, Fits, AreOf, AreBetween}
+use Rattle.crn_cert.specs.Ranges.{AreFree, AreFreeRows}
+use Rattle.crn_ctext.specs.Records.{Record, Form, AreRising, Several, TwoOf, Fits, AreBetween}
 use Rattle.crn_ctext.specs.Kinds.{small, just, record_form, free_form}
 use Rattle.crn_ctext.specs.Questions.{Sizes, head, yes, no_by, none_by, wide, rests, open_by, side_form, later_numbers}
 use Rattle.crn_ctext.specs.Meaning.{lists, row, sizes_of}
@@ -22,22 +21,9 @@ use Rattle.crn_document.specs.declared.rows.Row.{Row}
 use Rattle.crn_document.specs.declared.rows.Row.TheVariants.{Side, Tie}
 use Rattle.crn_document.specs.Inner.Records.{row_form}
 use Rattle.crn_document.specs.Inner.Heads.{known_of}
-use Rattle.crn_document.proofs.Fields.{Holds, PartsWithin, naturals, one_field, one_number, small_list}
+use Rattle.crn_document.proofs.Fields.{PartsWithin, one_field, one_number, small_list}
 use Rattle.crn_document.proofs.Ranks.{drop_none, free_row, free_rows, map_replicate}
 use Rattle.crn_document.proofs.HeadFacts.{Facts, one_small, IsWide, wide_numbers, wide_small, wide_basis, counts_long, ArePairs, same_facts, as_form, FactsAt, class_and_number}
-
-side_marks : (r c : ℕ) (zs : List ℤ) → AreOf Holds (just r ∷ small c 0 1 ∷ []) zs → AreBits c (later_numbers zs)
-side_marks r c zs p =
-    let first = one_number r r p.0 p.3 in
-    let rest = one_field (small c 0 1) p.1 p.4 in
-    let is : zs ≡ pos first.0 ∷ p.1 = p.2 ∙ ap (λ (x : List ℤ). x ++ p.1) first.1 in
-    subst (λ (x : List ℤ). AreBits c (later_numbers x)) (sym is) (record { long = rest.0.0; each = between_bits p.1 rest.0.1 })
-
-side_rows : (z : Sizes) (ps : List ℕ) (rs : List Record) → AllZip Fits (map (side_form z) ps) rs → AllByRecursion (AreBits z.complexes) (map later_numbers (lists rs))
-side_rows z [] [] f = tt
-side_rows z [] (r ∷ rs) f = absurd f
-side_rows z (p ∷ ps) [] f = absurd f
-side_rows z (p ∷ ps) (r ∷ rs) f = (side_marks p z.complexes r.numbers f.0.1, side_rows z ps rs f.1)
 
 sides_are : (net : Net) (labels : List ℕ) (z : Sizes) (ps : List ℕ) → z.complexes ≡ length net.complexes → map (side_form z) ps ≡ map (row_form net labels 0) (map (λ (r : ℕ). Side r) ps)
 sides_are net labels z [] e = refl
@@ -74,7 +60,6 @@ regular_facts net earlier pairs =
       head_parts = (omega arith, tt);
       heads_same = λ rs p. p;
       fit = λ rs hold zz. tt;
-      formed = λ rs other hold zz. (tt, record { long = long rs zz; each = side_rows z ps rs (of_forms rs zz) });
       row_parts = λ rs hold zz. let l = long rs zz in let m = zip_long forms rs (of_forms rs zz) in let n = length-map ps (side_form z) in side_parts net earlier 1 (suc (length rs)) ps (map later_numbers (lists rs)) (omega (arith, l, m, n));
     }
 
@@ -85,7 +70,7 @@ regular_split_facts net earlier k m network least a b = record {
   ranks = λ long. tt;
   is_head = (_, inr (inl refl));
   few = omega arith;
-  may = (a, b);
+  may = (a, (b, tt));
   below_is = refl;
   said = λ rs. refl;
   shown = λ rs. refl;
@@ -96,7 +81,6 @@ regular_split_facts net earlier k m network least a b = record {
   head_parts = (omega arith, tt);
   heads_same = λ rs p. p;
   fit = λ rs hold z. tt;
-  formed = λ rs other hold z. ((a, b), tt);
   row_parts = λ rs hold z. tt;
 }
 
@@ -118,21 +102,11 @@ regular_dependence_facts net earlier = record {
   head_parts = (omega arith, tt);
   heads_same = λ rs p. p;
   fit = λ rs hold z. tt;
-  formed = λ rs other hold z. (tt, tt);
   row_parts = λ rs hold z. tt;
 }
 
 abbrev walk_form : ℕ → Form
 walk_form c = record_form (codes "walk") (Several 2 c (pos 1) (pos c) ∷ [])
-
-walk_list : (net : Net) (rs : List Record) → AllZip Fits (walk_form (length net.complexes) ∷ []) rs → IsWalkOf (length net.complexes) (map nat_abs (row rs 0))
-walk_list net [] f = absurd f
-walk_list net (x ∷ y ∷ rs) f = absurd f.1
-walk_list net (x ∷ []) f =
-    let c = length net.complexes in
-    let p = one_field (Several 2 c (pos 1) (pos c)) x.numbers f.0.1 in
-    let same = length-map x.numbers nat_abs in
-    record { some = (let l = p.0.0 in omega (arith, same, l)); few = (let m = p.0.1 in omega (arith, same, m)); each = naturals 1 c x.numbers p.0.2 }
 
 walk_small : (c : ℕ) (rs : List Record) → c < 2 ^ 32 → AllZip Fits (walk_form c ∷ []) rs → AreSmall (slice_index_or (lists rs) 0 [])
 walk_small c [] lt f = absurd f
@@ -146,7 +120,7 @@ regular_cycle_facts net earlier k network range = record {
   ranks = λ long. tt;
   is_head = (_, inr (inr (inr (inl refl))));
   few = omega arith;
-  may = range;
+  may = (range, tt);
   below_is = refl;
   said = λ rs. refl;
   shown = λ rs. refl;
@@ -157,7 +131,6 @@ regular_cycle_facts net earlier k network range = record {
   head_parts = (omega arith, tt);
   heads_same = λ rs p. p;
   fit = λ rs hold z. walk_small (length net.complexes) rs (let few = network.partial.complexes_limit in omega (arith, few)) z;
-  formed = λ rs other hold z. (range, walk_list net rs z);
   row_parts = λ rs hold z. (omega arith, tt);
 }
 
@@ -168,7 +141,7 @@ regular_rests_facts net earlier = record {
   ranks = λ long. tt;
   is_head = (_, inr (inr (inr (inr refl))));
   few = omega arith;
-  may = refl;
+  may = ((omega arith, omega arith), tt);
   below_is = refl;
   said = λ rs. refl;
   shown = λ rs. refl;
@@ -179,7 +152,6 @@ regular_rests_facts net earlier = record {
   head_parts = tt;
   heads_same = λ rs p. p;
   fit = λ rs hold z. tt;
-  formed = λ rs other hold z. (refl, refl);
   row_parts = λ rs hold z. tt;
 }
 
@@ -232,7 +204,6 @@ confluence_facts net earlier =
       head_parts = (omega arith, tt);
       heads_same = λ rs p. p;
       fit = λ rs hold zz. tt;
-      formed = λ rs other hold zz. (tt, vector_ties net earlier c n rs (of_forms rs zz));
       row_parts = λ rs hold zz.
           let l = zip_long forms rs (of_forms rs zz) in
           let r = length-replicate n (free_form (codes "tie") (length net.names + linkage_count earlier)) in
@@ -258,7 +229,6 @@ irregular_facts net earlier = record {
   head_parts = (omega arith, tt);
   heads_same = λ rs p. p;
   fit = λ rs hold z. tt;
-  formed = λ rs other hold z. (tt, tt);
   row_parts = λ rs hold z. tt;
 }
 
@@ -286,17 +256,10 @@ only_zero_facts net earlier =
       head_parts = (omega arith, tt);
       heads_same = λ rs p. p;
       fit = λ rs hold zz. tt;
-      formed = λ rs other hold zz. (tt, free_rows (codes "tie") width c rs (of_forms rs zz));
       row_parts = λ rs hold zz.
           let l = length-map rs (λ (r : Record). r.numbers) in
           tie_parts net (linkage earlier) (linkage_count earlier) _ 1 (suc (length rs)) _ (lists rs) (omega (arith, l));
     }
-
-plane_rows : (c : ℕ) (rs : List Record) → AllZip Fits (free_form (codes "vec") c ∷ free_form (codes "vec") c ∷ []) rs → AreFree c (row rs 0) × AreFree c (row rs 1)
-plane_rows c [] f = absurd f
-plane_rows c (x ∷ []) f = absurd f.1
-plane_rows c (x ∷ y ∷ z ∷ rs) f = absurd f.1.1
-plane_rows c (x ∷ y ∷ []) f = (free_row (codes "vec") c x f.0, free_row (codes "vec") c y f.1.0)
 
 plane_facts : (net : Net) (earlier : Earlier) (a b : ℕ) → IsNetwork net → (1 ≤ a) × (a ≤ length net.complexes) → (1 ≤ b) × (b ≤ length net.complexes) → a ≢ b → Facts net earlier 12 (codes "q12" ∷ none_by (codes "plane")) (pos a ∷ pos b ∷ [])
 plane_facts net earlier a b network first second differ = record {
@@ -305,7 +268,7 @@ plane_facts net earlier a b network first second differ = record {
   ranks = λ long. tt;
   is_head = (_, inr (inr (inr (inl refl))));
   few = omega arith;
-  may = (first, second, differ);
+  may = ((first, second, differ), tt);
   below_is = refl;
   said = λ rs. refl;
   shown = λ rs. refl;
@@ -316,7 +279,6 @@ plane_facts net earlier a b network first second differ = record {
   head_parts = (omega arith, tt);
   heads_same = λ rs p. p;
   fit = λ rs hold z. tt;
-  formed = λ rs other hold z. ((first, second, differ), plane_rows (length net.complexes) rs z);
   row_parts = λ rs hold z. let l = zip_long (free_form (codes "vec") (length net.complexes) ∷ free_form (codes "vec") (length net.complexes) ∷ []) rs z in (omega arith, (omega (arith, l), tt));
 }
 
@@ -332,7 +294,7 @@ confluence_wide_facts net earlier index basis network least low high long rising
       ranks = λ long. tt;
       is_head = (_, inr (inr (inr (inr (inl refl)))));
       few = omega arith;
-      may = (refl, refl, wide_basis columns rows index basis low high long rising);
+      may = ((refl, refl, wide_basis columns rows index basis low high long rising), tt);
       below_is = refl;
       said = λ rs. refl;
       shown = λ rs. refl;
@@ -343,7 +305,6 @@ confluence_wide_facts net earlier index basis network least low high long rising
       head_parts = tt;
       heads_same = λ rs p. p;
       fit = λ rs hold z. tt;
-      formed = λ rs other hold z. ((refl, refl, wide_basis columns rows index basis low high long rising), refl);
       row_parts = λ rs hold z. tt;
     }
 
@@ -354,7 +315,7 @@ confluence_rests_facts net earlier = record {
   ranks = λ long. tt;
   is_head = (_, inr (inr (inr (inr (inr refl)))));
   few = omega arith;
-  may = refl;
+  may = ((omega arith, omega arith), tt);
   below_is = refl;
   said = λ rs. refl;
   shown = λ rs. refl;
@@ -365,7 +326,6 @@ confluence_rests_facts net earlier = record {
   head_parts = tt;
   heads_same = λ rs p. p;
   fit = λ rs hold z. tt;
-  formed = λ rs other hold z. (refl, refl);
   row_parts = λ rs hold z. tt;
 }
 

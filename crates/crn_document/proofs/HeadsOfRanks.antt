@@ -13,9 +13,9 @@ use Rattle.crn_cert.specs.declared.answer.Proof.TheVariants.{Ranks}
 use Rattle.crn_cert.specs.declared.answer.RankProof.{RankProof}
 use Rattle.crn_vec.specs.Network.{Net, IsNetwork}
 use Rattle.crn_vec.specs.declared.limits.TheConstants.{MAX_COMPLEXES, MAX_REACTIONS}
-use Rattle.crn_ctext.proofs.CallerLemmas.{zip_none, zip_long, HeadMayBe}
+use Rattle.crn_cert.specs.Formed.{HeadMayBe}
+use Rattle.crn_ctext.proofs.CallerLemmas.{zip_none, zip_long}
 use Rattle.crn_cert.specs.Questions.{Earlier, Q6}
-use Rattle.crn_cert.specs.Parts.{AreClassProofs}
 use Rattle.crn_cert.specs.Valid.{linkage, linkage_count, class_places, class_rank_tests}
 use Rattle.crn_ctext.specs.Records.{Record, Form, AreRising, ClassWide, Fits, AreOf, AreBetween}
 use Rattle.crn_ctext.specs.Kinds.{small, just}
@@ -39,7 +39,7 @@ rank_wide_facts net earlier index basis network low high long rising = record {
   ranks = λ long. tt;
   is_head = (_, inr refl);
   few = omega arith;
-  may = (refl, refl, wide_basis (length net.names) (length net.reactions) index basis low high long rising);
+  may = ((refl, refl, wide_basis (length net.names) (length net.reactions) index basis low high long rising), tt);
   below_is = refl;
   said = λ rs. refl;
   shown = λ rs. refl;
@@ -50,7 +50,6 @@ rank_wide_facts net earlier index basis network low high long rising = record {
   head_parts = tt;
   heads_same = λ rs p. p;
   fit = λ rs hold z. tt;
-  formed = λ rs other hold z. ((refl, refl, wide_basis (length net.names) (length net.reactions) index basis low high long rising), refl);
   row_parts = λ rs hold z. tt;
 }
 
@@ -71,7 +70,7 @@ rank_facts net earlier k network range =
       ranks = λ long. (omega (arith, many, le), tt);
       is_head = (_, inl refl);
       few = omega arith;
-      may = range;
+      may = (range, tt);
       below_is = below_is;
       said = λ rs. refl;
       shown = λ rs. refl;
@@ -82,7 +81,6 @@ rank_facts net earlier k network range =
       head_parts = tt;
       heads_same = λ rs p. p;
       fit = λ rs hold z0. let zz = subst (λ (fs : List Form). AllZip Fits fs rs) (sym below_is) z0 in let l = few_rows forms rs zz in (omega (arith, l, long, count, le), rank_small z k all rs (λ x i. let m = member_few net labels 0 x (subst (λ (xs : List ℕ). IsIn x xs) (sym (members_all net labels)) i) in omega (arith, m, many)) zz);
-      formed = λ rs other hold z0. (range, (refl, rank_formed net z k all rs refl (subst (λ (fs : List Form). AllZip Fits fs rs) (sym below_is) z0)));
       row_parts = λ rs hold z0. let zz = subst (λ (fs : List Form). AllZip Fits fs rs) (sym below_is) z0 in let l = zip_long forms rs zz in rank_parts net all 1 (suc (length rs)) k _ (rank_formed net z k all rs refl zz) (omega (arith, l, long, count, le));
     }
 
@@ -102,7 +100,7 @@ deficiency_facts net earlier total ds network few within long between =
     let same_forms : class_forms z s.class_complexes s.class_members ds ≡ forms = ap (λ (m : ℕ). class_forms z (lengths (map (λ k. class_members labels k) (range_with_len 1 m))) (map (λ k. class_places net earlier k) (range_with_len 1 m)) ds) (sym long) ∙ ap₂ (λ (x : List ℕ) (y : List (List ℕ)). class_forms z x y ds) (sizes_are earlier 1 (length ds)) (members_are net earlier 1 (length ds)) in
     let rows_are_forms : forms ≡ forms_below net earlier 6 (pos 1 ∷ pos total ∷ ds) = class_rows_are net earlier 0 z 0 ds refl in
     let proofs : (rs : List Record) → class_proofs s.class_complexes s.class_members ds rs ≡ part_proofs (class_parts net labels 1 ds) (lists rs) = λ rs. ap (λ (m : ℕ). class_proofs (lengths (map (λ k. class_members labels k) (range_with_len 1 m))) (map (λ k. class_places net earlier k) (range_with_len 1 m)) ds rs) (sym long) ∙ ap₂ (λ (x : List ℕ) (y : List (List ℕ)). class_proofs x y ds rs) (sizes_are earlier 1 (length ds)) (members_are net earlier 1 (length ds)) ∙ sym (class_proofs_are net earlier 0 ds rs) in
-    let admitted : HeadMayBe net earlier Q6 (Deficiency total (nums ds)) = ((omega arith, within), record { long = length-map ds nat_abs ∙ long; each = naturals 0 (length net.complexes) ds between }) in
+    let admitted : HeadMayBe net earlier Q6 (Deficiency total (nums ds)) = (((omega arith, within), record { long = length-map ds nat_abs ∙ long; each = naturals 0 (length net.complexes) ds between }), tt) in
     let of_forms : (rs : List Record) → AllZip Fits (forms_below net earlier 6 (pos 1 ∷ pos total ∷ ds)) rs → AllZip Fits forms rs = λ rs zz. subst (λ (fs : List Form). AllZip Fits fs rs) (sym rows_are_forms) zz in
     record {
       small = (omega arith, (omega (arith, within, most), small_list 0 (length net.complexes) ds (omega (arith, most)) between));
@@ -121,7 +119,6 @@ deficiency_facts net earlier total ds network few within long between =
       head_parts = (omega arith, (omega arith, tt));
       heads_same = λ rs p. p;
       fit = λ rs hold zz. class_fit net earlier z 0 ds rs many hold.1.0.1 (of_forms rs zz);
-      formed = λ rs other hold zz. (admitted, subst (λ (list : List RankProof). AreClassProofs net earlier 1 (map nat_abs ds) list) (sym (class_proofs_are net earlier 0 ds rs)) (class_formed net earlier z 0 ds rs refl hold.1.0.1 (of_forms rs zz)));
       row_parts = λ rs hold zz. let l = zip_long forms rs (of_forms rs zz) in subst (λ (list : List RankProof). PartsWithin (suc (length rs)) (class_rank_tests net earlier 1 1 list)) (sym (class_proofs_are net earlier 0 ds rs)) (class_parts_within net earlier 1 (suc (length rs)) 0 z ds (proofs_from net earlier 1 ds rs) hold.1.0.1 (class_formed net earlier z 0 ds rs refl hold.1.0.1 (of_forms rs zz)) (omega (arith, l)));
     }
 
@@ -167,7 +164,7 @@ class_wide_facts net earlier k index basis network few inside low high long risi
     let columns = length net.names in
     let rows = length (class_places net earlier (suc k)) in
     let within : rows ≤ MAX_REACTIONS = omega (arith, m0, r0) in
-    let gap : HeadMayBe net earlier Q6 (Unknown (Wide 3 (suc k) index (nums basis))) = (refl, (omega arith, inside), wide_basis columns rows index basis low high long rising) in record {
+    let gap : HeadMayBe net earlier Q6 (Unknown (Wide 3 (suc k) index (nums basis))) = ((refl, (omega arith, inside), wide_basis columns rows index basis low high long rising), tt) in record {
       small = (omega arith, (omega arith, (omega (arith, inside, few), (omega (arith, high, s0, within), rising_small (columns + rows) basis (omega (arith, s0, within)) rising))));
       short = omega (arith, long, s0);
       ranks = λ long. tt;
@@ -184,7 +181,6 @@ class_wide_facts net earlier k index basis network few inside low high long risi
       head_parts = tt;
       heads_same = λ rs p. p;
       fit = λ rs hold z. ap (λ (x : List Record). lists x) (zip_none rs z);
-      formed = λ rs other hold z. (gap, refl);
       row_parts = λ rs hold z. tt;
     }
 
@@ -195,7 +191,7 @@ deficiency_rests_facts net earlier = record {
   ranks = λ long. tt;
   is_head = (_, inr (inr refl));
   few = omega arith;
-  may = refl;
+  may = ((omega arith, omega arith), tt);
   below_is = refl;
   said = λ rs. refl;
   shown = λ rs. refl;
@@ -206,7 +202,6 @@ deficiency_rests_facts net earlier = record {
   head_parts = tt;
   heads_same = λ rs p. p;
   fit = λ rs hold z. ap (λ (x : List Record). lists x) (zip_none rs z);
-  formed = λ rs other hold z. (refl, refl);
   row_parts = λ rs hold z. tt;
 }
 

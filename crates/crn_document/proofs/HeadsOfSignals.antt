@@ -1,28 +1,23 @@
 -- What the head of question 13 says.
 use Rattle.std.proofs.Common.{◌≡◌, ◌≤◌, ◌<◌, ◌+◌, ◌^◌, ◌++◌, ◌∙◌, ℕ, List, [], ◌∷◌, length, map, refl, sym, subst, ap, inl, inr, arith}
-use Rattle.std.specs.Prelude.{ℤ, pos, negsuc, codes, nat_abs, slice_index_or}
-use Rattle.std.specs.List.{AllZip}
+use Rattle.std.specs.Prelude.{ℤ, pos, negsuc, codes, nat_abs}
 use Rattle.crn_vec.specs.Lists.{IsIn}
 use Rattle.crn_vec.specs.Network.{Net, IsNetwork}
 use Rattle.crn_vec.specs.declared.limits.TheConstants.{MAX_BUDGET}
 use Rattle.crn_cert.specs.Questions.{Earlier}
 use Rattle.crn_cert.specs.Valid.{pair_places}
-use Rattle.crn_cert.specs.Ranges.{AreFree}
 use Rattle.crn_ctext.specs.Records.{Record, Form, AreRising, Fits}
 use Rattle.crn_ctext.specs.Kinds.{small, just, record_form, free_form}
 use Rattle.crn_ctext.specs.Questions.{Sizes, head, yes, no, wide, rests, spent, open_by}
-use Rattle.crn_ctext.specs.Meaning.{pairs_of, row, sizes_of, shapes_of}
+use Rattle.crn_ctext.specs.Meaning.{pairs_of, sizes_of, shapes_of}
 use Rattle.crn_document.specs.Inner.Answer.{IsHeadOf}
 use Rattle.crn_document.specs.Inner.Heads.{known_of, head_forms}
 use Rattle.crn_document.proofs.Fields.{Holds, one_field, one_number}
-use Rattle.crn_document.proofs.Ranks.{free_row}
 use Rattle.crn_document.proofs.HeadFacts.{Facts, one_small, wide_numbers, wide_small, wide_basis, same_facts, as_form, FactsAt, HeadFacts, head_with, FactsOf, ArePairs, IsWide}
 use Rattle.std.proofs.Common.{Bool, true, false}
-use Rattle.crn_ctext.proofs.CallerLemmas.{zip_long, between_shelves, vector_then, spent_place, rests_place, IsSignalGap}
-use Rattle.crn_cert.specs.Ranges.{IsNarrow}
+use Rattle.crn_cert.specs.Formed.{IsWideGap}
+use Rattle.crn_ctext.proofs.CallerLemmas.{zip_long, spent_place, rests_place}
 use Rattle.crn_cert.specs.Says.{IsTurn}
-use Rattle.crn_cert.specs.Parts.{AreSignalRows}
-use Rattle.crn_cert.specs.Valid.{HasVector}
 use Rattle.crn_cert.specs.Questions.{Q2, Q12, Q13, on, terminal_of}
 use Rattle.crn_ctext.specs.Records.{Small, Turn}
 use Rattle.crn_ctext.specs.Questions.{rows, wide_signal}
@@ -36,26 +31,6 @@ use Rattle.crn_document.proofs.Linkages.{pairs_few}
 abbrev signal_forms : (terminal species reactions : ℕ) → List Form
 signal_forms terminal species reactions =
     record_form (codes "shelves") (Small terminal (negsuc 0) (pos 1) ∷ []) ∷ free_form (codes "mu") species ∷ free_form (codes "m") 1 ∷ free_form (codes "weights") reactions ∷ []
-
-one_narrow : (zs : List ℤ) → AreFree 1 zs → IsNarrow (slice_index_or zs 0 (pos 0))
-one_narrow [] f = absurd (let l = f.long in omega (arith, l))
-one_narrow (z ∷ zs) f = let e = f.each in e.0
-
-signal_lists : (net : Net) (earlier : Earlier) (rs : List Record) → AllZip Fits (signal_forms (terminal_of (on earlier Q2)) (length net.names) (length net.reactions)) rs
-    → AreSignalRows net earlier (row rs 0) (row rs 1) (slice_index_or (row rs 2) 0 (pos 0)) (row rs 3)
-signal_lists net earlier [] f = absurd f
-signal_lists net earlier (a ∷ []) f = absurd f.1
-signal_lists net earlier (a ∷ b ∷ []) f = absurd f.1.1
-signal_lists net earlier (a ∷ b ∷ c ∷ []) f = absurd f.1.1.1
-signal_lists net earlier (a ∷ b ∷ c ∷ d ∷ e ∷ rs) f = absurd f.1.1.1.1
-signal_lists net earlier (a ∷ b ∷ c ∷ d ∷ []) f =
-    let s = one_field (Small (terminal_of (on earlier Q2)) (negsuc 0) (pos 1)) a.numbers f.0.1 in
-    record {
-      shelves_are = record { long = s.0.0; each = between_shelves a.numbers s.0.1 };
-      mu_is = free_row (codes "mu") (length net.names) b f.1.0;
-      level_is = one_narrow c.numbers (free_row (codes "m") 1 c f.1.1.0);
-      weights_are = free_row (codes "weights") (length net.reactions) d f.1.1.1.0;
-    }
 
 turn_small : (turn : ℤ) → IsTurn turn → nat_abs turn < 2 ^ 32
 turn_small turn (inl e) = subst (λ (z : ℤ). nat_abs z < 2 ^ 32) (sym e) (omega arith)
@@ -72,7 +47,7 @@ signal_facts net earlier turn is = record {
   ranks = λ long. tt;
   is_head = turn_head turn is;
   few = omega arith;
-  may = is;
+  may = (is, tt);
   below_is = refl;
   said = λ rs. refl;
   shown = λ rs. refl;
@@ -83,7 +58,6 @@ signal_facts net earlier turn is = record {
   head_parts = (omega arith, tt);
   heads_same = λ rs p. p;
   fit = λ rs hold z. tt;
-  formed = λ rs other hold z. (is, signal_lists net earlier rs z);
   row_parts = λ rs hold z. let l = zip_long (signal_forms (terminal_of (on earlier Q2)) (length net.names) (length net.reactions)) rs z in (omega (arith, l), tt);
 }
 
@@ -107,7 +81,6 @@ no_signal_facts net earlier = record {
   head_parts = (omega arith, tt);
   heads_same = λ rs p. p;
   fit = λ rs hold z. tt;
-  formed = λ rs other hold z. absurd (other (inl refl) refl);
   row_parts = λ rs hold z. tt;
 }
 
@@ -129,14 +102,13 @@ none_facts net earlier = record {
   head_parts = (omega arith, tt);
   heads_same = λ rs p. p;
   fit = λ rs hold z. tt;
-  formed = λ rs other hold z. (tt, tt);
   row_parts = λ rs hold z. tt;
 }
 
 -- ---- open answers
 
 -- a wide vector of a system with so many columns and rows
-wide_facts : (net : Net) (earlier : Earlier) (system columns height index : ℕ) (basis : List ℤ) → system < 2 ^ 32 → columns ≤ 700 → height ≤ 700 → 1 ≤ index → index ≤ columns + height → length basis ≡ columns → AreRising (columns + height) basis → IsSignalGap net earlier system 0 index (map nat_abs basis)
+wide_facts : (net : Net) (earlier : Earlier) (system columns height index : ℕ) (basis : List ℤ) → system < 2 ^ 32 → columns ≤ 700 → height ≤ 700 → 1 ≤ index → index ≤ columns + height → length basis ≡ columns → AreRising (columns + height) basis → IsWideGap net earlier Q13 system 0 index (map nat_abs basis)
     → Facts net earlier 13 (codes "q13" ∷ open_by (codes "wide")) (pos system ∷ pos 0 ∷ pos index ∷ basis)
 wide_facts net earlier system columns height index basis fits some many low high long rising gap = record {
   small = wide_small 4 system index (columns + height) basis (omega arith) fits (omega (arith, high, some, many)) (omega (arith, some, many)) rising;
@@ -155,7 +127,6 @@ wide_facts net earlier system columns height index basis fits some many low high
   head_parts = tt;
   heads_same = λ rs p. p;
   fit = λ rs hold z. tt;
-  formed = λ rs other hold z. (gap, refl);
   row_parts = λ rs hold z. tt;
 }
 
@@ -173,7 +144,7 @@ spent_facts net earlier k range =
       ranks = λ long. tt;
       is_head = (_, inr (inr (inr (inr (inr (inl refl))))));
       few = omega arith;
-      may = range;
+      may = (range, tt);
       below_is = ap (λ (p : ℕ). rows Q13 (shapes_of known) p (pos k ∷ [])) place;
       said = λ rs. refl;
       shown = λ rs. refl;
@@ -184,7 +155,6 @@ spent_facts net earlier k range =
       head_parts = tt;
       heads_same = λ rs p. p;
       fit = λ rs hold z. tt;
-      formed = λ rs other hold z. (range, refl);
       row_parts = λ rs hold z. tt;
     })
 
@@ -198,7 +168,7 @@ rests_facts net earlier =
       ranks = λ long. tt;
       is_head = (_, inr (inr (inr (inr (inr (inr refl))))));
       few = omega arith;
-      may = refl;
+      may = ((omega arith, omega arith), tt);
       below_is = ap (λ (p : ℕ). rows Q13 (shapes_of known) p (pos 12 ∷ [])) place;
       said = λ rs. refl;
       shown = λ rs. refl;
@@ -209,7 +179,6 @@ rests_facts net earlier =
       head_parts = tt;
       heads_same = λ rs p. p;
       fit = λ rs hold z. tt;
-      formed = λ rs other hold z. (refl, refl);
       row_parts = λ rs hold z. tt;
     })
 
@@ -226,9 +195,9 @@ by_wide net earlier h network f =
     let r0 = network.partial.reactions_limit in
     same_facts net earlier 13 h (codes "q13" ∷ open_by (codes "wide")) (pos 2 ∷ pos 0 ∷ pos w.index ∷ w.basis) f.0 w.is
     (wide_facts net earlier 2 (length net.reactions) (length net.names) w.index w.basis (omega arith) (omega (arith, r0)) (omega (arith, s0)) w.low w.high w.long w.rising
-    (inl (refl, refl, wide_basis (length net.reactions) (length net.names) w.index w.basis w.low w.high w.long w.rising)))
+    (inl (refl, refl, wide_basis (length net.reactions) (length net.names) w.index w.basis w.low w.high w.long w.rising), tt))
 
-by_shelves : (net : Net) (earlier : Earlier) (h : Record) → IsNetwork net → ArePairs net earlier → HasVector earlier → Fits (wide (codes "q13") 4 5 (length net.names + 1) (length net.complexes + length (pairs_of (known_of net earlier)))) h → FactsOf net earlier 13 h
+by_shelves : (net : Net) (earlier : Earlier) (h : Record) → IsNetwork net → ArePairs net earlier → has_vector (on earlier Q12) ≡ true → Fits (wide (codes "q13") 4 5 (length net.names + 1) (length net.complexes + length (pairs_of (known_of net earlier)))) h → FactsOf net earlier 13 h
 by_shelves net earlier h network pairs vector f =
     let columns = length net.names + 1 in
     let many = length net.complexes + length (pair_places net earlier) in
@@ -239,7 +208,7 @@ by_shelves net earlier h network pairs vector f =
     let p0 = pairs_few net earlier in
     same_facts net earlier 13 h (codes "q13" ∷ open_by (codes "wide")) (pos 5 ∷ pos 0 ∷ pos w.index ∷ w.basis) f.0 w.is
     (wide_facts net earlier 5 columns many w.index w.basis (omega arith) (omega (arith, s0)) (omega (arith, c0, r0, p0)) w.low w.high w.long w.rising
-    (inr (refl, refl, vector, wide_basis columns many w.index w.basis w.low w.high w.long w.rising)))
+    (inr (refl, refl, vector, wide_basis columns many w.index w.basis w.low w.high w.long w.rising), tt))
 
 by_closed : (net : Net) (earlier : Earlier) (h : Record) (form : Form) → IsIn form (spent (codes "q13") 5 ∷ rests (codes "q13") 6 12 ∷ []) → Fits form h → FactsOf net earlier 13 h
 by_closed net earlier h form (inl e) fits =
@@ -255,7 +224,7 @@ by_closed net earlier h form (inr (inr none)) fits = absurd none
 
 by_last : (net : Net) (earlier : Earlier) (h : Record) (vector : Bool) → has_vector (on earlier Q12) ≡ vector → IsNetwork net → ArePairs net earlier → (form : Form) → IsIn form (last_forms vector (sizes_of (known_of net earlier))) → Fits form h → FactsOf net earlier 13 h
 by_last net earlier h true v network pairs form (inl e) fits =
-    by_shelves net earlier h network pairs (vector_then (on earlier Q12) v) (as_form h form (wide (codes "q13") 4 5 (length net.names + 1) (length net.complexes + length (pairs_of (known_of net earlier)))) e fits)
+    by_shelves net earlier h network pairs v (as_form h form (wide (codes "q13") 4 5 (length net.names + 1) (length net.complexes + length (pairs_of (known_of net earlier)))) e fits)
 by_last net earlier h true v network pairs form (inr more) fits = by_closed net earlier h form more fits
 by_last net earlier h false v network pairs form more fits = by_closed net earlier h form more fits
 

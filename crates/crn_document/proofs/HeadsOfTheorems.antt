@@ -20,7 +20,7 @@ zero_yes_facts net earlier = record {
   ranks = λ long. tt;
   is_head = (_, inl refl);
   few = omega arith;
-  may = tt;
+  may = ((omega arith, omega arith), tt);
   below_is = refl;
   said = λ rs. refl;
   shown = λ rs. refl;
@@ -31,7 +31,6 @@ zero_yes_facts net earlier = record {
   head_parts = (omega arith, (omega arith, tt));
   heads_same = λ rs p. p;
   fit = λ rs hold z. tt;
-  formed = λ rs other hold z. (tt, tt);
   row_parts = λ rs hold z. tt;
 }
 
@@ -42,7 +41,7 @@ zero_other_facts net earlier = record {
   ranks = λ long. tt;
   is_head = (_, inl refl);
   few = omega arith;
-  may = tt;
+  may = ((omega arith, omega arith), tt);
   below_is = refl;
   said = λ rs. refl;
   shown = λ rs. refl;
@@ -53,7 +52,6 @@ zero_other_facts net earlier = record {
   head_parts = (omega arith, (omega arith, tt));
   heads_same = λ rs p. p;
   fit = λ rs hold z. tt;
-  formed = λ rs other hold z. (tt, tt);
   row_parts = λ rs hold z. tt;
 }
 
@@ -64,7 +62,7 @@ zero_no_facts net earlier d network range = record {
   ranks = λ long. tt;
   is_head = (_, inr (inl refl));
   few = omega arith;
-  may = range;
+  may = (range, tt);
   below_is = refl;
   said = λ rs. refl;
   shown = λ rs. refl;
@@ -75,7 +73,6 @@ zero_no_facts net earlier d network range = record {
   head_parts = (omega arith, (omega arith, tt));
   heads_same = λ rs p. p;
   fit = λ rs hold z. tt;
-  formed = λ rs other hold z. (range, tt);
   row_parts = λ rs hold z. tt;
 }
 
@@ -86,7 +83,7 @@ zero_rests_facts net earlier = record {
   ranks = λ long. tt;
   is_head = (_, inr (inr refl));
   few = omega arith;
-  may = refl;
+  may = ((omega arith, omega arith), tt);
   below_is = refl;
   said = λ rs. refl;
   shown = λ rs. refl;
@@ -97,7 +94,6 @@ zero_rests_facts net earlier = record {
   head_parts = tt;
   heads_same = λ rs p. p;
   fit = λ rs hold z. tt;
-  formed = λ rs other hold z. (refl, refl);
   row_parts = λ rs hold z. tt;
 }
 
@@ -119,7 +115,6 @@ one_yes_facts net earlier = record {
   head_parts = (omega arith, tt);
   heads_same = λ rs p. p;
   fit = λ rs hold z. tt;
-  formed = λ rs other hold z. (tt, tt);
   row_parts = λ rs hold z. tt;
 }
 
@@ -130,7 +125,7 @@ one_split_facts net earlier k m network least a b = record {
   ranks = λ long. tt;
   is_head = (_, inr (inl refl));
   few = omega arith;
-  may = (a, b);
+  may = (a, (b, tt));
   below_is = refl;
   said = λ rs. refl;
   shown = λ rs. refl;
@@ -141,7 +136,6 @@ one_split_facts net earlier k m network least a b = record {
   head_parts = (omega arith, tt);
   heads_same = λ rs p. p;
   fit = λ rs hold z. tt;
-  formed = λ rs other hold z. ((a, b), tt);
   row_parts = λ rs hold z. tt;
 }
 
@@ -152,7 +146,7 @@ one_large_facts net earlier k m network least a b = record {
   ranks = λ long. tt;
   is_head = (_, inr (inr (inl refl)));
   few = omega arith;
-  may = (a, b);
+  may = (a, (b, tt));
   below_is = refl;
   said = λ rs. refl;
   shown = λ rs. refl;
@@ -163,7 +157,6 @@ one_large_facts net earlier k m network least a b = record {
   head_parts = (omega arith, tt);
   heads_same = λ rs p. p;
   fit = λ rs hold z. tt;
-  formed = λ rs other hold z. ((a, b), tt);
   row_parts = λ rs hold z. tt;
 }
 
@@ -174,7 +167,7 @@ one_sum_facts net earlier x network range = record {
   ranks = λ long. tt;
   is_head = (_, inr (inr (inr (inl refl))));
   few = omega arith;
-  may = range;
+  may = (range, tt);
   below_is = refl;
   said = λ rs. refl;
   shown = λ rs. refl;
@@ -185,7 +178,6 @@ one_sum_facts net earlier x network range = record {
   head_parts = (omega arith, tt);
   heads_same = λ rs p. p;
   fit = λ rs hold z. tt;
-  formed = λ rs other hold z. (range, tt);
   row_parts = λ rs hold z. tt;
 }
 
@@ -196,7 +188,7 @@ one_rests_facts net earlier = record {
   ranks = λ long. tt;
   is_head = (_, inr (inr (inr (inr refl))));
   few = omega arith;
-  may = refl;
+  may = ((omega arith, omega arith), tt);
   below_is = refl;
   said = λ rs. refl;
   shown = λ rs. refl;
@@ -207,7 +199,6 @@ one_rests_facts net earlier = record {
   head_parts = tt;
   heads_same = λ rs p. p;
   fit = λ rs hold z. tt;
-  formed = λ rs other hold z. (refl, refl);
   row_parts = λ rs hold z. tt;
 }
 

@@ -1,15 +1,10 @@
 -- What the heads of questions 7 and 8 say.
 use Rattle.std.proofs.Common.{◌≡◌, ◌≤◌, ◌+◌, ℕ, List, [], ◌∷◌, length, refl, inl, inr, arith}
 use Rattle.std.specs.Prelude.{ℤ, pos, codes}
-use Rattle.std.specs.List.{AllZip}
 use Rattle.crn_vec.specs.Network.{Net, IsNetwork}
 use Rattle.crn_cert.specs.Questions.{Earlier}
-use Rattle.crn_cert.specs.Ranges.{AreFree}
-use Rattle.crn_ctext.specs.Records.{Record, AreRising, Fits}
-use Rattle.crn_ctext.specs.Kinds.{free_form}
+use Rattle.crn_ctext.specs.Records.{Record, AreRising}
 use Rattle.crn_ctext.specs.Questions.{head, yes, no, wide, open_by}
-use Rattle.crn_ctext.specs.Meaning.{row}
-use Rattle.crn_document.proofs.Ranks.{free_row}
 use Rattle.crn_document.proofs.HeadFacts.{Facts, wide_numbers, wide_small, wide_basis, same_facts, as_form, FactsAt}
 
 dependence_wide_facts : (net : Net) (earlier : Earlier) (index : ℕ) (basis : List ℤ) → IsNetwork net → 1 ≤ index → index ≤ length net.reactions + length net.names → length basis ≡ length net.reactions → AreRising (length net.reactions + length net.names) basis → Facts net earlier 7 (codes "q7" ∷ open_by (codes "wide")) (pos 2 ∷ pos 0 ∷ pos index ∷ basis)
@@ -19,7 +14,7 @@ dependence_wide_facts net earlier index basis network low high long rising = rec
   ranks = λ long. tt;
   is_head = (_, inr (inr refl));
   few = omega arith;
-  may = (refl, refl, wide_basis (length net.reactions) (length net.names) index basis low high long rising);
+  may = ((refl, refl, wide_basis (length net.reactions) (length net.names) index basis low high long rising), tt);
   below_is = refl;
   said = λ rs. refl;
   shown = λ rs. refl;
@@ -30,7 +25,6 @@ dependence_wide_facts net earlier index basis network low high long rising = rec
   head_parts = tt;
   heads_same = λ rs p. p;
   fit = λ rs hold z. tt;
-  formed = λ rs other hold z. ((refl, refl, wide_basis (length net.reactions) (length net.names) index basis low high long rising), refl);
   row_parts = λ rs hold z. tt;
 }
 
@@ -41,7 +35,7 @@ law_wide_facts net earlier index basis network low high long rising = record {
   ranks = λ long. tt;
   is_head = (_, inr (inr refl));
   few = omega arith;
-  may = (refl, refl, wide_basis (length net.names) (length net.reactions) index basis low high long rising);
+  may = ((refl, refl, wide_basis (length net.names) (length net.reactions) index basis low high long rising), tt);
   below_is = refl;
   said = λ rs. refl;
   shown = λ rs. refl;
@@ -52,14 +46,8 @@ law_wide_facts net earlier index basis network low high long rising = record {
   head_parts = tt;
   heads_same = λ rs p. p;
   fit = λ rs hold z. tt;
-  formed = λ rs other hold z. ((refl, refl, wide_basis (length net.names) (length net.reactions) index basis low high long rising), refl);
   row_parts = λ rs hold z. tt;
 }
-
-vector_rows : (word : List ℕ) (count : ℕ) (rs : List Record) → AllZip Fits (free_form word count ∷ []) rs → AreFree count (row rs 0)
-vector_rows word count [] z = absurd z
-vector_rows word count (r ∷ []) z = free_row word count r z.0
-vector_rows word count (r ∷ s ∷ rs) z = absurd z.1
 
 dependence_facts : (net : Net) (earlier : Earlier) → Facts net earlier 7 (codes "q7" ∷ yes) []
 dependence_facts net earlier = record {
@@ -79,7 +67,6 @@ dependence_facts net earlier = record {
   head_parts = tt;
   heads_same = λ rs p. p;
   fit = λ rs hold z. tt;
-  formed = λ rs other hold z. (tt, vector_rows (codes "vec") (length net.reactions) rs z);
   row_parts = λ rs hold z. (omega arith, tt);
 }
 
@@ -101,7 +88,6 @@ no_dependence_facts net earlier = record {
   head_parts = tt;
   heads_same = λ rs p. p;
   fit = λ rs hold z. tt;
-  formed = λ rs other hold z. (tt, vector_rows (codes "cut") (length net.names) rs z);
   row_parts = λ rs hold z. (omega arith, tt);
 }
 
@@ -123,7 +109,6 @@ law_facts net earlier = record {
   head_parts = tt;
   heads_same = λ rs p. p;
   fit = λ rs hold z. tt;
-  formed = λ rs other hold z. (tt, vector_rows (codes "vec") (length net.names) rs z);
   row_parts = λ rs hold z. (omega arith, tt);
 }
 
@@ -145,7 +130,6 @@ no_law_facts net earlier = record {
   head_parts = tt;
   heads_same = λ rs p. p;
   fit = λ rs hold z. tt;
-  formed = λ rs other hold z. (tt, vector_rows (codes "cut") (length net.reactions) rs z);
   row_parts = λ rs hold z. (omega arith, tt);
 }
 

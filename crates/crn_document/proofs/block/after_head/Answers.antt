@@ -7,7 +7,7 @@ use Rattle.crn_cert.specs.Valid.{head_tests}
 use Rattle.crn_ctext.specs.Blocks.{claims}
 use Rattle.crn_ctext.specs.Course.{◌>>=◌}
 use Rattle.crn_ctext.specs.Course as course
-use Rattle.crn_ctext.proofs.CallerLemmas.{fails_before, head_is_before}
+use Rattle.crn_ctext.proofs.CallerLemmas.{fails_before}
 use Rattle.crn_check.specs.Facts.{asked}
 use Rattle.crn_document.specs.Inner.Answer.{AreSmall, IsHeadOf}
 use Rattle.crn_document.specs.Inner.Heads.{IsHead}
@@ -36,7 +36,7 @@ pub check_head-requires-clause-head : goal.check_head-requires-clause-head
 check_head-requires-clause-head g c =
     let f = said_facts c.args.net.now c.args.question c.args.checked.now.facts c.args.at.now.numbers.list c.requires.head.0 c.requires.built c.requires.ready.known c.requires.head.1 in
     let same = c.as_slice-2.ensures ∙ c.in_ok-head.ensures.list ∙ c.as_slice.ensures in
-    subst (λ (v : Verdict). HeadMayBe c.args.net.now c.args.checked.now.facts.earlier (asked c.args.question) v) (sym (c.in_ok-verdict.ensures ∙ ap (λ (zs : List ℤ). said_verdict c.args.question zs []) same)) (head_is_before (asked c.args.question) c.args.net.now c.args.checked.now.facts.earlier _ f.may)
+    subst (λ (v : Verdict). HeadMayBe c.args.net.now c.args.checked.now.facts.earlier (asked c.args.question) v) (sym (c.in_ok-verdict.ensures ∙ ap (λ (zs : List ℤ). said_verdict c.args.question zs []) same)) f.may
 
 pub returns-in-Ok-clause-step : goal.returns-in-Ok-clause-step
 returns-in-Ok-clause-step g c = λ h n blocks said next.
