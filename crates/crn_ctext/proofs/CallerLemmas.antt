@@ -44,3 +44,31 @@ pub use Rattle.crn_ctext.proofs.TreesAlike.{gives_parts}
 -- Records that fit the forms of a question, and after which no tree is due, are those of a formed answer.
 pub use Rattle.crn_ctext.proofs.RecordsFormed.{records_formed}
 pub use Rattle.crn_ctext.proofs.BlockLaws.{PairsFor}
+-- ---- for the parts
+
+-- Decided statements.
+pub use Rattle.crn_ctext.proofs.Decided.{IsDecided, both_decided, not_decided, if_decided, moved, nat_decided, le_decided, bool_decided, int_decided, int_le_decided, all_decided}
+pub use Rattle.crn_ctext.proofs.TestsDecided.{each_below, some_below}
+pub use Rattle.crn_ctext.proofs.RanksDecided.{law_decided, no_law_decided}
+-- Settled courses.
+pub use Rattle.crn_ctext.proofs.LinesRead.{HaveWords}
+pub use Rattle.crn_ctext.proofs.FormWords.{words_yes, forms_yes, are_words}
+pub use Rattle.crn_ctext.proofs.Courses.{settled_then, fails_with_a_code}
+pub use Rattle.crn_ctext.proofs.Settled.{test_settled, own_settled, give_settled, either_settled}
+pub use Rattle.crn_ctext.proofs.PartsSettled.{asks_part_settled, asks_parts_settled, part_settled}
+-- Lines that are written and read.
+pub use Rattle.crn_ctext.proofs.Image.{HasNoEnd, written_then, written_cuts, no_end_then, give_no_end, part_record_is_written, written_is_part_record, part_no_end, test_no_end}
+pub use Rattle.crn_ctext.proofs.TreesRead.{give_back}
+pub use Rattle.crn_ctext.proofs.Shared.{in_by_test}
+pub use Rattle.crn_ctext.proofs.ShortLines.{plain_is_line}
+pub use Rattle.crn_ctext.proofs.ShortAnswers.{short_both}
+-- Numbers of records.
+pub use Rattle.crn_ctext.proofs.Bounded.{IsPlain, IsBounded, words_fit, fitting_is_plain, slim_are_short}
+pub use Rattle.crn_ctext.proofs.RanksLinked.{free_fits, free_row}
+pub use Rattle.crn_ctext.proofs.PartNumbers.{FitFields, number_then, rising_fits, small_numbers, one_number, number_fits, number_back}
+pub use Rattle.crn_ctext.proofs.FieldsTyped.{rising}
+-- Documents of a part.
+pub use Rattle.crn_ctext.proofs.PartsRead.{IsAnswered, read_is_document, document_is_read, documents_are_judged, part_document_short}
+-- Lines that are written one after another.
+pub use Rattle.crn_ctext.proofs.Pieces.{stops_first, stops_later, ends_with, wrote_as}
+pub use Rattle.crn_ctext.proofs.WrittenLines.{line_of_word, word_then, lines_append, lines_two, lines_three}

@@ -1,11 +1,11 @@
 -- Of a settled course a text gives one thing or has one first fault, and never both; and what one course after another does.
-use Rattle.std.proofs.Common.{◌≡◌, ◌⊎◌, ℕ, ◌<◌, List, [], ◌∷◌, length, refl, sym, ap, subst, ◌∙◌, inl, inr, arith}
+use Rattle.std.proofs.Common.{◌≡◌, ◌⊎◌, ℕ, Bool, true, false, ◌<◌, List, [], ◌∷◌, length, refl, sym, ap, subst, ◌∙◌, inl, inr, arith}
 use Rattle.crn_io.specs.declared.lines.TheConstants.{MAX_DOCUMENT}
 use Rattle.crn_io.specs.Lines.{Place, IsLineAt, BreaksLine, document_too_long, line_too_long, otherwise, LacksLine, HasMore, early}
-use Rattle.crn_ctext.specs.Course.{Course, Give, Line, Test, End, ◌>>=◌, Gives, FailsFirst}
-use Rattle.crn_ctext.specs.Inner.Courses.{IsSettled}
+use Rattle.crn_ctext.specs.Course.{Course, Code, Kind, Own, Give, Line, Test, End, IsCode, IsReported, number_of, ◌>>=◌, Gives, FailsFirst}
+use Rattle.crn_ctext.specs.Courses.{IsSettled}
 use Rattle.crn_io.proofs.CallerLemmas.{line_or_not, breaks_or_not, line_is_there, line_breaks_none, line_is_one, break_is_one}
-use Rattle.crn_cert.specs.Faults.{fault_number}
+use Rattle.crn_cert.specs.Faults.{Fault, DocumentTooLong, LineTooLong, EndsEarly, AfterEnd, TreeEndsEarly, fault_number}
 
 -- whether something is left is decided
 more_or_not : (at : Place) → HasMore at ⊎ (HasMore at → ⊥)
@@ -18,26 +18,26 @@ more_or_not at = by at.left
 abbrev Judged : {A : Type 0} → Course A → Place → Type 0
 Judged {A} course at = ((y : A) × (after : Place) × Gives course at y after) ⊎ ((n : ℕ) × (code : ℕ) × FailsFirst course at n code)
 
-pub each_is_judged : {A : Type 0} (course : Course A) → IsSettled course → (at : Place) → at.before < MAX_DOCUMENT → Judged course at
+pub each_is_judged : {A : Type 0} (own : ℕ → Type 0) (course : Course A) → IsSettled own course → (at : Place) → at.before < MAX_DOCUMENT → Judged course at
 unfolding Gives FailsFirst IsSettled
-each_is_judged (Give x) s at lt = inl (x, at, (refl, refl))
-each_is_judged (Line node next) s at lt = elim (breaks_or_not at (early node) (LacksLine at) lt (line_or_not at.left)) [
+each_is_judged own (Give x) s at lt = inl (x, at, (refl, refl))
+each_is_judged own (Line node next) s at lt = elim (breaks_or_not at (early node) (LacksLine at) lt (line_or_not at.left)) [
   | inl breaks ↦ inr (at.line, breaks.0, inl (refl, breaks.1))
-  | inr none ↦ let l = line_is_there at lt none.0 none.1 none.2 in let b = l.2.bound in elim (each_is_judged (next l.0) (s l.0) l.1 b) [
+  | inr none ↦ let l = line_is_there at lt none.0 none.1 none.2 in let b = l.2.bound in elim (each_is_judged own (next l.0) (s l.0) l.1 b) [
     | inl gives ↦ inl (gives.0, gives.1, (l.0, l.1, l.2, gives.2))
     | inr fails ↦ inr (fails.0, fails.1, inr (l.0, l.1, l.2, fails.2))
   ]
 ]
-each_is_judged (Test n c X P next) s at lt = elim s.0 [
-  | inl x ↦ elim (each_is_judged (next x.0) (s.2 x.0 x.1) at lt) [
+each_is_judged own (Test n c X P next) s at lt = elim s.0 [
+  | inl x ↦ elim (each_is_judged own (next x.0) (s.2 x.0 x.1) at lt) [
     | inl gives ↦ inl (gives.0, gives.1, (x.0, x.1, gives.2))
     | inr fails ↦ inr (fails.0, fails.1, inr (x.0, x.1, fails.2))
   ]
-  | inr none ↦ inr (n, fault_number c, inl (refl, refl, none))
+  | inr none ↦ inr (n, number_of c, inl (refl, refl, none))
 ]
-each_is_judged (End next) s at lt = elim (breaks_or_not at 28 (HasMore at) lt (more_or_not at)) [
+each_is_judged own (End next) s at lt = elim (breaks_or_not at 28 (HasMore at) lt (more_or_not at)) [
   | inl breaks ↦ inr (at.line, breaks.0, inl (refl, breaks.1))
-  | inr none ↦ elim (each_is_judged next s at lt) [
+  | inr none ↦ elim (each_is_judged own next s at lt) [
     | inl gives ↦ inl (gives.0, gives.1, (none.2, gives.2))
     | inr fails ↦ inr (fails.0, fails.1, inr (none.2, fails.2))
   ]
@@ -55,53 +55,53 @@ same_after P at line l after b p q h =
     let same = line_is_one at line l after b p q in
     subst (λ (x : List ℕ). P x after) (sym same.0) (subst (λ (y : Place). P l y) (sym same.1) h)
 
-pub gives_or_fails : {A : Type 0} (course : Course A) → IsSettled course → (at after : Place) (y : A) (n code : ℕ) → Gives course at y after → FailsFirst course at n code → ⊥
+pub gives_or_fails : {A : Type 0} (own : ℕ → Type 0) (course : Course A) → IsSettled own course → (at after : Place) (y : A) (n code : ℕ) → Gives course at y after → FailsFirst course at n code → ⊥
 unfolding Gives FailsFirst IsSettled
-gives_or_fails (Give x) s at after y n code p f = f
-gives_or_fails (Line node next) s at after y n code p f = elim f [
+gives_or_fails own (Give x) s at after y n code p f = f
+gives_or_fails own (Line node next) s at after y n code p f = elim f [
   | inl breaks ↦ line_breaks_none at p.0 p.1 (early node) code p.2 breaks.1
-  | inr l ↦ gives_or_fails (next p.0) (s p.0) p.1 after y n code p.3 (same_after (λ x b. FailsFirst (next x) b n code) at p.0 l.0 p.1 l.1 p.2 l.2 l.3)
+  | inr l ↦ gives_or_fails own (next p.0) (s p.0) p.1 after y n code p.3 (same_after (λ x b. FailsFirst (next x) b n code) at p.0 l.0 p.1 l.1 p.2 l.2 l.3)
 ]
-gives_or_fails (Test m c X P next) s at after y n code p f = elim f [
+gives_or_fails own (Test m c X P next) s at after y n code p f = elim f [
   | inl none ↦ none.2 p.0 p.1
-  | inr x ↦ gives_or_fails (next p.0) (s.2 p.0 p.1) at after y n code p.2 (subst (λ (y : X). FailsFirst (next y) at n code) (s.1 x.0 p.0 x.1 p.1) x.2)
+  | inr x ↦ gives_or_fails own (next p.0) (s.2 p.0 p.1) at after y n code p.2 (subst (λ (y : X). FailsFirst (next y) at n code) (s.1 x.0 p.0 x.1 p.1) x.2)
 ]
-gives_or_fails (End next) s at after y n code p f = elim f [
+gives_or_fails own (End next) s at after y n code p f = elim f [
   | inl breaks ↦ end_breaks_none at code p.0 breaks.1
-  | inr more ↦ gives_or_fails next s at after y n code p.1 more.1
+  | inr more ↦ gives_or_fails own next s at after y n code p.1 more.1
 ]
 
-pub gives_one : {A : Type 0} (course : Course A) → IsSettled course → (at after past : Place) (y z : A) → Gives course at y after → Gives course at z past → (y ≡ z) × (after ≡ past)
+pub gives_one : {A : Type 0} (own : ℕ → Type 0) (course : Course A) → IsSettled own course → (at after past : Place) (y z : A) → Gives course at y after → Gives course at z past → (y ≡ z) × (after ≡ past)
 unfolding Gives IsSettled
-gives_one (Give x) s at after past y z p q = (sym p.0 ∙ q.0, sym p.1 ∙ q.1)
-gives_one (Line node next) s at after past y z p q = gives_one (next p.0) (s p.0) p.1 after past y z p.3 (same_after (λ x b. Gives (next x) b z past) at p.0 q.0 p.1 q.1 p.2 q.2 q.3)
-gives_one (Test m c X P next) s at after past y z p q = gives_one (next p.0) (s.2 p.0 p.1) at after past y z p.2 (subst (λ (x : X). Gives (next x) at z past) (s.1 q.0 p.0 q.1 p.1) q.2)
-gives_one (End next) s at after past y z p q = gives_one next s at after past y z p.1 q.1
+gives_one own (Give x) s at after past y z p q = (sym p.0 ∙ q.0, sym p.1 ∙ q.1)
+gives_one own (Line node next) s at after past y z p q = gives_one own (next p.0) (s p.0) p.1 after past y z p.3 (same_after (λ x b. Gives (next x) b z past) at p.0 q.0 p.1 q.1 p.2 q.2 q.3)
+gives_one own (Test m c X P next) s at after past y z p q = gives_one own (next p.0) (s.2 p.0 p.1) at after past y z p.2 (subst (λ (x : X). Gives (next x) at z past) (s.1 q.0 p.0 q.1 p.1) q.2)
+gives_one own (End next) s at after past y z p q = gives_one own next s at after past y z p.1 q.1
 
-pub first_is_one : {A : Type 0} (course : Course A) → IsSettled course → (at : Place) (n m c d : ℕ) → FailsFirst course at n c → FailsFirst course at m d → (n ≡ m) × (c ≡ d)
+pub first_is_one : {A : Type 0} (own : ℕ → Type 0) (course : Course A) → IsSettled own course → (at : Place) (n m c d : ℕ) → FailsFirst course at n c → FailsFirst course at m d → (n ≡ m) × (c ≡ d)
 unfolding FailsFirst IsSettled
-first_is_one (Give x) s at n m c d f g = absurd f
-first_is_one (Line node next) s at n m c d (inl f) (inl g) = (f.0 ∙ sym g.0, break_is_one at (early node) c d (LacksLine at) f.1 g.1)
-first_is_one (Line node next) s at n m c d (inl f) (inr g) = absurd (line_breaks_none at g.0 g.1 (early node) c g.2 f.1)
-first_is_one (Line node next) s at n m c d (inr f) (inl g) = absurd (line_breaks_none at f.0 f.1 (early node) d f.2 g.1)
-first_is_one (Line node next) s at n m c d (inr f) (inr g) = first_is_one (next f.0) (s f.0) f.1 n m c d f.3 (same_after (λ x b. FailsFirst (next x) b m d) at f.0 g.0 f.1 g.1 f.2 g.2 g.3)
-first_is_one (Test k e X P next) s at n m c d (inl f) (inl g) = (f.0 ∙ sym g.0, f.1 ∙ sym g.1)
-first_is_one (Test k e X P next) s at n m c d (inl f) (inr g) = absurd (f.2 g.0 g.1)
-first_is_one (Test k e X P next) s at n m c d (inr f) (inl g) = absurd (g.2 f.0 f.1)
-first_is_one (Test k e X P next) s at n m c d (inr f) (inr g) = first_is_one (next f.0) (s.2 f.0 f.1) at n m c d f.2 (subst (λ (y : X). FailsFirst (next y) at m d) (s.1 g.0 f.0 g.1 f.1) g.2)
-first_is_one (End next) s at n m c d (inl f) (inl g) = (f.0 ∙ sym g.0, break_is_one at 28 c d (HasMore at) f.1 g.1)
-first_is_one (End next) s at n m c d (inl f) (inr g) = absurd (end_breaks_none at c g.0 f.1)
-first_is_one (End next) s at n m c d (inr f) (inl g) = absurd (end_breaks_none at d f.0 g.1)
-first_is_one (End next) s at n m c d (inr f) (inr g) = first_is_one next s at n m c d f.1 g.1
+first_is_one own (Give x) s at n m c d f g = absurd f
+first_is_one own (Line node next) s at n m c d (inl f) (inl g) = (f.0 ∙ sym g.0, break_is_one at (early node) c d (LacksLine at) f.1 g.1)
+first_is_one own (Line node next) s at n m c d (inl f) (inr g) = absurd (line_breaks_none at g.0 g.1 (early node) c g.2 f.1)
+first_is_one own (Line node next) s at n m c d (inr f) (inl g) = absurd (line_breaks_none at f.0 f.1 (early node) d f.2 g.1)
+first_is_one own (Line node next) s at n m c d (inr f) (inr g) = first_is_one own (next f.0) (s f.0) f.1 n m c d f.3 (same_after (λ x b. FailsFirst (next x) b m d) at f.0 g.0 f.1 g.1 f.2 g.2 g.3)
+first_is_one own (Test k e X P next) s at n m c d (inl f) (inl g) = (f.0 ∙ sym g.0, f.1 ∙ sym g.1)
+first_is_one own (Test k e X P next) s at n m c d (inl f) (inr g) = absurd (f.2 g.0 g.1)
+first_is_one own (Test k e X P next) s at n m c d (inr f) (inl g) = absurd (g.2 f.0 f.1)
+first_is_one own (Test k e X P next) s at n m c d (inr f) (inr g) = first_is_one own (next f.0) (s.2 f.0 f.1) at n m c d f.2 (subst (λ (y : X). FailsFirst (next y) at m d) (s.1 g.0 f.0 g.1 f.1) g.2)
+first_is_one own (End next) s at n m c d (inl f) (inl g) = (f.0 ∙ sym g.0, break_is_one at 28 c d (HasMore at) f.1 g.1)
+first_is_one own (End next) s at n m c d (inl f) (inr g) = absurd (end_breaks_none at c g.0 f.1)
+first_is_one own (End next) s at n m c d (inr f) (inl g) = absurd (end_breaks_none at d f.0 g.1)
+first_is_one own (End next) s at n m c d (inr f) (inr g) = first_is_one own next s at n m c d f.1 g.1
 
 -- ---- one course after another
 
-pub settled_then : {A B : Type 0} (c : Course A) (f : A → Course B) → IsSettled c → ((x : A) → IsSettled (f x)) → IsSettled (c >>= f)
+pub settled_then : {A B : Type 0} (own : ℕ → Type 0) (c : Course A) (f : A → Course B) → IsSettled own c → ((x : A) → IsSettled own (f x)) → IsSettled own (c >>= f)
 unfolding IsSettled
-settled_then (Give x) f s t = t x
-settled_then (Line node next) f s t = λ line. settled_then (next line) f (s line) t
-settled_then (Test n c X P next) f s t = (s.0, s.1, λ x p. settled_then (next x) f (s.2 x p) t)
-settled_then (End next) f s t = settled_then next f s t
+settled_then own (Give x) f s t = t x
+settled_then own (Line node next) f s t = λ line. settled_then own (next line) f (s line) t
+settled_then own (Test n c X P next) f s t = (s.0, s.1, (λ x p. settled_then own (next x) f (s.2 x p) t), s.3)
+settled_then own (End next) f s t = settled_then own next f s t
 
 -- whatever the lines hold, it gives values with this property alone
 unfoldable pub GivesOnly : {A : Type 0} → (A → Type 0) → Course A → Type 0
@@ -110,12 +110,12 @@ GivesOnly Has (Line node next) = (line : List ℕ) → GivesOnly Has (next line)
 GivesOnly {A} Has (Test n c X P next) = (x : X) → P x → GivesOnly Has (next x)
 GivesOnly Has (End next) = GivesOnly Has next
 
-pub settled_with : {A B : Type 0} (Has : A → Type 0) (c : Course A) (f : A → Course B) → IsSettled c → GivesOnly Has c → ((x : A) → Has x → IsSettled (f x)) → IsSettled (c >>= f)
+pub settled_with : {A B : Type 0} (own : ℕ → Type 0) (Has : A → Type 0) (c : Course A) (f : A → Course B) → IsSettled own c → GivesOnly Has c → ((x : A) → Has x → IsSettled own (f x)) → IsSettled own (c >>= f)
 unfolding IsSettled GivesOnly
-settled_with Has (Give x) f s g t = t x g
-settled_with Has (Line node next) f s g t = λ line. settled_with Has (next line) f (s line) (g line) t
-settled_with Has (Test n c X P next) f s g t = (s.0, s.1, λ x p. settled_with Has (next x) f (s.2 x p) (g x p) t)
-settled_with Has (End next) f s g t = settled_with Has next f s g t
+settled_with own Has (Give x) f s g t = t x g
+settled_with own Has (Line node next) f s g t = λ line. settled_with own Has (next line) f (s line) (g line) t
+settled_with own Has (Test n c X P next) f s g t = (s.0, s.1, (λ x p. settled_with own Has (next x) f (s.2 x p) (g x p) t), s.3)
+settled_with own Has (End next) f s g t = settled_with own Has next f s g t
 
 -- so does the second after the first
 pub gives_only_then : {A B : Type 0} (Has : B → Type 0) (c : Course A) (f : A → Course B) → ((x : A) → GivesOnly Has (f x)) → GivesOnly Has (c >>= f)
@@ -151,3 +151,29 @@ fails_then (Give z) f at mid x n code p q = subst (λ (z : _). FailsFirst (f z) 
 fails_then (Line node next) f at mid x n code p q = inr (p.0, p.1, p.2, fails_then (next p.0) f p.1 mid x n code p.3 q)
 fails_then (Test m c X P next) f at mid x n code p q = inr (p.0, p.1, fails_then (next p.0) f at mid x n code p.2 q)
 fails_then (End next) f at mid x n code p q = inr (p.0, fails_then next f at mid x n code p.1 q)
+
+-- ---- the code of a first fault
+
+code_reported : (own : ℕ → Type 0) (c : Code) → IsCode own c → IsReported own (number_of c)
+code_reported own (Kind fault) p = inl (fault, refl)
+code_reported own (Own number) p = inr p
+
+early_reported : (own : ℕ → Type 0) (node : Bool) → IsReported own (early node)
+early_reported own true = inl (TreeEndsEarly, refl)
+early_reported own false = inl (EndsEarly, refl)
+
+break_reported : (own : ℕ → Type 0) (at : Place) (last : ℕ) (Other : Type 0) (code : ℕ) → IsReported own last → BreaksLine at last Other code → IsReported own code
+break_reported own at last Other code n (document_too_long d) = inl (DocumentTooLong, refl)
+break_reported own at last Other code n (line_too_long d l) = inl (LineTooLong, refl)
+break_reported own at last Other code n (otherwise d l o) = n
+
+-- a settled course fails first with such a code
+pub fails_with_a_code : {A : Type 0} (own : ℕ → Type 0) (course : Course A) → IsSettled own course → (at : Place) (n code : ℕ) → FailsFirst course at n code → IsReported own code
+unfolding FailsFirst IsSettled
+fails_with_a_code own (Give x) s at n code f = absurd f
+fails_with_a_code own (Line node next) s at n code (inl f) = break_reported own at (early node) (LacksLine at) code (early_reported own node) f.1
+fails_with_a_code own (Line node next) s at n code (inr f) = fails_with_a_code own (next f.0) (s f.0) f.1 n code f.3
+fails_with_a_code own (Test m c X P next) s at n code (inl f) = subst (IsReported own) (sym f.1) (code_reported own c s.3)
+fails_with_a_code own (Test m c X P next) s at n code (inr f) = fails_with_a_code own (next f.0) (s.2 f.0 f.1) at n code f.2
+fails_with_a_code own (End next) s at n code (inl f) = break_reported own at 28 (HasMore at) code (inl (AfterEnd, refl)) f.1
+fails_with_a_code own (End next) s at n code (inr f) = fails_with_a_code own next s at n code f.1

@@ -9,7 +9,7 @@ use Rattle.crn_io.specs.declared.lines.TheConstants.{MAX_DOCUMENT, MAX_SHARED}
 use Rattle.crn_io.specs.Lines.{beginning}
 use Rattle.crn_ctext.specs.Records.{Record}
 use Rattle.crn_ctext.specs.Course.{Gives}
-use Rattle.crn_ctext.specs.Inner.Courses.{IsSettled}
+use Rattle.crn_ctext.specs.Courses.{IsSettled, none_own}
 use Rattle.crn_ctext.specs.Blocks.{ReadOf, title, course}
 use Rattle.crn_ctext.specs.Documents.{Share, FitsShare, cut_lists, IsNamed, written, IsShareable, AreFormed, AreValid, IsGoodLeaf, IsDocumentOf, document, document2}
 use Rattle.crn_cert.specs.declared.answer.Verdict.{Verdict}
@@ -52,8 +52,8 @@ one_title v w (inl a) (inr (inr none)) e = absurd none
 one_title v w (inr (inl a)) (inr (inr none)) e = absurd none
 one_title v w (inr (inr none)) b e = absurd none
 
-pub settled : IsSettled (course meaning versions built)
-settled = course_settled meaning OfNetwork versions built (λ net n. n) meaning_decided one_title
+pub settled : IsSettled none_own (course meaning versions built)
+settled = course_settled none_own meaning OfNetwork versions built (λ net n. n) meaning_decided one_title
 
 pub read_documents_are_good_by : (bytes : List ℕ) (read : ReadOf) → IsReadOf bytes read → IsGoodBy meaning versions built bytes read
 read_documents_are_good_by bytes read p = read_is_good meaning IsSmall versions built are_versions meaning_short networks_are_small bytes read p.0 p.1

@@ -34,7 +34,7 @@ use Rattle.crn_ctext.proofs.MeaningShort.{IsSmall, IsMemberList, class_sizes, cl
 -- ---- lines
 
 -- short lines have no more than so many bytes
-ended_short : (ls : List (List ℕ)) → AllByRecursion IsShortLine ls → length (ended ls) ≤ 16385 * length ls
+pub ended_short : (ls : List (List ℕ)) → AllByRecursion IsShortLine ls → length (ended ls) ≤ 16385 * length ls
 ended_short [] s = omega arith
 ended_short (l ∷ ls) s =
     let more = ended_short ls s.1 in
@@ -42,7 +42,7 @@ ended_short (l ∷ ls) s =
     omega (arith, more, size, s.0.1)
 
 -- the most bytes of the lines of these records: a shared list's number may come in the place of a cut's numbers
-abbrev weight : List Record → ℕ
+abbrev pub weight : List Record → ℕ
 weight [] = 0
 weight (r ∷ rs) = 88 + 24 * length r.numbers + weight rs
 
@@ -51,7 +51,7 @@ weight_append [] ys = omega arith
 weight_append (x ∷ xs) ys = omega (arith, weight_append xs ys)
 
 -- plain records have no more than 400 numbers each
-plain_weight : (rs : List Record) → AllPlain rs → weight rs ≤ 9688 * length rs
+pub plain_weight : (rs : List Record) → AllPlain rs → weight rs ≤ 9688 * length rs
 plain_weight [] p = omega arith
 plain_weight (r ∷ rs) p = let few = p.0.few in omega (arith, few, plain_weight rs p.1)
 
@@ -61,7 +61,7 @@ numbers_for table w r (inl e) = let same : length w.numbers ≡ length r.numbers
 numbers_for table w r (inr h) = let one : length w.numbers ≡ 1 = ap (λ (x : Record). length x.numbers) h.3 in omega (arith, one)
 
 -- the lines of plain records
-lines_weigh : (table : List (List ℤ)) (ws rs : List Record) → AllPlain ws → AllZip (IsWrittenFor table) ws rs → length (ended (map record_text ws)) ≤ weight rs
+pub lines_weigh : (table : List (List ℤ)) (ws rs : List Record) → AllPlain ws → AllZip (IsWrittenFor table) ws rs → length (ended (map record_text ws)) ≤ weight rs
 lines_weigh table [] [] p z = omega arith
 lines_weigh table [] (r ∷ rs) p z = absurd z
 lines_weigh table (w ∷ ws) [] p z = absurd z
@@ -70,7 +70,7 @@ lines_weigh table (w ∷ ws) (r ∷ rs) p z =
     let size : length (ended (map record_text (w ∷ ws))) ≡ length (record_text w) + length (10 ∷ ended (map record_text ws)) = ap length (first_ended (record_text w) (map record_text ws)) ∙ length-append (record_text w) (10 ∷ ended (map record_text ws)) in
     omega (arith, more, size, record_line_length w p.0, numbers_for table w r z.0)
 
-same_for : (rs : List Record) → AllZip (IsWrittenFor []) rs rs
+pub same_for : (rs : List Record) → AllZip (IsWrittenFor []) rs rs
 same_for [] = tt
 same_for (r ∷ rs) = (inl refl, same_for rs)
 

@@ -10,7 +10,7 @@ use Rattle.crn_ctext.specs.Records.{Record, record_text}
 use Rattle.crn_ctext.specs.Kinds.{end_form}
 use Rattle.crn_cert.specs.Questions.{Question}
 use Rattle.crn_ctext.specs.Course.{Course, Give, ◌>>=◌, ◌>>◌, find, ends, Gives}
-use Rattle.crn_ctext.specs.Inner.Courses.{IsWrittenBy}
+use Rattle.crn_ctext.specs.Courses.{IsWrittenBy}
 use Rattle.crn_ctext.specs.Blocks.{Meaning, AfterBlocks, asks, asks_blocks, asks_table, lists_of, asks_lines, title, network_line, ended, ReadOf, IsNetworkOf, course}
 use Rattle.crn_ctext.specs.Documents.{one_word, opening, record_lines, IsShareable, AreValid}
 use Rattle.crn_io.specs.declared.lines.TheConstants.{MAX_DOCUMENT, MAX_SHARED}
@@ -43,7 +43,7 @@ unfolding HasNoEnd asks_lines
 taken_no_end zero = tt
 taken_no_end (suc n) = λ line. no_end_then (asks_lines n) (λ lines. Give (line ∷ lines)) (taken_no_end n) (λ lines. give_no_end (line ∷ lines))
 
-lines_taken : (ls : List (List ℕ)) → IsWrittenBy (asks_lines (length ls)) ls ls
+pub lines_taken : (ls : List (List ℕ)) → IsWrittenBy (asks_lines (length ls)) ls ls
 unfolding asks_lines IsWrittenBy
 lines_taken [] = (refl, refl)
 lines_taken (l ∷ ls) = subst (λ (ms : List (List ℕ)). IsWrittenBy (asks_lines (length ls) >>= (λ lines. Give (l ∷ lines))) ms (l ∷ ls)) (append-nil ls)

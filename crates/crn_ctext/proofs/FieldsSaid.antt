@@ -38,7 +38,7 @@ first_way way others zs p = (way, inl refl, p)
 
 -- ---- naturals
 
-between : (least greatest : ℕ) (xs : List ℕ) → AllByRecursion (λ x. (least ≤ x) × (x ≤ greatest)) xs → AreBetween (pos least) (pos greatest) (map pos xs)
+pub between : (least greatest : ℕ) (xs : List ℕ) → AllByRecursion (λ x. (least ≤ x) × (x ≤ greatest)) xs → AreBetween (pos least) (pos greatest) (map pos xs)
 between least greatest [] p = tt
 between least greatest (x ∷ xs) p = ((omega (arith, ints, p.0.0), omega (arith, ints, p.0.1)), between least greatest xs p.1)
 

@@ -51,7 +51,7 @@ alone field zs p = subst (Holds field) (sym (p.2 ∙ ap (λ (t : List ℤ). p.0 
 
 -- ---- naturals
 
-naturals : (least greatest : ℕ) (zs : List ℤ) → AreBetween (pos least) (pos greatest) zs → (xs : List ℕ) × (zs ≡ map pos xs) × AllByRecursion (λ x. (least ≤ x) × (x ≤ greatest)) xs
+pub naturals : (least greatest : ℕ) (zs : List ℤ) → AreBetween (pos least) (pos greatest) zs → (xs : List ℕ) × (zs ≡ map pos xs) × AllByRecursion (λ x. (least ≤ x) × (x ≤ greatest)) xs
 naturals least greatest [] b = ([], refl, tt)
 naturals least greatest (negsuc n ∷ zs) b = absurd (omega (arith, ints, b.0.0))
 naturals least greatest (pos n ∷ zs) b =
@@ -82,7 +82,7 @@ within : (greatest : ℕ) (ns : List ℕ) → AreBetween (pos 1) (pos greatest) 
 within greatest [] b = tt
 within greatest (n ∷ ns) b = ((omega (arith, ints, b.0.0), omega (arith, ints, b.0.1)), within greatest ns b.1)
 
-rising : (count greatest : ℕ) (zs : List ℤ) → (length zs ≡ count) × AreRising greatest zs → (ns : List ℕ) × (zs ≡ map pos ns) × AreFrom count 1 greatest ns × IsAscending ns
+pub rising : (count greatest : ℕ) (zs : List ℤ) → (length zs ≡ count) × AreRising greatest zs → (ns : List ℕ) × (zs ≡ map pos ns) × AreFrom count 1 greatest ns × IsAscending ns
 rising count greatest zs t =
     let r = t.1 in
     (r.0, r.1, record { long = sym (length-map r.0 pos) ∙ sym (ap length r.1) ∙ t.0; each = within greatest r.0 (subst (AreBetween (pos 1) (pos greatest)) r.1 r.3) }, r.2)

@@ -10,7 +10,7 @@ use Rattle.crn_cert.specs.Built.{built}
 use Rattle.crn_cert.specs.Faults.{BadHeader, BadNetwork, Fault}
 use Rattle.crn_ctext.specs.Kinds.{end_form}
 use Rattle.crn_ctext.specs.Course.{Course, Give, Line, Test, End, ◌>>=◌, due, find, ends, FailsFirst}
-use Rattle.crn_ctext.specs.Inner.Courses.{IsSettled}
+use Rattle.crn_ctext.specs.Courses.{IsSettled, none_own}
 use Rattle.crn_ctext.specs.Steps.{Awaits, cut}
 use Rattle.crn_ctext.specs.Blocks.{asks, asks_blocks, asks_table, asks_lines, lists_of, ReadOf, course}
 use Rattle.crn_ctext.specs.Judged.{LeavesOpen}
@@ -87,20 +87,20 @@ early_of_no_bound true code is p = omega (arith, is, p.0, p.1)
 early_of_no_bound false code is p = omega (arith, is, p.0, p.1)
 
 -- with nothing after them, no test of a bound fails
-none_of_bound : {A : Type 0} (c : Course A) (at : Place) (n code : ℕ) → EndsLast c → IsSettled c → Awaits c at → FailsFirst c at n code → IsOfBound code → ⊥
+none_of_bound : {A : Type 0} (own : ℕ → Type 0) (c : Course A) (at : Place) (n code : ℕ) → EndsLast c → IsSettled own c → Awaits c at → FailsFirst c at n code → IsOfBound code → ⊥
 unfolding EndsLast IsSettled Awaits FailsFirst
-none_of_bound (Give x) at n code e s p f b = p
-none_of_bound (Line node next) at n code e s (inl p) (inl f) b = early_of_no_bound node code (begun_breaks_last at (early node) code (LacksLine at) p f.1) b
-none_of_bound (Line node next) at n code e s (inl p) (inr f) b = begun_is_no_line at f.1 f.0 p f.2
-none_of_bound (Line node next) at n code e s (inr p) (inl f) b = line_breaks_none at p.0 p.1 (early node) code p.2 f.1
-none_of_bound (Line node next) at n code e s (inr p) (inr f) b =
-    none_of_bound (next p.0) p.1 n code (e p.0) (s p.0) p.3 (same_after (λ x a. FailsFirst (next x) a n code) at p.0 f.0 p.1 f.1 p.2 f.2 f.3) b
-none_of_bound (Test m c X P next) at n code e s p (inl f) b = f.2 p.0 p.1
-none_of_bound (Test m c X P next) at n code e s p (inr f) b =
-    none_of_bound (next p.0) at n code (e p.0) (s.2 p.0 p.1) p.2 (subst (λ (x : X). FailsFirst (next x) at n code) (s.1 f.0 p.0 f.1 p.1) f.2) b
-none_of_bound (End next) at n code e s (inl p) (inl f) b = let is : code ≡ 28 = begun_breaks_last at 28 code (HasMore at) p f.1 in omega (arith, is, b.0, b.1)
-none_of_bound (End next) at n code e s (inl p) (inr f) b = none_fails next at n code e f.1
-none_of_bound (End next) at n code e s (inr p) f b = none_awaited next at e p.1
+none_of_bound own (Give x) at n code e s p f b = p
+none_of_bound own (Line node next) at n code e s (inl p) (inl f) b = early_of_no_bound node code (begun_breaks_last at (early node) code (LacksLine at) p f.1) b
+none_of_bound own (Line node next) at n code e s (inl p) (inr f) b = begun_is_no_line at f.1 f.0 p f.2
+none_of_bound own (Line node next) at n code e s (inr p) (inl f) b = line_breaks_none at p.0 p.1 (early node) code p.2 f.1
+none_of_bound own (Line node next) at n code e s (inr p) (inr f) b =
+    none_of_bound own (next p.0) p.1 n code (e p.0) (s p.0) p.3 (same_after (λ x a. FailsFirst (next x) a n code) at p.0 f.0 p.1 f.1 p.2 f.2 f.3) b
+none_of_bound own (Test m c X P next) at n code e s p (inl f) b = f.2 p.0 p.1
+none_of_bound own (Test m c X P next) at n code e s p (inr f) b =
+    none_of_bound own (next p.0) at n code (e p.0) (s.2 p.0 p.1) p.2 (subst (λ (x : X). FailsFirst (next x) at n code) (s.1 f.0 p.0 f.1 p.1) f.2) b
+none_of_bound own (End next) at n code e s (inl p) (inl f) b = let is : code ≡ 28 = begun_breaks_last at 28 code (HasMore at) p f.1 in omega (arith, is, b.0, b.1)
+none_of_bound own (End next) at n code e s (inl p) (inr f) b = none_fails next at n code e f.1
+none_of_bound own (End next) at n code e s (inr p) f b = none_awaited next at e p.1
 
 -- with so many bytes and no LF after them, one does
 abbrev FailsOfBound : {A : Type 0} → Course A → Place → Type 0
@@ -131,9 +131,9 @@ open_by : (bytes more : List ℕ) → IsLine more → MAX_LINE < length more →
 open_by bytes more whole long p = λ line code all.
     let c : Course ReadOf = course meaning versions built in
     let some = some_of_bound c (beginning bytes) more document_ends_last p whole long in
-    let one = first_is_one c settled (beginning (bytes ++ more)) line some.0 code some.1 (all more) some.2 in
+    let one = first_is_one none_own c settled (beginning (bytes ++ more)) line some.0 code some.1 (all more) some.2 in
     let none : FailsFirst c (beginning bytes) line code = subst (λ (text : List ℕ). FailsFirst c (beginning text) line code) (append-nil bytes) (all []) in
-    none_of_bound c (beginning bytes) line code document_ends_last settled p none (subst IsOfBound (sym one.1) some.3)
+    none_of_bound none_own c (beginning bytes) line code document_ends_last settled p none (subst IsOfBound (sym one.1) some.3)
 
 -- bytes that await a line leave the fault open
 pub awaited_open : (bytes : List ℕ) → Awaits (course meaning versions built) (beginning bytes) → LeavesOpen bytes

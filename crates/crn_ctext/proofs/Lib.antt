@@ -67,6 +67,9 @@ mod FewNodes
 mod GoodLaws
 mod DueSteps
 mod WordsApart
+mod PartsSettled
+mod PartsRead
+mod PartNumbers
 mod LineNumbers
 mod DigitGroups
 mod LineCame
@@ -76,6 +79,7 @@ mod LineForms
 mod LineTries
 mod LineSought
 mod LineRows
+mod PartRuns
 mod BlockLaws
 mod HeadsDerived
 mod RowsDerived

@@ -68,7 +68,7 @@ IsSolid (FreeSeveral fewest most) = ⊥
 IsSolid other = Unit {0}
 
 -- the numbers of a field that is not free are narrow
-field_narrow : (field : Field) (zs : List ℤ) → IsSolid field → IsBounded field → Takes field zs → AllNarrow zs
+pub field_narrow : (field : Field) (zs : List ℤ) → IsSolid field → IsBounded field → Takes field zs → AllNarrow zs
 field_narrow (Small count least greatest) zs s b t = all_between least greatest zs b.0 b.1 t.1
 field_narrow (Several fewest most least greatest) zs s b t = all_between least greatest zs b.0 b.1 t.2
 field_narrow (Free count) zs s b t = absurd s

@@ -4,10 +4,10 @@ use Rattle.std.specs.Prelude.{ℤ, pos, slice_index_or, ◌==◌, if◌then◌el
 use Rattle.std.specs.List.{join_with_byte}
 use Rattle.std.proofs.lemmas.List.{append-nil, take-append-drop, length-append, length-map}
 use Rattle.std.proofs.lemmas.Grind.{flat_map-append}
-use Rattle.crn_ctext.specs.Records.{Record, Form, Field, Small, Several, Free, FreeSeveral, Rising, Members, CountAndPart, TwoOf, Turn, ClassWide, Takes, AreOf, Says, IsWord, BeginsWith, kind_of}
+use Rattle.crn_ctext.specs.Records.{Record, Form, Field, Small, Several, Free, FreeSeveral, Rising, Members, CountAndPart, TwoOf, Turn, ClassWide, Takes, AreOf, Says, IsWord, BeginsWith, kind_of, field_most, most_of}
 use Rattle.crn_ctext.specs.Expect.{text_of}
 use Rattle.crn_ctext.specs.Inner.Line.{spaced, SaysNumbers, IsTail}
-use Rattle.crn_ctext.specs.Inner.Forms.{IsForm, later, field_most, most_of}
+use Rattle.crn_ctext.specs.Inner.Forms.{IsForm, later}
 use Rattle.crn_ctext.specs.Inner.Shapes.{fields_of}
 use Rattle.crn_ctext.specs.Inner.Tries.{SaysAfter, FitFields, IsFit, IsTried, IsNotShaped, IsSomeShaped}
 use Rattle.crn_ctext.specs.declared.record_form.Form.{Form as GivenForm}
@@ -40,7 +40,7 @@ pub space_tail : (rest : List ℕ) → 0 < length rest → get_or rest 0 0 ≡ 3
 space_tail [] lt e = absurd (omega (arith, lt))
 space_tail (x ∷ rest) lt e = inr (rest, ap (λ b. b ∷ rest) e)
 
-after_one : (first s t : List ℕ) → first ++ s ≡ first ++ t → s ≡ t
+pub after_one : (first s t : List ℕ) → first ++ s ≡ first ++ t → s ≡ t
 after_one [] s t e = e
 after_one (x ∷ first) s t e = after_one first s t cc
 
@@ -88,7 +88,7 @@ misfit_after fields bytes first none zs s t = let h = s.2 in none s.0 (subst IsT
 
 -- ---- records
 
-join_spaced : (w : List ℕ) (ts : List (List ℕ)) → join_with_byte 32 (w ∷ ts) ≡ w ++ spaced ts
+pub join_spaced : (w : List ℕ) (ts : List (List ℕ)) → join_with_byte 32 (w ∷ ts) ≡ w ++ spaced ts
 join_spaced w [] = sym (append-nil w)
 join_spaced w (t ∷ ts) = ap (λ s. w ++ (32 ∷ s)) (join_spaced t ts)
 

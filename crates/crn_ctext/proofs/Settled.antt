@@ -10,16 +10,13 @@ use Rattle.crn_vec.specs.declared.signs.Sign.TheVariants.{Zero, Plus, Minus}
 use Rattle.crn_vec.specs.declared.limits.TheConstants.{MAX_REACTIONS}
 use Rattle.crn_text.specs.Canonical.{canonical}
 use Rattle.crn_text.specs.Spells.{Spells}
-use Rattle.crn_text.proofs.CallerLemmas.{spells_its_network}
-use Rattle.crn_text.proofs.CallerLemmas.{judged}
-use Rattle.crn_text.proofs.CallerLemmas.{no_fault}
-use Rattle.crn_text.proofs.CallerLemmas.{spelling_unique}
+use Rattle.crn_text.proofs.CallerLemmas.{spells_its_network, judged, no_fault, spelling_unique}
 use Rattle.crn_ctext.specs.Records.{Record, Form}
 use Rattle.crn_ctext.specs.Kinds.{node_forms, section_form, table_form, vector_form, end_form}
 use Rattle.crn_cert.specs.Questions.{Question}
 use Rattle.crn_ctext.specs.Questions.{heads, first_number}
-use Rattle.crn_ctext.specs.Course.{Course, Give, ◌>>=◌, due, find, test, ends}
-use Rattle.crn_ctext.specs.Inner.Courses.{IsSettled}
+use Rattle.crn_ctext.specs.Course.{Course, Give, ◌>>=◌, due, find, test, ends, test_own}
+use Rattle.crn_ctext.specs.Courses.{IsSettled}
 use Rattle.crn_cert.specs.Tests.{Test as Claim}
 use Rattle.crn_vec.specs.Problems.{all_zero}
 use Rattle.crn_ctext.specs.Blocks.{Problem, Meaning, head_claims, row_claims, problems, is_open, unless, either, asks, asks_node, asks_all, claims, Node, Split, Flat, CutA, CutB, node_of, leaf, asks_leaf, goes_on, if_signed, asks_tree, asks_trees, sections, below, has_tree, AfterBlocks, asks_block, after_sections, asks_blocks, asks_table, lists_of, asks_lines, title, network_line, ended, IsNetworkOf, ReadOf, course}
@@ -68,79 +65,85 @@ unless_problems false ps d = d
 
 -- ---- records
 
-test_settled : (n : ℕ) (fault : Fault) (P : Type 0) → IsDecided P → IsSettled (test n fault P)
+pub test_settled : (own : ℕ → Type 0) (n : ℕ) (fault : Fault) (P : Type 0) → IsDecided P → IsSettled own (test n fault P)
 unfolding IsSettled
-test_settled n fault P (inl p) = (inl (tt, p), (λ x y p q. refl), (λ x p. tt))
-test_settled n fault P (inr p) = (inr (λ x. p), (λ x y p q. refl), (λ x p. tt))
+test_settled own n fault P (inl p) = (inl (tt, p), (λ x y p q. refl), (λ x p. tt), tt)
+test_settled own n fault P (inr p) = (inr (λ x. p), (λ x y p q. refl), (λ x p. tt), tt)
 
-find_settled : (n : ℕ) (fault : Fault) (X : Type 0) (P : X → Type 0) → (((x : X) × P x) ⊎ ((x : X) → P x → ⊥)) → ((x y : X) → P x → P y → x ≡ y) → IsSettled (find n fault X P)
+-- a test that is reported by a number of a part's own
+pub own_settled : (own : ℕ → Type 0) (n number : ℕ) (P : Type 0) → own number → IsDecided P → IsSettled own (test_own n number P)
 unfolding IsSettled
-find_settled n fault X P decided one = (decided, one, (λ x p. tt))
+own_settled own n number P mine (inl p) = (inl (tt, p), (λ x y p q. refl), (λ x p. tt), mine)
+own_settled own n number P mine (inr p) = (inr (λ x. p), (λ x y p q. refl), (λ x p. tt), mine)
 
-due_settled : (node : Bool) → IsSettled (due node)
+pub find_settled : (own : ℕ → Type 0) (n : ℕ) (fault : Fault) (X : Type 0) (P : X → Type 0) → (((x : X) × P x) ⊎ ((x : X) → P x → ⊥)) → ((x y : X) → P x → P y → x ≡ y) → IsSettled own (find n fault X P)
 unfolding IsSettled
-due_settled node = λ line. tt
+find_settled own n fault X P decided one = (decided, one, (λ x p. tt), tt)
 
-give_settled : {A : Type 0} (x : A) → IsSettled (Give x)
+pub due_settled : (own : ℕ → Type 0) (node : Bool) → IsSettled own (due node)
 unfolding IsSettled
-give_settled x = tt
+due_settled own node = λ line. tt
 
-asks_settled : (version n : ℕ) (after : Bool) (forms : List Form) → HaveWords forms → IsSettled (asks version n after forms)
+pub give_settled : {A : Type 0} (own : ℕ → Type 0) (x : A) → IsSettled own (Give x)
 unfolding IsSettled
-asks_settled version n after forms w = λ line. reads_settled version n after forms WrongOrder line w
+give_settled own x = tt
 
-node_settled : (version n : ℕ) (forms : List Form) → HaveWords forms → IsSettled (asks_node version n forms)
+asks_settled : (own : ℕ → Type 0) (version n : ℕ) (after : Bool) (forms : List Form) → HaveWords forms → IsSettled own (asks version n after forms)
 unfolding IsSettled
-node_settled version n forms w = λ line. reads_settled version n false forms TreeEndsEarly line w
+asks_settled own version n after forms w = λ line. reads_settled own version n after forms WrongOrder line w
 
-all_settled : (version n : ℕ) (after : Bool) (forms : List Form) → HaveWords forms → IsSettled (asks_all version n after forms)
+node_settled : (own : ℕ → Type 0) (version n : ℕ) (forms : List Form) → HaveWords forms → IsSettled own (asks_node version n forms)
+unfolding IsSettled
+node_settled own version n forms w = λ line. reads_settled own version n false forms TreeEndsEarly line w
+
+all_settled : (own : ℕ → Type 0) (version n : ℕ) (after : Bool) (forms : List Form) → HaveWords forms → IsSettled own (asks_all version n after forms)
 unfolding asks_all
-all_settled version n after [] w = give_settled []
-all_settled version n after (form ∷ forms) w =
-    settled_then (asks version n after (form ∷ [])) (λ r. asks_all version (n + 1) false forms >>= (λ rs. Give (r ∷ rs))) (asks_settled version n after (form ∷ []) (w.0, tt))
-    (λ r. settled_then (asks_all version (n + 1) false forms) (λ rs. Give (r ∷ rs)) (all_settled version (n + 1) false forms w.1) (λ rs. give_settled (r ∷ rs)))
+all_settled own version n after [] w = give_settled own []
+all_settled own version n after (form ∷ forms) w =
+    settled_then own (asks version n after (form ∷ [])) (λ r. asks_all version (n + 1) false forms >>= (λ rs. Give (r ∷ rs))) (asks_settled own version n after (form ∷ []) (w.0, tt))
+    (λ r. settled_then own (asks_all version (n + 1) false forms) (λ rs. Give (r ∷ rs)) (all_settled own version (n + 1) false forms w.1) (λ rs. give_settled own (r ∷ rs)))
 
-claims_settled : (n : ℕ) (cs : List {1} Claim) → AllDecided cs → IsSettled (claims n cs)
+claims_settled : (own : ℕ → Type 0) (n : ℕ) (cs : List {1} Claim) → AllDecided cs → IsSettled own (claims n cs)
 unfolding claims
-claims_settled n [] d = give_settled tt
-claims_settled n (c ∷ cs) d = settled_then (test (n + c.part) c.fault c.holds) (λ x. claims n cs) (test_settled (n + c.part) c.fault c.holds d.0) (λ x. claims_settled n cs d.1)
+claims_settled own n [] d = give_settled own tt
+claims_settled own n (c ∷ cs) d = settled_then own (test (n + c.part) c.fault c.holds) (λ x. claims n cs) (test_settled own (n + c.part) c.fault c.holds d.0) (λ x. claims_settled own n cs d.1)
 
 -- ---- trees
 
-leaf_settled : (p : Problem) (prefix : List Sign) (n : ℕ) (node : Node) → IsDecidedProblem p → IsSettled (leaf p prefix n node)
-leaf_settled p prefix n Split d = test_settled n NodeNotAllowed ⊥ (inr (λ h. h))
-leaf_settled p prefix n Flat d = test_settled n NodeNotAllowed (p.IsClosed prefix) (d.closed prefix)
-leaf_settled p prefix n (CutA shared u) d = settled_then (test n WrongShape (shared ≡ true → length u ≡ p.count_a)) (λ x. test n BadLeaf (p.RulesOutA prefix u))
-    (test_settled n WrongShape (shared ≡ true → length u ≡ p.count_a) (if_decided (bool_decided shared true) (nat_decided (length u) p.count_a))) (λ x. test_settled n BadLeaf (p.RulesOutA prefix u) (d.part_a prefix u))
-leaf_settled p prefix n (CutB shared u) d = settled_then (test n WrongShape (shared ≡ true → length u ≡ p.count_b)) (λ x. test n BadLeaf (p.RulesOutB prefix u))
-    (test_settled n WrongShape (shared ≡ true → length u ≡ p.count_b) (if_decided (bool_decided shared true) (nat_decided (length u) p.count_b))) (λ x. test_settled n BadLeaf (p.RulesOutB prefix u) (d.part_b prefix u))
+leaf_settled : (own : ℕ → Type 0) (p : Problem) (prefix : List Sign) (n : ℕ) (node : Node) → IsDecidedProblem p → IsSettled own (leaf p prefix n node)
+leaf_settled own p prefix n Split d = test_settled own n NodeNotAllowed ⊥ (inr (λ h. h))
+leaf_settled own p prefix n Flat d = test_settled own n NodeNotAllowed (p.IsClosed prefix) (d.closed prefix)
+leaf_settled own p prefix n (CutA shared u) d = settled_then own (test n WrongShape (shared ≡ true → length u ≡ p.count_a)) (λ x. test n BadLeaf (p.RulesOutA prefix u))
+    (test_settled own n WrongShape (shared ≡ true → length u ≡ p.count_a) (if_decided (bool_decided shared true) (nat_decided (length u) p.count_a))) (λ x. test_settled own n BadLeaf (p.RulesOutA prefix u) (d.part_a prefix u))
+leaf_settled own p prefix n (CutB shared u) d = settled_then own (test n WrongShape (shared ≡ true → length u ≡ p.count_b)) (λ x. test n BadLeaf (p.RulesOutB prefix u))
+    (test_settled own n WrongShape (shared ≡ true → length u ≡ p.count_b) (if_decided (bool_decided shared true) (nat_decided (length u) p.count_b))) (λ x. test_settled own n BadLeaf (p.RulesOutB prefix u) (d.part_b prefix u))
 
-asks_leaf_settled : (version : ℕ) (table : List (List ℤ)) (p : Problem) (n : ℕ) → IsSettled (asks_leaf version table p n)
-asks_leaf_settled version table p n =
-    settled_then (asks_node version n (node_forms version p.count_a p.count_b (length table))) (λ r. Give (node_of table r)) (node_settled version n (node_forms version p.count_a p.count_b (length table)) (nodes_have version p.count_a p.count_b (length table))) (λ r. give_settled (node_of table r))
+asks_leaf_settled : (own : ℕ → Type 0) (version : ℕ) (table : List (List ℤ)) (p : Problem) (n : ℕ) → IsSettled own (asks_leaf version table p n)
+asks_leaf_settled own version table p n =
+    settled_then own (asks_node version n (node_forms version p.count_a p.count_b (length table))) (λ r. Give (node_of table r)) (node_settled own version n (node_forms version p.count_a p.count_b (length table)) (nodes_have version p.count_a p.count_b (length table))) (λ r. give_settled own (node_of table r))
 
-leaf_then : (p : Problem) (prefix : List Sign) (n : ℕ) (node : Node) → IsDecidedProblem p → IsSettled (leaf p prefix n node >>= (λ x. Give (n + 1)))
-leaf_then p prefix n node d = settled_then (leaf p prefix n node) (λ x. Give (n + 1)) (leaf_settled p prefix n node d) (λ x. give_settled (n + 1))
+leaf_then : (own : ℕ → Type 0) (p : Problem) (prefix : List Sign) (n : ℕ) (node : Node) → IsDecidedProblem p → IsSettled own (leaf p prefix n node >>= (λ x. Give (n + 1)))
+leaf_then own p prefix n node d = settled_then own (leaf p prefix n node) (λ x. Give (n + 1)) (leaf_settled own p prefix n node d) (λ x. give_settled own (n + 1))
 
-goes_on_settled : (p : Problem) (prefix : List Sign) (n : ℕ) (node : Node) (children : Course ℕ) → IsDecidedProblem p → IsSettled children → IsSettled (goes_on p prefix n node children)
-goes_on_settled p prefix n Split children d c = c
-goes_on_settled p prefix n Flat children d c = leaf_then p prefix n Flat d
-goes_on_settled p prefix n (CutA shared u) children d c = leaf_then p prefix n (CutA shared u) d
-goes_on_settled p prefix n (CutB shared u) children d c = leaf_then p prefix n (CutB shared u) d
+goes_on_settled : (own : ℕ → Type 0) (p : Problem) (prefix : List Sign) (n : ℕ) (node : Node) (children : Course ℕ) → IsDecidedProblem p → IsSettled own children → IsSettled own (goes_on p prefix n node children)
+goes_on_settled own p prefix n Split children d c = c
+goes_on_settled own p prefix n Flat children d c = leaf_then own p prefix n Flat d
+goes_on_settled own p prefix n (CutA shared u) children d c = leaf_then own p prefix n (CutA shared u) d
+goes_on_settled own p prefix n (CutB shared u) children d c = leaf_then own p prefix n (CutB shared u) d
 
-either_settled : {A : Type 0} (t : Bool) (this that : Course A) → IsSettled this → IsSettled that → IsSettled (either t this that)
-either_settled true this that p q = p
-either_settled false this that p q = q
+pub either_settled : {A : Type 0} (own : ℕ → Type 0) (t : Bool) (this that : Course A) → IsSettled own this → IsSettled own that → IsSettled own (either t this that)
+either_settled own true this that p q = p
+either_settled own false this that p q = q
 
-pub tree_settled : (version : ℕ) (table : List (List ℤ)) (p : Problem) (more : ℕ) (prefix : List Sign) (n : ℕ) → IsDecidedProblem p → IsSettled (asks_tree version table p more prefix n)
+pub tree_settled : (own : ℕ → Type 0) (version : ℕ) (table : List (List ℤ)) (p : Problem) (more : ℕ) (prefix : List Sign) (n : ℕ) → IsDecidedProblem p → IsSettled own (asks_tree version table p more prefix n)
 unfolding asks_tree
-tree_settled version table p zero prefix n d =
-    settled_then (asks_leaf version table p n) (λ node. leaf p prefix n node >>= (λ x. Give (n + 1))) (asks_leaf_settled version table p n) (λ node. leaf_then p prefix n node d)
-tree_settled version table p (suc more) prefix n d =
-    settled_then (asks_leaf version table p n) (λ node. goes_on p prefix n node (children n)) (asks_leaf_settled version table p n) (λ node. goes_on_settled p prefix n node (children n) d
-    (settled_then (asks_tree version table p more (prefix ++ Zero ∷ []) (n + 1)) (λ k. asks_tree version table p more (prefix ++ Plus ∷ []) k >>= (λ m. last m)) (tree_settled version table p more (prefix ++ Zero ∷ []) (n + 1) d)
-    (λ k. settled_then (asks_tree version table p more (prefix ++ Plus ∷ []) k) (λ m. last m) (tree_settled version table p more (prefix ++ Plus ∷ []) k d)
-    (λ m. either_settled (all_zero prefix) (Give m) (asks_tree version table p more (prefix ++ Minus ∷ []) m) (give_settled m) (tree_settled version table p more (prefix ++ Minus ∷ []) m d)))))
+tree_settled own version table p zero prefix n d =
+    settled_then own (asks_leaf version table p n) (λ node. leaf p prefix n node >>= (λ x. Give (n + 1))) (asks_leaf_settled own version table p n) (λ node. leaf_then own p prefix n node d)
+tree_settled own version table p (suc more) prefix n d =
+    settled_then own (asks_leaf version table p n) (λ node. goes_on p prefix n node (children n)) (asks_leaf_settled own version table p n) (λ node. goes_on_settled own p prefix n node (children n) d
+    (settled_then own (asks_tree version table p more (prefix ++ Zero ∷ []) (n + 1)) (λ k. asks_tree version table p more (prefix ++ Plus ∷ []) k >>= (λ m. last m)) (tree_settled own version table p more (prefix ++ Zero ∷ []) (n + 1) d)
+    (λ k. settled_then own (asks_tree version table p more (prefix ++ Plus ∷ []) k) (λ m. last m) (tree_settled own version table p more (prefix ++ Plus ∷ []) k d)
+    (λ m. either_settled own (all_zero prefix) (Give m) (asks_tree version table p more (prefix ++ Minus ∷ []) m) (give_settled own m) (tree_settled own version table p more (prefix ++ Minus ∷ []) m d)))))
   where
     last : ℕ → Course ℕ
     last m = if_signed prefix m (asks_tree version table p more (prefix ++ Minus ∷ []) m)
@@ -148,10 +151,10 @@ tree_settled version table p (suc more) prefix n d =
     children : ℕ → Course ℕ
     children n = asks_tree version table p more (prefix ++ Zero ∷ []) (n + 1) >>= (λ k. asks_tree version table p more (prefix ++ Plus ∷ []) k >>= (λ m. last m))
 
-trees_settled : (version : ℕ) (table : List (List ℤ)) (ps : List {1} Problem) (n : ℕ) → AreDecidedProblems ps → IsSettled (asks_trees version table ps n)
+trees_settled : (own : ℕ → Type 0) (version : ℕ) (table : List (List ℤ)) (ps : List {1} Problem) (n : ℕ) → AreDecidedProblems ps → IsSettled own (asks_trees version table ps n)
 unfolding asks_trees
-trees_settled version table [] n d = give_settled n
-trees_settled version table (p ∷ ps) n d = settled_then (asks_tree version table p p.choices [] n) (λ m. asks_trees version table ps m) (tree_settled version table p p.choices [] n d.0) (λ m. trees_settled version table ps m d.1)
+trees_settled own version table [] n d = give_settled own n
+trees_settled own version table (p ∷ ps) n d = settled_then own (asks_tree version table p p.choices [] n) (λ m. asks_trees version table ps m) (tree_settled own version table p p.choices [] n d.0) (λ m. trees_settled own version table ps m d.1)
 
 -- ---- blocks
 
@@ -172,14 +175,14 @@ from_rows m version table q at head = asks_all version (at.line + 1) false (belo
 abbrev from_claims : {Known : Type 0} → Meaning Known → (version : ℕ) → List (List ℤ) → Question → AfterBlocks Known → Record → Course (AfterBlocks Known)
 from_claims m version table q at head = claims at.line (head_claims m q at.known head) >>= (λ x. from_rows m version table q at head)
 
-block_settled : {Known : Type 0} (m : Meaning Known) (Ok : Known → Type 0) (version : ℕ) (table : List (List ℤ)) (q : Question) (at : AfterBlocks Known) → IsDecidedFor m Ok q → Ok at.known → IsSettled (asks_block m version table q at)
-block_settled m Ok version table q at d ok =
-    settled_then (asks version at.line at.by_tree (heads q (m.shapes at.known).sizes)) (λ head. from_claims m version table q at head) (asks_settled version at.line at.by_tree (heads q (m.shapes at.known).sizes) (heads_have q (m.shapes at.known).sizes))
-    (λ head. settled_then (claims at.line (head_claims m q at.known head)) (λ x. from_rows m version table q at head) (claims_settled at.line (head_claims m q at.known head) (unless_decided (is_open head) (m.head_claims q at.known head) (let g = d.head in g at.known head ok)))
-    (λ x. settled_then (asks_all version (at.line + 1) false (below q (m.shapes at.known) head)) (λ rows. from_row_claims m version table q at head rows) (all_settled version (at.line + 1) false (below q (m.shapes at.known) head) (below_have q (m.shapes at.known) head))
-    (λ rows. settled_then (claims at.line (row_claims m q at.known head rows)) (λ y. from_trees m version table q at head rows) (claims_settled at.line (row_claims m q at.known head rows) (unless_decided (is_open head) (m.row_claims q at.known head rows) (let g = d.rows in g at.known head rows ok)))
-    (λ y. settled_then (asks_trees version table (problems m q at.known head) (at.line + 1 + length rows)) (λ line. Give (given m q at head rows line)) (trees_settled version table (problems m q at.known head) (at.line + 1 + length rows) (unless_problems (is_open head) (m.problems q at.known head) (let g = d.trees in g at.known head ok)))
-    (λ line. give_settled (given m q at head rows line))))))
+block_settled : {Known : Type 0} (own : ℕ → Type 0) (m : Meaning Known) (Ok : Known → Type 0) (version : ℕ) (table : List (List ℤ)) (q : Question) (at : AfterBlocks Known) → IsDecidedFor m Ok q → Ok at.known → IsSettled own (asks_block m version table q at)
+block_settled own m Ok version table q at d ok =
+    settled_then own (asks version at.line at.by_tree (heads q (m.shapes at.known).sizes)) (λ head. from_claims m version table q at head) (asks_settled own version at.line at.by_tree (heads q (m.shapes at.known).sizes) (heads_have q (m.shapes at.known).sizes))
+    (λ head. settled_then own (claims at.line (head_claims m q at.known head)) (λ x. from_rows m version table q at head) (claims_settled own at.line (head_claims m q at.known head) (unless_decided (is_open head) (m.head_claims q at.known head) (let g = d.head in g at.known head ok)))
+    (λ x. settled_then own (asks_all version (at.line + 1) false (below q (m.shapes at.known) head)) (λ rows. from_row_claims m version table q at head rows) (all_settled own version (at.line + 1) false (below q (m.shapes at.known) head) (below_have q (m.shapes at.known) head))
+    (λ rows. settled_then own (claims at.line (row_claims m q at.known head rows)) (λ y. from_trees m version table q at head rows) (claims_settled own at.line (row_claims m q at.known head rows) (unless_decided (is_open head) (m.row_claims q at.known head rows) (let g = d.rows in g at.known head rows ok)))
+    (λ y. settled_then own (asks_trees version table (problems m q at.known head) (at.line + 1 + length rows)) (λ line. Give (given m q at head rows line)) (trees_settled own version table (problems m q at.known head) (at.line + 1 + length rows) (unless_problems (is_open head) (m.problems q at.known head) (let g = d.trees in g at.known head ok)))
+    (λ line. give_settled own (given m q at head rows line))))))
 
 -- what is known after a block has the property
 block_keeps : {Known : Type 0} (m : Meaning Known) (Ok : Known → Type 0) (version : ℕ) (table : List (List ℤ)) (q : Question) (at : AfterBlocks Known) → IsDecidedFor m Ok q → Ok at.known → GivesOnly (λ (after : AfterBlocks Known). Ok after.known) (asks_block m version table q at)
@@ -196,15 +199,15 @@ sections_keep : {Known : Type 0} (Ok : Known → Type 0) (opened : List Record) 
 sections_keep Ok [] at ok = ok
 sections_keep Ok (r ∷ rs) at ok = ok
 
-pub blocks_settled : {Known : Type 0} (m : Meaning Known) (Ok : Known → Type 0) (version : ℕ) (table : List (List ℤ)) (built : List Question) (at : AfterBlocks Known) → IsDecidedMeaning m Ok built → Ok at.known → IsSettled (asks_blocks m version table built at)
+pub blocks_settled : {Known : Type 0} (own : ℕ → Type 0) (m : Meaning Known) (Ok : Known → Type 0) (version : ℕ) (table : List (List ℤ)) (built : List Question) (at : AfterBlocks Known) → IsDecidedMeaning m Ok built → Ok at.known → IsSettled own (asks_blocks m version table built at)
 unfolding asks_blocks
-blocks_settled m Ok version table [] at d ok = give_settled at
-blocks_settled {Known} m Ok version table (q ∷ qs) at d ok =
-    settled_then (asks_all version at.line at.by_tree (map section_form (sections version q))) (λ opened. asks_block m version table q (after_sections opened at) >>= (λ after. asks_blocks m version table qs after))
-    (all_settled version at.line at.by_tree (map section_form (sections version q)) (sections_have version q))
-    (λ opened. settled_with (λ (after : AfterBlocks Known). Ok after.known) (asks_block m version table q (after_sections opened at)) (λ after. asks_blocks m version table qs after)
-    (block_settled m Ok version table q (after_sections opened at) d.0 (sections_keep Ok opened at ok)) (block_keeps m Ok version table q (after_sections opened at) d.0 (sections_keep Ok opened at ok))
-    (λ after kept. blocks_settled m Ok version table qs after d.1 kept))
+blocks_settled own m Ok version table [] at d ok = give_settled own at
+blocks_settled {Known} own m Ok version table (q ∷ qs) at d ok =
+    settled_then own (asks_all version at.line at.by_tree (map section_form (sections version q))) (λ opened. asks_block m version table q (after_sections opened at) >>= (λ after. asks_blocks m version table qs after))
+    (all_settled own version at.line at.by_tree (map section_form (sections version q)) (sections_have version q))
+    (λ opened. settled_with own (λ (after : AfterBlocks Known). Ok after.known) (asks_block m version table q (after_sections opened at)) (λ after. asks_blocks m version table qs after)
+    (block_settled own m Ok version table q (after_sections opened at) d.0 (sections_keep Ok opened at ok)) (block_keeps m Ok version table q (after_sections opened at) d.0 (sections_keep Ok opened at ok))
+    (λ after kept. blocks_settled own m Ok version table qs after d.1 kept))
 
 -- ---- the opening
 
@@ -212,8 +215,8 @@ blocks_settled {Known} m Ok version table (q ∷ qs) at d ok =
 abbrev pub HaveTitles : List ℕ → Type 0
 HaveTitles versions = (v w : ℕ) → IsIn v versions → IsIn w versions → title v ≡ title w → v ≡ w
 
-version_settled : (versions : List ℕ) (first : List ℕ) → HaveTitles versions → IsSettled (find 1 BadHeader ℕ (λ version. IsIn version versions × (first ≡ title version)))
-version_settled versions first t = find_settled 1 BadHeader ℕ (λ version. IsIn version versions × (first ≡ title version))
+version_settled : (own : ℕ → Type 0) (versions : List ℕ) (first : List ℕ) → HaveTitles versions → IsSettled own (find 1 BadHeader ℕ (λ version. IsIn version versions × (first ≡ title version)))
+version_settled own versions first t = find_settled own 1 BadHeader ℕ (λ version. IsIn version versions × (first ≡ title version))
     (by (some_decided (λ version. first ≡ title version) (λ version. bytes_decided first (title version)) versions)) (λ x y p q. t x y p.0 q.0 (sym p.1 ∙ q.1))
   where
     by : IsDecided ((v : ℕ) × IsIn v versions × (first ≡ title v)) → ((v : ℕ) × (IsIn v versions × (first ≡ title v))) ⊎ ((v : ℕ) → IsIn v versions × (first ≡ title v) → ⊥)
@@ -230,8 +233,8 @@ bounded P each (suc most) = by (each (suc most)) (bounded P each most)
     by (inr h) (inl more) = inl (more.0, (more.1.0, omega (arith, more.1.1), more.1.2))
     by (inr h) (inr more) = inr (λ n p. elim (nat_decided n (suc most)) [ inl same ↦ h (subst P same p.2) | inr other ↦ more n (p.0, omega (arith, other, p.1), p.2) ])
 
-count_settled : (second : List ℕ) → IsSettled (find 2 BadNetwork ℕ (λ count. (1 ≤ count) × (count ≤ MAX_REACTIONS) × (second ≡ network_line count)))
-count_settled second = find_settled 2 BadNetwork ℕ (λ count. (1 ≤ count) × (count ≤ MAX_REACTIONS) × (second ≡ network_line count))
+pub count_settled : (own : ℕ → Type 0) (second : List ℕ) → IsSettled own (find 2 BadNetwork ℕ (λ count. (1 ≤ count) × (count ≤ MAX_REACTIONS) × (second ≡ network_line count)))
+count_settled own second = find_settled own 2 BadNetwork ℕ (λ count. (1 ≤ count) × (count ≤ MAX_REACTIONS) × (second ≡ network_line count))
     (bounded (λ count. second ≡ network_line count) (λ count. bytes_decided second (network_line count)) MAX_REACTIONS)
     (λ m n p q. decimal_injective m n (omega (arith, p.1)) (omega (arith, q.1)) (append_cancel_left (codes "network ") (decimal m) (decimal n) (sym p.2 ∙ q.2)))
 
@@ -239,8 +242,8 @@ count_settled second = find_settled 2 BadNetwork ℕ (λ count. (1 ≤ count) ×
 spelled_by : (lines : List (List ℕ)) (net : Net) → IsNetworkOf lines net → Spells (ended lines) net
 spelled_by lines net p = subst (λ t. Spells t net) p.1 (spells_its_network net p.0)
 
-network_settled : (n : ℕ) (lines : List (List ℕ)) → IsSettled (find n BadNetwork Net (IsNetworkOf lines))
-network_settled n lines = find_settled n BadNetwork Net (IsNetworkOf lines) decided (λ x y p q. spelling_unique (ended lines) x y (spelled_by lines x p) (spelled_by lines y q))
+pub network_settled : (own : ℕ → Type 0) (n : ℕ) (lines : List (List ℕ)) → IsSettled own (find n BadNetwork Net (IsNetworkOf lines))
+network_settled own n lines = find_settled own n BadNetwork Net (IsNetworkOf lines) decided (λ x y p q. spelling_unique (ended lines) x y (spelled_by lines x p) (spelled_by lines y q))
   where
     decided : ((net : Net) × IsNetworkOf lines net) ⊎ ((net : Net) → IsNetworkOf lines net → ⊥)
     decided = elim (judged (ended lines)) [
@@ -251,20 +254,20 @@ network_settled n lines = find_settled n BadNetwork Net (IsNetworkOf lines) deci
       | inr fault ↦ inr (λ net p. no_fault (ended lines) net fault.0 fault.1 (spelled_by lines net p) fault.2)
     ]
 
-lines_settled : (n : ℕ) → IsSettled (asks_lines n)
+pub lines_settled : (own : ℕ → Type 0) (n : ℕ) → IsSettled own (asks_lines n)
 unfolding asks_lines
-lines_settled zero = give_settled []
-lines_settled (suc n) = settled_then (due false) (λ line. asks_lines n >>= (λ lines. Give (line ∷ lines))) (due_settled false) (λ line. settled_then (asks_lines n) (λ lines. Give (line ∷ lines)) (lines_settled n) (λ lines. give_settled (line ∷ lines)))
+lines_settled own zero = give_settled own []
+lines_settled own (suc n) = settled_then own (due false) (λ line. asks_lines n >>= (λ lines. Give (line ∷ lines))) (due_settled own false) (λ line. settled_then own (asks_lines n) (λ lines. Give (line ∷ lines)) (lines_settled own n) (λ lines. give_settled own (line ∷ lines)))
 
-table_settled : (version n : ℕ) → IsSettled (asks_table version n)
-table_settled version n = either_settled (version == 2) _ (Give [])
-    (settled_then (asks version n false (table_form ∷ [])) (λ head. asks_all version (n + 1) false (replicate (first_number head.numbers) vector_form) >>= (λ rows. Give (head ∷ rows))) (asks_settled version n false (table_form ∷ []) table_has)
-    (λ head. settled_then (asks_all version (n + 1) false (replicate (first_number head.numbers) vector_form)) (λ rows. Give (head ∷ rows)) (all_settled version (n + 1) false (replicate (first_number head.numbers) vector_form) (vectors_have (first_number head.numbers))) (λ rows. give_settled (head ∷ rows))))
-    (give_settled [])
+table_settled : (own : ℕ → Type 0) (version n : ℕ) → IsSettled own (asks_table version n)
+table_settled own version n = either_settled own (version == 2) _ (Give [])
+    (settled_then own (asks version n false (table_form ∷ [])) (λ head. asks_all version (n + 1) false (replicate (first_number head.numbers) vector_form) >>= (λ rows. Give (head ∷ rows))) (asks_settled own version n false (table_form ∷ []) table_has)
+    (λ head. settled_then own (asks_all version (n + 1) false (replicate (first_number head.numbers) vector_form)) (λ rows. Give (head ∷ rows)) (all_settled own version (n + 1) false (replicate (first_number head.numbers) vector_form) (vectors_have (first_number head.numbers))) (λ rows. give_settled own (head ∷ rows))))
+    (give_settled own [])
 
-ends_settled : IsSettled ends
+pub ends_settled : (own : ℕ → Type 0) → IsSettled own ends
 unfolding IsSettled
-ends_settled = tt
+ends_settled own = tt
 
 -- ---- the document
 
@@ -273,18 +276,18 @@ network_found : (n : ℕ) (lines : List (List ℕ)) → GivesOnly IsNetwork (fin
 unfolding GivesOnly
 network_found n lines = λ net p. p.0
 
-pub course_settled : {Known : Type 0} (m : Meaning Known) (Ok : Known → Type 0) (versions : List ℕ) (built : List Question) → ((net : Net) → IsNetwork net → Ok (m.start net)) → IsDecidedMeaning m Ok built → HaveTitles versions → IsSettled (course m versions built)
-course_settled {Known} m Ok versions built starts d t =
-    settled_then (due false) (λ first. c1 first) (due_settled false) (λ first.
-    settled_then (find 1 BadHeader ℕ (λ version. IsIn version versions × (first ≡ title version))) (λ version. c2 version) (version_settled versions first t) (λ version.
-    settled_then (due false) (λ second. c3 version second) (due_settled false) (λ second.
-    settled_then (find 2 BadNetwork ℕ (λ count. (1 ≤ count) × (count ≤ MAX_REACTIONS) × (second ≡ network_line count))) (λ count. c4 version count) (count_settled second) (λ count.
-    settled_then (asks_lines count) (λ lines. c5 version count lines) (lines_settled count) (λ lines.
-    settled_with IsNetwork (find (2 + count) BadNetwork Net (IsNetworkOf lines)) (λ net. c6 version count net) (network_settled (2 + count) lines) (network_found (2 + count) lines) (λ net is.
-    settled_then (asks_table version (3 + count)) (λ table. c7 version count net table) (table_settled version (3 + count)) (λ table.
-    settled_then (asks_blocks m version (lists_of table) built (start count net table)) (λ after. c8 version net after) (blocks_settled m Ok version (lists_of table) built (start count net table) d (starts net is)) (λ after.
-    settled_then (asks version after.line after.by_tree (end_form ∷ [])) (λ last. c9 net after) (asks_settled version after.line after.by_tree (end_form ∷ []) end_has) (λ last.
-    settled_then ends (λ x. Give (read net after)) ends_settled (λ x. give_settled (read net after)))))))))))
+pub course_settled : {Known : Type 0} (own : ℕ → Type 0) (m : Meaning Known) (Ok : Known → Type 0) (versions : List ℕ) (built : List Question) → ((net : Net) → IsNetwork net → Ok (m.start net)) → IsDecidedMeaning m Ok built → HaveTitles versions → IsSettled own (course m versions built)
+course_settled {Known} own m Ok versions built starts d t =
+    settled_then own (due false) (λ first. c1 first) (due_settled own false) (λ first.
+    settled_then own (find 1 BadHeader ℕ (λ version. IsIn version versions × (first ≡ title version))) (λ version. c2 version) (version_settled own versions first t) (λ version.
+    settled_then own (due false) (λ second. c3 version second) (due_settled own false) (λ second.
+    settled_then own (find 2 BadNetwork ℕ (λ count. (1 ≤ count) × (count ≤ MAX_REACTIONS) × (second ≡ network_line count))) (λ count. c4 version count) (count_settled own second) (λ count.
+    settled_then own (asks_lines count) (λ lines. c5 version count lines) (lines_settled own count) (λ lines.
+    settled_with own IsNetwork (find (2 + count) BadNetwork Net (IsNetworkOf lines)) (λ net. c6 version count net) (network_settled own (2 + count) lines) (network_found (2 + count) lines) (λ net is.
+    settled_then own (asks_table version (3 + count)) (λ table. c7 version count net table) (table_settled own version (3 + count)) (λ table.
+    settled_then own (asks_blocks m version (lists_of table) built (start count net table)) (λ after. c8 version net after) (blocks_settled own m Ok version (lists_of table) built (start count net table) d (starts net is)) (λ after.
+    settled_then own (asks version after.line after.by_tree (end_form ∷ [])) (λ last. c9 net after) (asks_settled own version after.line after.by_tree (end_form ∷ []) end_has) (λ last.
+    settled_then own ends (λ x. Give (read net after)) (ends_settled own) (λ x. give_settled own (read net after)))))))))))
   where
     start : ℕ → Net → List Record → AfterBlocks Known
     start count net table = record { known = m.start net; by_tree = false; line = 3 + count + length table; blocks = [] }

@@ -10,9 +10,7 @@ use Rattle.std.proofs.lemmas.Bool.Decides.{nat_tests}
 use Rattle.std.proofs.lemmas.Fmt.{length-decimal-le_wide}
 use Rattle.crn_vec.specs.Network.{Net, IsNetwork, IsPartialNetwork, IsVector, JoinsTwo}
 use Rattle.crn_vec.proofs.CallerLemmas.{all_at, and_cases}
-use Rattle.crn_text.proofs.CallerLemmas.{side_text}
-use Rattle.crn_text.proofs.CallerLemmas.{held}
-use Rattle.crn_text.proofs.CallerLemmas.{good_terms, side_length, held_length}
+use Rattle.crn_text.proofs.CallerLemmas.{side_text, held, good_terms, side_length, held_length}
 use Rattle.crn_io.specs.Lines.{IsLine}
 use Rattle.crn_ctext.specs.Records.{Record, record_text}
 use Rattle.crn_ctext.proofs.Digits.{is_digit, spells}
@@ -35,7 +33,7 @@ no_end b e = grind (arith, nat_tests)
 abbrev Plain : List ℕ → Type 0
 Plain bs = list_all is_plain bs ≡ true
 
-plain_is_line : (bs : List ℕ) → Plain bs → IsLine bs
+pub plain_is_line : (bs : List ℕ) → Plain bs → IsLine bs
 plain_is_line [] e = All-nil (λ b. (b == 10) ≡ false)
 plain_is_line (b ∷ bs) e = let p = and_cases (is_plain b) (list_all is_plain bs) e in line_cons b bs (no_end b p.0) (plain_is_line bs p.1)
 

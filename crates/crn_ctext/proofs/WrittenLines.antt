@@ -1,5 +1,5 @@
 -- The lines of records, as they are written: words, then numbers.
-use Rattle.std.proofs.Common.{◌≡◌, ℕ, zero, suc, Some, slice_get, add-one, ◌+◌, ◌<◌, ◌≤◌, ℤ, pos, List, [], ◌∷◌, ◌++◌, length, map, take, drop, get_or, codes, decimal, refl, sym, ap, ◌∙◌, append_assoc, arith}
+use Rattle.std.proofs.Common.{◌≡◌, ℕ, zero, suc, Some, slice_get, add-one, ◌+◌, ◌<◌, ◌≤◌, ℤ, pos, List, [], ◌∷◌, ◌++◌, length, map, take, drop, get_or, codes, decimal, refl, sym, ap, ◌∙◌, append_assoc, arith, ap₂}
 use Rattle.std.specs.List.{flat_map, join_with_byte}
 use Rattle.std.specs.Fmt.{signed_decimal, digits}
 use Rattle.std.proofs.lemmas.List.{append-nil}
@@ -14,10 +14,11 @@ use Rattle.crn_cert.specs.declared.answer.Gap.TheVariants.{Wide, Budget, Rests}
 use Rattle.crn_cert.specs.declared.answer.Verdict.{Verdict}
 use Rattle.crn_cert.specs.declared.answer.Verdict.TheVariants.{Classes, Strong, Rank, Deficiency, Yes, YesWeak, YesVec, YesSignal, No, NoReaction, NoVec, NoNumber, NoTerminal, NoClass, NoSum, NoDependence, NoCycle, NoPair, NotRegular, OnlyZero, Plane, NotApplicable, Unknown}
 use Rattle.crn_cert.specs.declared.answer.RankProof.{RankProof}
-use Rattle.crn_ctext.specs.Records.{Record, record_text}
+use Rattle.crn_ctext.specs.Records.{Record, record_text, number_text, numbers_text, line}
 use Rattle.crn_ctext.specs.Answers.{head_of, head_with, head_word, small_record, rank_records, side_records}
 use Rattle.crn_ctext.specs.Documents.{record_lines, one_word, opening, table_records}
-use Rattle.crn_ctext.specs.Inner.Written.{number_text, numbers_text, words_text, line, question_at, head_words, head_numbers, pair_at}
+use Rattle.crn_ctext.specs.Parts.{part_head}
+use Rattle.crn_ctext.specs.Inner.Written.{words_text, question_at, head_words, head_numbers, pair_at}
 
 pieces : (a v n b d t : List ℕ) → (((a ++ v) ++ n) ++ (((b ++ d) ++ n) ++ [])) ++ t ≡ ((((a ++ v) ++ (n ++ b)) ++ d) ++ n) ++ t
 pieces a v n b d t = simp (append_assoc, append-nil)
@@ -26,6 +27,15 @@ pieces a v n b d t = simp (append_assoc, append-nil)
 pub opening_parts : (version : ℕ) (net : Net) (v d : List ℕ) → v ≡ decimal version → d ≡ decimal (length net.reactions)
     → opening version net ≡ ((((codes "crn certificate " ++ v) ++ codes "\nnetwork ") ++ d) ++ codes "\n") ++ canonical net
 opening_parts version net v d e f = rw (e, f) (pieces (codes "crn certificate ") (decimal version) (codes "\n") (codes "network ") (decimal (length net.reactions)) (canonical net))
+
+-- the opening of a part's document, in pieces
+pub part_parts : (name : List ℕ) (net : Net) (d : List ℕ) → d ≡ decimal (length net.reactions)
+    → part_head name net ≡ ((((codes "crn part " ++ name) ++ codes " 1\nnetwork ") ++ d) ++ codes "\n") ++ canonical net
+part_parts name net d f =
+    let title : (codes "crn part " ++ (name ++ codes " 1")) ++ codes "\nnetwork " ≡ (codes "crn part " ++ name) ++ codes " 1\nnetwork " =
+    append_assoc (codes "crn part ") (name ++ codes " 1") (codes "\nnetwork ") ∙ ap (λ (t : List ℕ). codes "crn part " ++ t) (append_assoc name (codes " 1") (codes "\nnetwork ")) ∙ sym (append_assoc (codes "crn part ") name (codes " 1\nnetwork ")) in
+    pieces (codes "crn part ") (name ++ codes " 1") (codes "\n") (codes "network ") (decimal (length net.reactions)) (canonical net)
+    ∙ ap₂ (λ (t e : List ℕ). ((t ++ e) ++ codes "\n") ++ canonical net) title (sym f)
 
 -- texts after a first one, each after a space
 after_first : (w : List ℕ) (texts : List (List ℕ)) → join_with_byte 32 (w ∷ texts) ≡ w ++ words_text texts

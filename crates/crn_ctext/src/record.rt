@@ -12,7 +12,7 @@ use crate::word::Word;
 use crn_vec::Ints;
 
 // The bytes before the first space.
-fn first_word(line: &[u8]) -> &[u8]
+pub(crate) fn first_word(line: &[u8]) -> &[u8]
     ensures { BeginsWith line.now result.now }
 {
     for (i, byte) in line.iter().enumerate() {

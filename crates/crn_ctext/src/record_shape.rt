@@ -88,7 +88,7 @@ fn are_between(numbers: &[i128], range: &Range) -> bool
 }
 
 // Whether each number is a number of a certificate.
-fn are_narrow(numbers: &[i128]) -> bool
+pub(crate) fn are_narrow(numbers: &[i128]) -> bool
     ensures { IsTrue result ↔ AllByRecursion IsNarrow numbers.now }
 {
     for number in numbers {
@@ -139,7 +139,7 @@ fn are_members(numbers: &[i128], members: &[u32]) -> bool
     met == numbers.len()
 }
 
-fn is_small(numbers: &[i128], count: u32, range: &Range) -> bool
+pub(crate) fn is_small(numbers: &[i128], count: u32, range: &Range) -> bool
     ensures { IsTrue result
         ↔ Takes (Small count range.now.least range.now.greatest) numbers.now }
 {
@@ -173,7 +173,7 @@ fn is_base(numbers: &[i128], count: u32, members: &[u32]) -> bool
     numbers.len() == count as usize && are_members(numbers, members)
 }
 
-fn is_basis(numbers: &[i128], count: u32, greatest: u32) -> bool
+pub(crate) fn is_basis(numbers: &[i128], count: u32, greatest: u32) -> bool
     ensures { IsTrue result ↔ Takes (Rising count greatest) numbers.now }
 {
     numbers.len() == count as usize && are_rising(numbers, greatest)

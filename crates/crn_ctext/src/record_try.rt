@@ -1,10 +1,10 @@
 ghost use Rattle.std.specs.Prelude.{◌≡◌, ◌≤◌, ◌<◌, ◌+◌, ◌++◌, ◌↔◌, ◌⊎◌, [], ℤ, List, Some, IsTrue, length, map, MatchBool, OnErr, IfOk, IfErr, take, slice_index_or};
 ghost use Rattle.crn_io.specs.declared.lines.TheConstants.{MAX_NUMBERS};
-ghost use Rattle.crn_ctext.specs.Records.{Form as SeenForm};
+ghost use Rattle.crn_ctext.specs.Records.{Form as SeenForm, most_of};
 ghost use Rattle.crn_ctext.specs.Expect.{IsExpectable, forms_of};
 ghost use Rattle.crn_ctext.specs.Inner.Line.{SaysNumbers, capped};
 ghost use Rattle.crn_ctext.specs.Inner.Shapes.{fields_of, HasBounds, IsJudged};
-ghost use Rattle.crn_ctext.specs.Inner.Forms.{IsForm, tag, most_of};
+ghost use Rattle.crn_ctext.specs.Inner.Forms.{IsForm, tag};
 ghost use Rattle.crn_ctext.specs.Inner.Tries.{IsAfter, SaysAfter, IsFit, IsTried, AreTried, IsSought, worst_of};
 
 use crate::expect::Expect;
@@ -29,7 +29,7 @@ pub(crate) enum Tried {
 }
 
 // The bytes after these, if a space or nothing is there.
-fn after<'a>(bytes: &'a [u8], first: &[u8]) -> Option<&'a [u8]>
+pub(crate) fn after<'a>(bytes: &'a [u8], first: &[u8]) -> Option<&'a [u8]>
     ensures { IsAfter bytes.now first.now result }
 {
     if bytes.len() < first.len() {
@@ -147,7 +147,7 @@ fn try_form(form: &Form, line: &[u8], into: &mut Ints) -> Tried
 }
 
 // What is known of the forms that were tried, after one more.
-fn worst(so_far: Tried, tried: Tried) -> Tried
+pub(crate) fn worst(so_far: Tried, tried: Tried) -> Tried
     ensures { result ≡ worst_of so_far tried }
 {
     match tried {

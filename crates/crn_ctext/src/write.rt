@@ -5,6 +5,7 @@ ghost use Rattle.crn_io.specs.Write.{Wrote};
 ghost use Rattle.crn_ctext.specs.Answers.{records};
 ghost use Rattle.crn_ctext.specs.Documents.{document, document2, opening, record_lines, table_records, written, Share as Said};
 ghost use Rattle.crn_ctext.specs.Linked.{records_of};
+ghost use Rattle.crn_ctext.specs.Parts.{part_head};
 ghost use Rattle.crn_ctext.specs.Inner.Written.{question_at, headings, shapes_with, blocks, block, leaves_after};
 
 use crate::write_head::{put_head, put_section};
@@ -36,6 +37,16 @@ fn put_opening<K: Sink>(sink: &mut K, version: u32, net: &Network) -> Result<(),
             b"\n",
         ],
     )?;
+    crn_text::write(net, sink)
+}
+
+/// The title of a part's document, the number of the network's lines, and these lines.
+pub fn put_part_opening<K: Sink>(sink: &mut K, part: &[u8], net: &Network) -> Result<(), WriteFault>
+    ensures { Wrote (part_head part.now net.now) (K.seen sink.old) (K.seen sink.new) result }
+{
+    let mut buffer = Buffer::new();
+    let digits = buffer.format(net.reactions()).as_bytes();
+    put_parts(sink, &[b"crn part ", part, b" 1\nnetwork ", digits, b"\n"])?;
     crn_text::write(net, sink)
 }
 

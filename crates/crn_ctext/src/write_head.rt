@@ -3,7 +3,8 @@ ghost use Rattle.crn_io.specs.Write.{Wrote};
 ghost use Rattle.crn_ctext.specs.Answers.{head_of};
 ghost use Rattle.crn_ctext.specs.Documents.{record_lines, section};
 ghost use Rattle.crn_ctext.specs.Questions.{opens};
-ghost use Rattle.crn_ctext.specs.Inner.Written.{numbers_text, words_text, question_at, head_words, head_numbers, gap_words, gap_numbers};
+ghost use Rattle.crn_ctext.specs.Records.{numbers_text};
+ghost use Rattle.crn_ctext.specs.Inner.Written.{words_text, question_at, head_words, head_numbers, gap_words, gap_numbers};
 
 use crate::write_record::{put_first, put_int, put_num, put_nums};
 use crn_cert::{Gap, Verdict};

@@ -1,7 +1,7 @@
 ghost use Rattle.std.specs.Prelude.{◌≡◌, ◌++◌, ◌∷◌, [], pos, map, codes};
 ghost use Rattle.std.specs.List.{flat_map};
 ghost use Rattle.crn_io.specs.Write.{Wrote};
-ghost use Rattle.crn_ctext.specs.Inner.Written.{number_text, numbers_text, line};
+ghost use Rattle.crn_ctext.specs.Records.{number_text, numbers_text, line};
 
 use crn_cert::Rows;
 use crn_io::{Sink, WriteFault, put_all, put_parts};
@@ -33,8 +33,8 @@ pub(crate) fn put_ints<K: Sink>(sink: &mut K, numbers: &[i128]) -> Result<(), Wr
     Ok(())
 }
 
-// Natural numbers, each after a space.
-pub(crate) fn put_nums<K: Sink>(sink: &mut K, numbers: &[u32]) -> Result<(), WriteFault>
+/// Natural numbers, each after a space.
+pub fn put_nums<K: Sink>(sink: &mut K, numbers: &[u32]) -> Result<(), WriteFault>
     ensures { Wrote (numbers_text (map pos numbers.now))
         (K.seen sink.old) (K.seen sink.new) result }
 {
@@ -53,12 +53,8 @@ pub(crate) fn put_first<K: Sink>(sink: &mut K, first: u32, more: &[u32]) -> Resu
     put_nums(sink, more)
 }
 
-// The line of a record with these numbers.
-pub(crate) fn put_free<K: Sink>(
-    sink: &mut K,
-    text: &[u8],
-    numbers: &[i128],
-) -> Result<(), WriteFault>
+/// The line of a record with these numbers.
+pub fn put_free<K: Sink>(sink: &mut K, text: &[u8], numbers: &[i128]) -> Result<(), WriteFault>
     ensures { Wrote (line text.now numbers.now) (K.seen sink.old) (K.seen sink.new) result }
 {
     put_all(sink, text)?;
@@ -75,12 +71,8 @@ pub(crate) fn put_one<K: Sink>(sink: &mut K, text: &[u8], number: &i128) -> Resu
     put_all(sink, b"\n")
 }
 
-// The line of a record with these natural numbers.
-pub(crate) fn put_small<K: Sink>(
-    sink: &mut K,
-    text: &[u8],
-    numbers: &[u32],
-) -> Result<(), WriteFault>
+/// The line of a record with these natural numbers.
+pub fn put_small<K: Sink>(sink: &mut K, text: &[u8], numbers: &[u32]) -> Result<(), WriteFault>
     ensures { Wrote (line text.now (map pos numbers.now))
         (K.seen sink.old) (K.seen sink.new) result }
 {

@@ -3,7 +3,8 @@ ghost use Rattle.crn_io.specs.Write.{Wrote};
 ghost use Rattle.crn_ctext.specs.Answers.{verdict_records, later_records, rank_records, side_records, proof_records};
 ghost use Rattle.crn_ctext.specs.Documents.{record_lines};
 ghost use Rattle.std.specs.List.{flat_map};
-ghost use Rattle.crn_ctext.specs.Inner.Written.{numbers_text, shapes_with, pair_at, strong_records};
+ghost use Rattle.crn_ctext.specs.Records.{numbers_text};
+ghost use Rattle.crn_ctext.specs.Inner.Written.{shapes_with, pair_at, strong_records};
 
 use crate::write_record::{put_free, put_ints, put_num, put_one, put_rows, put_small};
 use crn_cert::{Proof, RankList, RankProof, Rows, Verdict};

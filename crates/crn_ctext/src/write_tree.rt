@@ -3,7 +3,8 @@ ghost use Rattle.crn_io.specs.Write.{Wrote};
 ghost use Rattle.crn_ctext.specs.Answers.{nodes, proof_nodes};
 ghost use Rattle.crn_ctext.specs.Documents.{record_lines, written, first_leaf, later_leaves};
 ghost use Rattle.crn_cert.specs.Preorder.{listed};
-ghost use Rattle.crn_ctext.specs.Inner.Written.{line, leaves_after, node_record};
+ghost use Rattle.crn_ctext.specs.Records.{line};
+ghost use Rattle.crn_ctext.specs.Inner.Written.{leaves_after, node_record};
 
 use crate::write_record::put_free;
 use crn_cert::{Proof, Tree, TreeNode};

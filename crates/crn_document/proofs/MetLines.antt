@@ -8,6 +8,7 @@ use Rattle.crn_vec.specs.Network.{Net}
 use Rattle.crn_vec.specs.Problems.{Signed}
 use Rattle.crn_io.specs.Lines.{Place}
 use Rattle.crn_cert.specs.Nodes.{Said, Splits, Flats, CutsA, CutsB}
+use Rattle.crn_ctext.specs.Kinds.{known_words, tree_words}
 use Rattle.crn_ctext.specs.Records.{Record}
 use Rattle.crn_io.specs.Next.{KeptLines}
 use Rattle.crn_ctext.specs.Course.{Gives, due}
@@ -85,7 +86,7 @@ said_as e line word read h =
     let here : Place = record { line = 0; before = 0; left = [] } in
     let g = h.gives in
     record {
-      said = record { form = reads_one e.version 0 (is_after e.due e.after_tree) (forms_of e) (misplaced e.due) line here here h.said (g 0 here); numbers = h.numbers };
+      said = record { form = reads_one (known_words e.version) (tree_words e.version) 0 (is_after e.due e.after_tree) (forms_of e) (misplaced e.due) line here here h.said (g 0 here); numbers = h.numbers };
       kind = h.kind;
     }
 

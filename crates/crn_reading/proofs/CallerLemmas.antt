@@ -9,5 +9,5 @@ pub use Rattle.crn_reading.proofs.Records.{reads_one}
 -- Steps up to the end.
 pub use Rattle.crn_reading.proofs.Endings.{step_then_ends, end_exits, read_to_the_end}
 pub use Rattle.crn_reading.proofs.LastSteps.{last_all, last_exits, last_is, last_then}
--- What steps through a whole document say of its text.
-pub use Rattle.crn_reading.proofs.Texts.{text_awaits, text_fails, text_gives, text_stops}
+-- What reading a whole text by a course answers.
+pub use Rattle.crn_reading.proofs.Whole.{text_read, nothing_read, text_answered}

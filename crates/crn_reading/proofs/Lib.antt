@@ -9,3 +9,4 @@ mod Records
 mod Texts
 mod Endings
 mod LastSteps
+mod Whole

@@ -4,12 +4,12 @@ use Rattle.crn_io.specs.Lines.{Place}
 use Rattle.crn_cert.specs.Faults.{Fault}
 use Rattle.crn_ctext.specs.Records.{Record, Form}
 use Rattle.crn_ctext.specs.Course.{Gives}
-use Rattle.crn_ctext.specs.Blocks.{reads}
+use Rattle.crn_ctext.specs.Blocks.{reads_of}
 use Rattle.crn_ctext.specs.Documents.{IsOneOf}
 
 -- the record that passes all tests of a line is one of those that were due
-pub reads_one : (version n : ℕ) (after : Bool) (forms : List Form) (mis : Fault) (line : List ℕ) (at end : Place) (r : Record) → Gives (reads version n after forms mis line) at r end → IsOneOf forms r
+pub reads_one : (words trees : List (List ℕ)) (n : ℕ) (after : Bool) (forms : List Form) (mis : Fault) (line : List ℕ) (at end : Place) (r : Record) → Gives (reads_of words trees n after forms mis line) at r end → IsOneOf forms r
 unfolding Gives
-reads_one version n after forms mis line at end r g =
+reads_one words trees n after forms mis line at end r g =
     let last = g.2.2.2.2 in
     subst (λ (x : Record). IsOneOf forms x) last.2.0 last.1.1

@@ -9,11 +9,11 @@ use Rattle.crn_io.specs.Next.{KeptLines, place}
 use Rattle.crn_io.specs.Pull.{Consumes}
 use Rattle.crn_ctext.specs.Course.{Course, Give, Line, Test, End, ◌>>=◌, Gives, FailsFirst}
 use Rattle.crn_ctext.specs.Steps.{Awaits, IsRest, StepFails, StepAwaits, StepEnds, cut}
-use Rattle.crn_reading.specs.Reads.{IsRead, IsTextOf, PullsDocument}
+use Rattle.crn_reading.specs.Reads.{AwaitedIn, IsRead, IsTextOf, PullsAwaited, PullsDocument}
 use Rattle.crn_reading.specs.declared.reading.Reading.{Reading}
 use Rattle.crn_reading.specs.declared.fault.CheckStop.{CheckStop}
 use Rattle.crn_reading.specs.declared.fault.CheckStop.TheVariants as stop
-use Rattle.crn_reading.specs.Steps.{StepStops, StopIs}
+use Rattle.crn_reading.specs.Steps.{StepIs, StepStops, StopIs}
 use Rattle.crn_reading.specs.Ending.{EndStepIs}
 
 -- ---- courses one after another, in other brackets
@@ -58,6 +58,12 @@ ends_all m k f y (Ok t) old before now p = let e = p.0.2 in
     ((p.0.0, p.0.1, record { pulled = e.pulled; off = e.off; bound = e.bound; gives = λ rest r. gives_all m k f (place old.line old.lines (e.pulled ++ rest)) (place p.0.0 p.0.1 rest) y (let g = e.gives in g rest r) }), p.1, p.2)
 ends_all m k f y (Err e) old before now p = stops_all m k f e old before now p
 
+pub steps_all : {A B C T : Type 0} (m : Course A) (k : A → Course B) (f : B → Course C) (Says : T → C → Type 0) (result : Result T CheckStop) (old new : Reading) (before now : SourceSeen)
+    → StepIs ((m >>= k) >>= f) Says result old new before now → StepIs (m >>= (λ x. k x >>= f)) Says result old new before now
+steps_all m k f Says (Ok t) old new before now p = let e = p.2 in
+    (p.0, p.1, record { pulled = e.pulled; off = e.off; gives = λ rest. gives_all m k f (place old.line old.lines (e.pulled ++ rest)) (place new.line new.lines rest) p.0 (let g = e.gives in g rest) }, p.3)
+steps_all m k f Says (Err e) old new before now p = stops_all m k f e old before now p
+
 -- ---- the text
 
 -- what is left after a step, as the text goes on
@@ -83,10 +89,6 @@ text_gives c y m start kept before now none zero p same =
       record { pulled = p.pulled; consumed = p.off; bound = few_pulled start p.pulled none zero p.bound; is = r.2; faults = same },
       (place m kept r.0, subst (λ (at : Place). Gives c at y (place m kept r.0)) (at_start start (p.pulled ++ r.0) none zero) (let g = p.gives in g r.0 r.1)),
     )
-
--- what a course awaits that begins with a line
-abbrev AwaitedIn : {A : Type 0} → Course A → List ℕ → Type 0
-AwaitedIn c bytes = (begun last : List ℕ) × (bytes ≡ begun ++ last) × Awaits c (beginning begun) × (length last ≤ MAX_AHEAD)
 
 awaited_at_start : {A : Type 0} (c : Course A) (start : KeptLines) (text : List ℕ) → start.taken ≡ 0 → Awaits c (record { line = 1; before = start.taken; left = text }) → Awaits c (beginning text)
 awaited_at_start c start text zero p = subst (λ (k : ℕ). Awaits c (record { line = 1; before = k; left = text })) zero p
@@ -117,7 +119,7 @@ text_fails c start before now line code none zero first p same =
 
 -- a course that begins with a line awaits it
 pub text_awaits : {A : Type 0} (c : Course A) (start : KeptLines) (before now : SourceSeen) → start.ahead ≡ [] → start.taken ≡ 0 → StepAwaits c 1 start before.left now.left
-    → PullsDocument before now × ((bytes : List ℕ) × Consumes before.left bytes now.left × Awaits c (beginning bytes))
+    → PullsDocument before now × PullsAwaited c before now
 text_awaits c start before now none zero p =
     ((p.pulled, few_pulled start p.pulled none zero p.bound, p.off), (p.pulled, p.off, subst (λ (at : Place). Awaits c at) (at_start start p.pulled none zero) p.awaits))
 

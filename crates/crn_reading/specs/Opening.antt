@@ -4,9 +4,10 @@ use Rattle.std.specs.Prelude.{◌≡◌, ◌≤◌, ◌+◌, ℕ, List, false}
 use Rattle.crn_vec.specs.Lists.{IsIn}
 use Rattle.crn_vec.specs.Network.{Net}
 use Rattle.crn_vec.specs.declared.limits.TheConstants.{MAX_REACTIONS}
-use Rattle.crn_ctext.specs.Course.{Course, due, find, ◌>>=◌}
+use Rattle.crn_ctext.specs.Course.{Course, due, find, test, ◌>>=◌}
 use Rattle.crn_ctext.specs.Blocks.{title, network_line, asks_lines, IsNetworkOf}
 use Rattle.crn_ctext.specs.Meaning.{versions}
+use Rattle.crn_ctext.specs.Parts.{part_title}
 use Rattle.crn_cert.specs.Faults.{BadHeader, BadNetwork}
 
 -- the line is the title of this version
@@ -20,6 +21,10 @@ SaysCount line count = (1 ≤ count) × (count ≤ MAX_REACTIONS) × (line ≡ n
 -- the first line and its test
 abbrev pub title_course : Course ℕ
 title_course = due false >>= (λ line. find 1 BadHeader ℕ (IsTitleOf line))
+
+-- the title of a part, and its test
+abbrev pub part_title_course : (name : List ℕ) → Course (Unit {0})
+part_title_course name = due false >>= (λ line. test 1 BadHeader (line ≡ part_title name))
 
 -- the second line and its test
 abbrev pub count_course : Course ℕ

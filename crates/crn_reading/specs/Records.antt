@@ -1,8 +1,9 @@
 -- A record that is due, and what is said of it once it was read.
 -- Source: this project's own format. Shapes: lines of a document count from 1.
-use Rattle.std.specs.Prelude.{◌≡◌, ◌++◌, ℕ, ℤ, List, false}
-use Rattle.crn_ctext.specs.Records.{Record}
+use Rattle.std.specs.Prelude.{◌≡◌, ◌<◌, ◌++◌, ℕ, ℤ, List, [], length, slice_index_or, false}
+use Rattle.crn_ctext.specs.Records.{Record, Form}
 use Rattle.crn_ctext.specs.Course.{Course, due, ◌>>=◌}
+use Rattle.crn_ctext.specs.Blocks.{word_of}
 use Rattle.crn_ctext.specs.Documents.{IsOneOf}
 use Rattle.crn_ctext.specs.Expect.{forms_of, sizes_of, tag_of, tests_of}
 use Rattle.crn_ctext.specs.declared.expect.Expect.{Expect}
@@ -16,3 +17,11 @@ asks_for e n = due false >>= (λ line. tests_of e n line)
 pub record IsSaid (e : Expect) (read : List ℤ) (r : Record) : Type 0 where
   pub form : IsOneOf (forms_of e) r
   pub numbers : read ≡ tag_of e.due (sizes_of e.sizes) r ++ r.numbers
+
+-- the record is of one of these forms, its word has this place, and these are its numbers
+pub record IsPartSaid (words : List (List ℕ)) (forms : List Form) (place : ℕ) (read : List ℤ)
+    (r : Record) : Type 0 where
+  pub form : IsOneOf forms r
+  pub inside : place < length words
+  pub kind : word_of r ≡ slice_index_or words place []
+  pub numbers : read ≡ r.numbers

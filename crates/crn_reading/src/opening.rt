@@ -1,15 +1,17 @@
-ghost use Rattle.std.specs.Prelude.{◌≡◌, ◌≤◌, ◌+◌, ◌++◌, ◌∷◌, [], ◌↔◌, IsTrue, IfOk, OnOk, length};
+ghost use Rattle.std.specs.Prelude.{◌≡◌, ◌≤◌, ◌+◌, ◌++◌, ◌∷◌, [], ◌↔◌, IsTrue, IfOk, OnOk, length, codes};
 ghost use Rattle.crn_vec.specs.Network.{IsNetwork};
 ghost use Rattle.crn_vec.specs.declared.limits.TheConstants.{MAX_REACTIONS};
 ghost use Rattle.crn_io.specs.declared.lines.TheConstants.{MAX_NUMBERS};
 ghost use Rattle.crn_ctext.specs.Blocks.{asks_lines, network_line};
-ghost use Rattle.crn_reading.specs.Steps.{CanRead, GoesOn, StepIs};
-ghost use Rattle.crn_reading.specs.Opening.{title_course, count_course, network_course};
+ghost use Rattle.crn_ctext.specs.Parts.{part_opening, part_title};
+ghost use Rattle.crn_reading.specs.Steps.{CanRead, GoesOn, IsNew, StepIs};
+ghost use Rattle.crn_reading.specs.Opening.{part_title_course, title_course, count_course, network_course};
 ghost use Rattle.crn_reading.specs.Inner.Opening.{AreAdded, IsAddedLine, IsVersionOf, IsCountOf};
 
 use crate::fault::CheckStop;
 use crate::network::network_of;
 use crate::reading::{Reading, next_line};
+use crn_ctext::are_same;
 use crn_io::{NoMemory, Source};
 use crn_net::Network;
 use crn_vec::MAX_REACTIONS;
@@ -20,6 +22,30 @@ fn is_line(line: &[u8], text: &[u8]) -> bool
     ensures { IsTrue result ↔ (line.now ≡ text.now) }
 {
     line == text
+}
+
+// Whether the bytes are the name of a part, and its version.
+fn is_name(rest: &[u8], part: &[u8]) -> bool
+    ensures { IsTrue result ↔ (rest.now ≡ part.now ++ codes " 1") }
+{
+    if rest.len() < part.len() {
+        return false;
+    }
+    let (name, version) = rest.split_at(part.len());
+    if !are_same(name, part) {
+        return false;
+    }
+    are_same(version, b" 1")
+}
+
+// Whether the line is the title of a part.
+fn is_title(line: &[u8], part: &[u8]) -> bool
+    ensures { IsTrue result ↔ (line.now ≡ part_title part.now) }
+{
+    match line.strip_prefix(b"crn part ") {
+        Some(rest) => is_name(rest, part),
+        None => false,
+    }
 }
 
 // Whether the line says that the network has this many lines.
@@ -76,6 +102,29 @@ pub fn next_version<S: Source>(source: &mut S, at: &mut Reading) -> Result<(), C
         }
         None => Err(CheckStop::Rejected { code: 21, line: 1 }),
     }
+}
+
+/// The first line of a document of a part. A reading of parts has version 1.
+pub fn next_part_title<S: Source>(
+    source: &mut S,
+    at: &mut Reading,
+    part: &[u8],
+) -> Result<(), CheckStop>
+    requires reads { CanRead at.old }
+    requires first { (at.old.line ≡ 1) × (at.old.lines.taken ≡ 0) }
+    requires room { MAX_NUMBERS ≤ at.old.numbers.spare + length at.old.numbers.list }
+    ensures step { StepIs (part_title_course part.now) (λ _ _. Unit {0}) result at.old at.new
+        (S.seen source.old) (S.seen source.new) }
+    ensures goes { OnOk result (GoesOn at.new) }
+    ensures line { OnOk result (at.new.line ≡ 2) }
+    ensures version { OnOk result (at.new.version ≡ 1) }
+{
+    next_line(source, at, false)?;
+    if is_title(at.lines.line(), part) {
+        at.version = 1;
+        return Ok(());
+    }
+    Err(CheckStop::Rejected { code: 21, line: 1 })
 }
 
 /// The second line of a document, which says how many lines its network has.
@@ -178,4 +227,22 @@ pub fn next_network<S: Source>(
             line: 2 + count,
         }),
     }
+}
+
+/// The lines of a document of a part up to the last one of its network.
+pub fn read_part_head<S: Source>(
+    source: &mut S,
+    at: &mut Reading,
+    part: &[u8],
+) -> Result<Network, CheckStop>
+    requires new { IsNew at.old }
+    ensures step { StepIs (part_opening part.now) (λ net opened. opened ≡ (net, at.new.line))
+        result at.old at.new (S.seen source.old) (S.seen source.new) }
+    ensures goes { OnOk result (GoesOn at.new) }
+    ensures network { IfOk result IsNetwork }
+    ensures version { OnOk result (at.new.version ≡ 1) }
+{
+    next_part_title(source, at, part)?;
+    let count = next_count(source, at)?;
+    next_network(source, at, count)
 }

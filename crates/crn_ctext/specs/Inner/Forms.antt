@@ -2,7 +2,7 @@
 -- The forms that are due, one after another.
 -- Source: this project's own. Shapes: forms count from 0, places of heads from 1; words after the first are each after a space.
 use Rattle.std.specs.Prelude.{◌≡◌, ◌≤◌, ◌<◌, ◌+◌, ℕ, zero, suc, ℤ, pos, Option, Some, None, List, [], ◌∷◌, length, slice_index_or}
-use Rattle.crn_ctext.specs.Records.{Form, Record, Field, Small, Several, Free, FreeSeveral, Rising, Members, CountAndPart, TwoOf, Turn, ClassWide}
+use Rattle.crn_ctext.specs.Records.{Form, Record, most_of}
 use Rattle.crn_io.specs.declared.lines.TheConstants.{MAX_NUMBERS}
 use Rattle.crn_ctext.specs.Blocks.{place_of}
 use Rattle.crn_ctext.specs.Expect.{text_of, sizes_of, forms_of, tag_of}
@@ -15,24 +15,6 @@ use Rattle.crn_ctext.specs.declared.record_form.Form.{Form as GivenForm}
 abbrev pub later : List (List ℕ) → List (List ℕ)
 later [] = []
 later (w ∷ words) = words
-
--- at most this many numbers are of a field
-abbrev pub field_most : Field → ℕ
-field_most (Small count least greatest) = count
-field_most (Several fewest most least greatest) = most
-field_most (Free count) = count
-field_most (FreeSeveral fewest most) = most
-field_most (Rising count greatest) = count
-field_most (Members count members) = count
-field_most (CountAndPart greatest) = 2
-field_most (TwoOf greatest) = 2
-field_most Turn = 1
-field_most (ClassWide species reactions) = 2 + species
-
--- at most this many numbers are of these fields
-abbrev pub most_of : List Field → ℕ
-most_of [] = 0
-most_of (field ∷ fields) = field_most field + most_of fields
 
 -- what is put before the numbers
 abbrev pub tag : ℕ → List ℤ

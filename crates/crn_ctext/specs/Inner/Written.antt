@@ -19,21 +19,9 @@ use Rattle.crn_ctext.specs.Questions.{Shapes, opens}
 use Rattle.crn_ctext.specs.Answers.{head_of, open_head, records, small_record}
 use Rattle.crn_ctext.specs.Documents.{is_cut_leaf, later_leaves, one_word, section}
 
--- a space and a number
-abbrev pub number_text : ℤ → List ℕ
-number_text z = 32 ∷ signed_decimal z
-
--- numbers, each after a space
-abbrev pub numbers_text : List ℤ → List ℕ
-numbers_text zs = flat_map number_text zs
-
 -- words, each after a space
 abbrev pub words_text : List (List ℕ) → List ℕ
 words_text words = flat_map (λ word. 32 ∷ word) words
-
--- a line: a text, and then numbers
-abbrev pub line : List ℕ → List ℤ → List ℕ
-line text numbers = text ++ numbers_text numbers ++ codes "\n"
 
 -- the question of a number
 abbrev pub question_at : ℕ → Question

@@ -1,5 +1,6 @@
 use Rattle.std.proofs.Common.{inl, inr, arith}
 use Rattle.crn_io.specs.Lines.{beginning}
+use Rattle.crn_ctext.specs.Courses.{none_own}
 use Rattle.crn_ctext.specs.Blocks.{course}
 use Rattle.crn_ctext.specs.Meaning.{meaning, versions}
 use Rattle.crn_cert.specs.Built.{built}
@@ -8,10 +9,10 @@ use Rattle.crn_ctext.proofs.DocumentsGood.{settled, read_documents_are_good, goo
 use Rattle.crn_ctext.proofs.laws.each_document_is_judged.Goals as goal
 
 pub returns-clause-judged : goal.returns-clause-judged
-returns-clause-judged c = λ bytes. elim (each_is_judged (course meaning versions built) settled (beginning bytes) (omega arith)) [ inl g ↦ inl (read_documents_are_good bytes g.0 (g.1, g.2)) | inr f ↦ inr f ]
+returns-clause-judged c = λ bytes. elim (each_is_judged none_own (course meaning versions built) settled (beginning bytes) (omega arith)) [ inl g ↦ inl (read_documents_are_good bytes g.0 (g.1, g.2)) | inr f ↦ inr f ]
 
 pub returns-clause-apart : goal.returns-clause-apart
-returns-clause-apart c = λ bytes line code g f. let r = good_documents_are_read bytes g in gives_or_fails (course meaning versions built) settled (beginning bytes) r.1.0 r.0 line code r.1.1 f
+returns-clause-apart c = λ bytes line code g f. let r = good_documents_are_read bytes g in gives_or_fails none_own (course meaning versions built) settled (beginning bytes) r.1.0 r.0 line code r.1.1 f
 
 pub returns-clause-first : goal.returns-clause-first
-returns-clause-first c = λ bytes line other code another f g. first_is_one (course meaning versions built) settled (beginning bytes) line other code another f g
+returns-clause-first c = λ bytes line other code another f g. first_is_one none_own (course meaning versions built) settled (beginning bytes) line other code another f g

@@ -1,4 +1,5 @@
 use Rattle.crn_io.specs.Lines.{beginning}
+use Rattle.crn_ctext.specs.Courses.{none_own}
 use Rattle.crn_ctext.specs.Blocks.{course}
 use Rattle.crn_ctext.specs.Meaning.{meaning, versions}
 use Rattle.crn_cert.specs.Built.{built}
@@ -10,7 +11,7 @@ pub returns-clause-read : goal.returns-clause-read
 returns-clause-read c = λ bytes. (documents.good_documents_are_read bytes, λ r. documents.read_documents_are_good bytes r.0 r.1)
 
 pub returns-clause-one : goal.returns-clause-one
-returns-clause-one c = λ bytes read other g h. (gives_one (course meaning versions built) documents.settled (beginning bytes) g.0 h.0 read other g.1 h.1).0
+returns-clause-one c = λ bytes read other g h. (gives_one none_own (course meaning versions built) documents.settled (beginning bytes) g.0 h.0 read other g.1 h.1).0
 
 pub returns-clause-same : goal.returns-clause-same
 returns-clause-same c = documents.read_is_of

@@ -12,7 +12,4 @@ returns-clause-numbered g c =
     document_numbered c.next_document.result before now (document_gives c.next_document.result c.in_ok-at.at before now c.in_ok-at.ensures c.next_document.ensures.step)
 
 pub returns-clause-answered : goal.returns-clause-answered
-returns-clause-answered g c =
-    let before = g.S.Source.seen c.args.source.now in
-    let now = g.S.Source.seen c.next_document.new.source in
-    document_answered c.next_document.result before now (document_gives c.next_document.result c.in_ok-at.at before now c.in_ok-at.ensures c.next_document.ensures.step)
+returns-clause-answered g c = document_answered c.next_document.result c.in_ok-at.at (g.S.Source.seen c.args.source.now) (g.S.Source.seen c.next_document.new.source) c.in_ok-at.ensures c.next_document.ensures.step

@@ -4,6 +4,7 @@ use Rattle.crn_io.specs.Lines.{Place}
 use Rattle.crn_io.specs.Next.{place}
 use Rattle.crn_ctext.proofs.CallerLemmas.{step_then, step_fails_then}
 use Rattle.crn_ctext.specs.Course.{due, Gives, FailsFirst}
+use Rattle.crn_ctext.specs.Kinds.{known_words, tree_words}
 use Rattle.crn_ctext.specs.Expect.{tests_of, is_after, forms_of, misplaced}
 use Rattle.crn_reading.proofs.Steps.{stop_first, step_exits, tests_give, tests_fail}
 use Rattle.crn_reading.proofs.Records.{reads_one}
@@ -26,7 +27,7 @@ returns-in-Ok-clause-step g c =
     let line : c.line.result.now ≡ s.0 = c.line.ensures ∙ sym s.1 in
     let gives : (at : Place) → Gives (tests_of e n s.0) at r.said at = λ at. subst (λ (l : List ℕ). Gives (tests_of e n l) at r.said at) line (let q = r.gives in q n at) in
     let here : Place = place mid.line mid.lines [] in
-    let form = reads_one e.version n (is_after e.due e.after_tree) (forms_of e) (misplaced e.due) s.0 here here r.said (gives here) in (
+    let form = reads_one (known_words e.version) (tree_words e.version) n (is_after e.due e.after_tree) (forms_of e) (misplaced e.due) s.0 here here r.said (gives here) in (
       r.said,
       record { form = form; numbers = r.numbers },
       step_then (due false) (λ line. tests_of e n line) s.0 r.said n mid.line mid.line old.lines mid.lines mid.lines before.left now.left now.left s.2 (tests_give (tests_of e n s.0) r.said mid.line mid.lines now.left gives),
