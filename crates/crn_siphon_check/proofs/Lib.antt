@@ -1,0 +1,4 @@
+pub mod CallerLemmas
+mod SiphonLaws
+mod VisitLaws
+mod AnswerLaws

@@ -1,0 +1,5 @@
+pub mod Siphons
+pub mod Prefixes
+pub mod Trees
+pub mod SiphonVisits
+pub mod Answers
