@@ -72,8 +72,8 @@ function svg(size, name, inside) {
     return {
         width, height,
         svg: `<svg xmlns="http://www.w3.org/2000/svg" class="drawing" viewBox="-1 -1 ${width} ${height}" width="${width}" height="${height}" role="group" aria-label="${escaped(name)}">`
-            + '<defs><marker id="tip" viewBox="0 0 10 10" refX="9" refY="5" markerWidth="7" markerHeight="7" orient="auto-start-reverse"><path class="tip" d="M0 0.5L10 5L0 9.5z"/></marker>'
-            + '<marker id="back" viewBox="0 0 10 10" refX="9" refY="5" markerWidth="7" markerHeight="7" orient="auto"><path class="back" d="M0.7 1.2L9 5L0.7 8.8z"/></marker></defs>'
+            + '<defs><marker id="tip" viewBox="0 0 10 10" refX="9" refY="5" markerUnits="userSpaceOnUse" markerWidth="10" markerHeight="10" orient="auto-start-reverse"><path class="tip" d="M0 0.5L10 5L0 9.5z"/></marker>'
+            + '<marker id="back" viewBox="0 0 10 10" refX="9" refY="5" markerUnits="userSpaceOnUse" markerWidth="10" markerHeight="10" orient="auto"><path class="back" d="M0.7 1.2L9 5L0.7 8.8z"/></marker></defs>'
             + inside + '</svg>',
     };
 }
@@ -103,7 +103,7 @@ export function complexPicture(report, reactions, measure, width) {
     });
     const size = packed(frames, Math.max(width, 320));
     const inside = frames.map(frame => {
-        const x = frame.x + FRAME, y = frame.y + HEAD;
+        const x = frame.x + (frame.width - frame.layout.width) / 2, y = frame.y + HEAD;
         const moved = points => points.map(point => ({ ...point, x: point.x + x, y: point.y + y }));
         const edges = frame.edges.map((edge, at) => {
             const [along, side] = frame.layout.down ? ['y', 'height'] : ['x', 'width'];
