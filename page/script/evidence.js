@@ -1,7 +1,7 @@
 // The evidence of each verdict in words and names: what the report has in numbers, what follows from lines above it, and
 // how large the trees are that are in the certificate alone.
 import { evidence, terms } from './report.js';
-import { heightOf, sides, signed, sum } from './explain.js';
+import { heightOf, shelfOf, sides, signed, sum } from './explain.js';
 
 const of = (count, one, many = one + 's') => `${count} ${count === 1 ? one : many}`;
 const known = value => /^\d+$/.test(value);
@@ -121,12 +121,11 @@ function tree(number, text) {
 function signal(net) {
     const mu = evidence(net.report, 13, 'mu'), shelves = evidence(net.report, 13, 'shelves'), [m] = evidence(net.report, 13, 'm'), [turn] = evidence(net.report, 13, 'turn');
     const terminal = net.report.strong.filter(it => it.terminal);
-    const shelf = name => shelves[terminal.findIndex(it => it.members.includes(name))] || 'middle';
     return [
         { text: turn === '1' ? 'The signal is one for the vector of question 12.' : 'The signal is one for the negative of the vector of question 12.' },
         { text: 'The shelves of the terminal strong classes:', numbers: named(terminal.map(it => it.members.join('; ')), shelves) },
         { text: 'The numbers mu of the species:', numbers: named(net.report.species, mu.map(signed)) },
-        { text: `The height of each complex, the sum of its amounts times these; the middle shelf has the height ${m}:`, words: net.report.complexes.map(name => [name, `${shelf(name)} shelf`, String(heightOf(name, net.report, mu))]) },
+        { text: `The height of each complex, the sum of its amounts times these; the middle shelf has the height ${m}:`, words: net.report.complexes.map((name, at) => [name, `${shelfOf(net.report, at)} shelf`, String(heightOf(name, net.report, mu))]) },
     ];
 }
 
@@ -280,10 +279,11 @@ export function treesIn(certificate) {
     return found;
 }
 
-// Where a tree is, and how large.
+// Where a tree is, and how large, by what a certificate has; without one it is not known yet.
 export function treeWords(number, trees) {
+    if (!trees) return 'They are in the certificate, as a tree, which is being counted.';
     const it = trees[number];
-    if (!it) return 'They are in the certificate, as a tree, which is being counted.';
+    if (!it) return 'They are in the certificate, as a tree.';
     const branches = it.splits ? `at ${it.splits} of them it tries each sign of one more, and at the other ${it.nodes - it.splits} numbers exclude what was tried` : 'whose numbers exclude all';
     return `They are in the certificate, as a tree of ${of(it.nodes, 'node')}: ${branches}.`;
 }

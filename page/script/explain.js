@@ -18,6 +18,12 @@ export function heightOf(complex, report, mu) {
     return terms(complex).reduce((total, [amount, name]) => total + BigInt(amount) * BigInt(mu[report.species.indexOf(name)]), 0n);
 }
 
+// The shelf of a complex in a signal.
+export function shelfOf(report, complex) {
+    const place = report.strong.filter(it => it.terminal).findIndex(it => it.members.includes(report.complexes[complex]));
+    return place < 0 ? 'middle' : evidence(report, 13, 'shelves')[place];
+}
+
 // The complexes on each side of a linked pair once the links between the two are taken away, or nothing if a walk remains.
 export function sides(from, to, reactions, members) {
     const reached = new Set([to]);
@@ -49,6 +55,8 @@ export function aboutReaction(report, reactions, number) {
     if (base && base.includes(String(number))) lines.push('It is one of the independent reactions of the rank.');
     of(7, 'positive combination', value => `Positive combination: ${value} times.`);
     of(8, 'multipliers', value => `Multiplier that shows the network not conservative: ${value}.`);
+    const mu = evidence(report, 13, 'mu');
+    if (mu) lines.push(`Signal: from the ${shelfOf(report, from)} shelf, height ${heightOf(report.complexes[from], report, mu)}, to the ${shelfOf(report, to)} shelf, height ${heightOf(report.complexes[to], report, mu)}.`);
     of(14, 'alpha', value => `Not concordant: alpha is ${signed(value)} here.`);
     of(15, 'alpha', value => `Not strongly concordant: alpha is ${signed(value)} here.`);
     return { title: `Reaction ${number}: ${text}`, lines };
@@ -63,9 +71,8 @@ export function aboutComplex(report, complex) {
     if (vectors.length === 1) lines.push(`Confluence vector: ${signed(vectors[0])} here.`);
     const mu = evidence(report, 13, 'mu');
     if (mu) {
-        const shelves = evidence(report, 13, 'shelves'), m = evidence(report, 13, 'm')[0];
-        const place = report.strong.filter(it => it.terminal).findIndex(it => it.members.includes(name));
-        lines.push(`Signal: ${place < 0 ? 'middle' : shelves[place]} shelf, at the height ${heightOf(name, report, mu)} (the middle shelf is at ${m}).`);
+        const [m] = evidence(report, 13, 'm');
+        lines.push(`Signal: ${shelfOf(report, complex)} shelf, at the height ${heightOf(name, report, mu)} (the middle shelf is at ${m}).`);
     }
     return { title: `Complex ${complex + 1}: ${name}`, lines };
 }

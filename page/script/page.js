@@ -167,18 +167,17 @@ async function read() {
         let done = await program.run(['report', '--budget', quick], text);
         if (mine !== turn || !done) return;
         if (done.status > 1) return await refuse(done, text, mine);
-        const certificate = await program.run(['certify', '--budget', quick], text);
-        if (mine !== turn || !certificate) return;
-        if (certificate.status > 1) return say(STATUS[certificate.status], 'bad');
-        showReport(textOf(done.out), textOf(certificate.out));
-        const isSearched = quick !== budget && byBudget(now.report).length;
-        if (isSearched) {
+        const network = await program.run(['certify', '--budget', '1'], text);
+        if (mine !== turn || !network) return;
+        if (network.status > 1) return say(STATUS[network.status], 'bad');
+        showReport(textOf(done.out), textOf(network.out));
+        if (quick !== budget && byBudget(now.report).length) {
             done = await search(text, budget, mine);
-            if (mine !== turn || !done) return;
-            showReport(textOf(done.out), textOf(certificate.out));
+            if (mine !== turn) return;
+            if (done) showReport(textOf(done.out), textOf(network.out));
         }
-        sayDone(done);
-        if (isSearched) await countTrees(text, budget, mine);
+        if (done) sayDone(done);
+        await countTrees(text, done ? budget : quick, mine);
     } catch (error) {
         if (mine === turn) say(`The program stopped: ${error.message}`, 'bad');
     } finally {
@@ -216,12 +215,13 @@ async function search(text, budget, mine) {
     }
 }
 
-// Says how large the trees of the long search are, which only its certificate has.
+// Says how large the trees are, which only a certificate has.
 async function countTrees(text, budget, mine) {
-    const whole = await program.run(['certify', '--budget', budget], text);
+    const places = $('lines').querySelectorAll('[data-tree]');
+    const whole = places.length && await program.run(['certify', '--budget', budget], text);
     if (mine !== turn || !whole) return;
     const trees = treesIn(textOf(whole.out));
-    for (const said of $('lines').querySelectorAll('[data-tree]')) said.textContent = treeWords(said.dataset.tree, trees);
+    for (const place of places) place.textContent = treeWords(place.dataset.tree, trees);
 }
 
 function sayDone(done) {
@@ -229,7 +229,7 @@ function sayDone(done) {
     say(count ? `done, with ${count} open ${count === 1 ? 'question' : 'questions'} (${spent(done)})` : `done (${spent(done)})`, count ? 'open' : 'good');
 }
 
-function showReport(text, certificate) {
+function showReport(text, certificate, trees = null) {
     const report = readReport(text);
     now = { report, reactions: readReactions(certificate, report.complexes) };
     markLine(null);
@@ -237,7 +237,7 @@ function showReport(text, certificate) {
     show('shown', true);
     $('summary').textContent = summary(report);
     $('conclusions').innerHTML = conclusionsView(report, data.conclusions);
-    $('lines').innerHTML = linesView(report, now.reactions, data.conclusions, treesIn(certificate));
+    $('lines').innerHTML = linesView(report, now.reactions, data.conclusions, trees);
     $('unfold').textContent = 'Unfold all';
     $('report').textContent = text;
     draw();
@@ -390,7 +390,7 @@ async function check(bytes) {
     turn++;
     place(networkIn(document_));
     for (const id of ['halted', 'progress', 'shared']) show(id, false);
-    showReport(out, document_);
+    showReport(out, document_, treesIn(document_));
     say('as the certificate says', 'good');
     sayCertified('the certificate is good; its network and its report are shown', 'good');
 }
