@@ -30,7 +30,11 @@ if [ -e "$PWD/src/broken" ]; then exit 1; fi
 if [ "$1" = ci ]; then
     for name in crates/*; do
         if [ -e "$name/src/broken" ]; then exit 1; fi
-        echo "rt: $(basename "$name") proved"
+        case $name in
+            # as rt says of what an earlier run on the machine proved
+            crates/low) echo "rt: low is kept: an earlier run on this machine proved the same files over the same libraries" ;;
+            *) echo "rt: $(basename "$name") proved" ;;
+        esac
     done
     mkdir -p crates/crnt/out && cp "$PROGRAM" crates/crnt/out/crnt
     exit
