@@ -83,7 +83,7 @@ fn fifteen(rt: &(impl Abort + AllocGlobal)) -> Verdicts {
 #[test]
 fn fifteen_verdicts_find_places(rt: HostRuntime) {
     let verdicts = fifteen(&rt);
-    assert_eq!(rt; verdicts.len(), 15);
+    assert!(rt; verdicts.len() == 15);
     assert!(rt; matches!(verdicts.get(15), Verdict::NoNumber { number: 15 }));
 }
 
@@ -92,9 +92,8 @@ fn rows_are_read_back(rt: HostRuntime) {
     let mut rows = Rows::new(rt.alloc()).expect(&rt, "memory");
     rows.push(ints(&rt, &[1, -2])).expect(&rt, "memory");
     rows.push(ints(&rt, &[3])).expect(&rt, "memory");
-    assert_eq!(rt; rows.len(), 2);
-    assert_eq!(rt; rows.row(0), [1, -2].as_slice());
-    assert_eq!(rt; rows.row(1), [3].as_slice());
+    assert!(rt; rows.len() == 2);
+    assert!(rt; rows.row(0) == [1, -2].as_slice() && rows.row(1) == [3].as_slice());
 }
 
 // A base without duals and combinations.
@@ -110,8 +109,8 @@ fn base_alone(rt: &(impl Abort + AllocGlobal)) -> RankProof {
 fn proofs_of_ranks_are_read_back(rt: HostRuntime) {
     let mut list = RankList::new(rt.alloc()).expect(&rt, "memory");
     list.push(base_alone(&rt)).expect(&rt, "memory");
-    assert_eq!(rt; list.len(), 1);
-    assert_eq!(rt; list.row(0).base.as_slice(), [4].as_slice());
+    assert!(rt; list.len() == 1);
+    assert!(rt; list.row(0).base.as_slice() == [4].as_slice());
 }
 
 #[test]

@@ -4,8 +4,6 @@
 #[cfg(test)]
 mod answers;
 #[cfg(test)]
-mod classes;
-#[cfg(test)]
 mod devices;
 #[cfg(test)]
 mod documents;
@@ -14,15 +12,11 @@ mod faults;
 #[cfg(test)]
 mod fractions;
 #[cfg(test)]
-mod lines;
-#[cfg(test)]
 mod lists;
 #[cfg(test)]
 mod reports;
 #[cfg(test)]
 mod runs;
-#[cfg(test)]
-mod samples;
 #[cfg(test)]
 mod statuses;
 #[cfg(test)]
@@ -33,5 +27,3 @@ mod systems;
 mod tableaus;
 #[cfg(test)]
 mod versions;
-#[cfg(test)]
-mod words;

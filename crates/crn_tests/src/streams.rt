@@ -102,27 +102,27 @@ fn all_is_read_up_to_the_limit(rt: HostRuntime) {
 #[test]
 fn nothing_is_pulled_after_a_fault(rt: HostRuntime) {
     let mut source = MemSource::new(rt.alloc(), b"ABC", 1, &[2]).expect(&rt, "memory");
-    let got = read_all(rt.alloc(), &mut source, 100);
-    assert_eq!(rt; got.is_err_and(|stop| stop == ReadStop::Failed), true);
+    assert!(rt;
+        is_read(
+            &read_all(rt.alloc(), &mut source, 100),
+            &Err(ReadStop::Failed)
+        )
+    );
+    assert!(rt; pulls(&mut source, Pull::Got(1), b"B"));
+}
+
+// Whether a pull of a source ends so, and what it gave begins with these bytes.
+fn pulls(source: &mut impl Source, want: Pull, bytes: &[u8]) -> bool {
     let mut buffer = [0u8; 3];
-    assert_eq!(rt; source.pull(&mut buffer), Pull::Got(1));
-    assert_eq!(rt; buffer[0], b'B', "the next byte after the fault");
+    source.pull(&mut buffer) == want && buffer.starts_with(bytes)
 }
 
 #[test]
 fn a_source_in_memory_goes_on_after_a_listed_call(rt: HostRuntime) {
     let mut source = MemSource::new(rt.alloc(), b"ABC", 2, &[2]).expect(&rt, "memory");
-    let mut buffer = [0u8; 3];
-    for (want, prefix) in [
-        (Pull::Got(2), b"AB".as_slice()),
-        (Pull::Failed, b"AB".as_slice()),
-        (Pull::Got(1), b"C".as_slice()),
-        (Pull::End, b"C".as_slice()),
-        (Pull::End, b"C".as_slice()),
-    ] {
-        assert_eq!(rt; source.pull(&mut buffer), want);
-        assert_eq!(rt; &buffer[..prefix.len().min(3)], prefix);
-    }
+    assert!(rt; pulls(&mut source, Pull::Got(2), b"AB") && pulls(&mut source, Pull::Failed, b""));
+    assert!(rt; pulls(&mut source, Pull::Got(1), b"C") && pulls(&mut source, Pull::End, b""));
+    assert!(rt; pulls(&mut source, Pull::End, b""));
 }
 
 const REPORT: &[u8] = b"crn report";
@@ -177,76 +177,56 @@ fn all_is_written_up_to_a_fault(rt: HostRuntime) {
 #[test]
 fn parts_are_written_one_after_another(rt: HostRuntime) {
     let mut sink = MemSink::new(rt.alloc(), 2, &[5]).expect(&rt, "memory");
-    assert_eq!(rt;
-        put_parts(&mut sink, &[b"open", b"", b": ", b"0\n"]),
-        Ok(())
-    );
-    assert_eq!(rt; put_parts(&mut sink, &[b"more", b"last"]), Err(WriteFault));
-    assert_eq!(rt; sink.bytes(), b"open: 0\n".as_slice());
+    assert!(rt; put_parts(&mut sink, &[b"open", b"", b": ", b"0\n"]).is_ok());
+    assert!(rt; put_parts(&mut sink, &[b"more", b"last"]).is_err());
+    assert!(rt; sink.bytes() == b"open: 0\n".as_slice());
 }
 
 #[test]
 fn pieces_are_written_with_a_separator_between_each_two(rt: HostRuntime) {
     let mut sink = MemSink::new(rt.alloc(), 2, &[]).expect(&rt, "memory");
-    for (before, name) in [(0, b"A".as_slice()), (1, b"B2"), (2, b"")] {
-        assert_eq!(rt; put_between(&mut sink, b", ", before, name), Ok(()));
-    }
-    assert_eq!(rt; sink.bytes(), b"A, B2, ".as_slice());
+    assert!(rt; put_between(&mut sink, b", ", 0, b"A").is_ok());
+    assert!(rt; put_between(&mut sink, b", ", 1, b"B2").is_ok());
+    assert!(rt; put_between(&mut sink, b", ", 2, b"").is_ok());
+    assert!(rt; sink.bytes() == b"A, B2, ".as_slice());
 }
 
+// The piece of four bytes fits, three more do not, two do, and then there is no room.
 #[test]
 fn a_quiet_sink_takes_what_fits(rt: HostRuntime) {
     let mut sink = QuietSink::new(rt.alloc(), 6).expect(&rt, "memory");
-    assert_eq!(rt; put_all(&mut sink, b"A ->"), Ok(()));
-    assert_eq!(rt;
-        put_all(&mut sink, b" BC"),
-        Err(WriteFault),
-        "one byte too many"
-    );
-    assert_eq!(rt;
-        put_all(&mut sink, b" B"),
-        Ok(()),
-        "just the room that is left"
-    );
-    assert_eq!(rt; sink.push(b"C"), Push::Failed);
-    assert_eq!(rt; sink.bytes(), b"A -> B".as_slice());
+    assert!(rt; put_all(&mut sink, b"A ->").is_ok() && put_all(&mut sink, b" BC").is_err());
+    assert!(rt; put_all(&mut sink, b" B").is_ok() && sink.push(b"C") == Push::Failed);
+    assert!(rt; sink.bytes() == b"A -> B".as_slice());
 }
 
 #[test]
 fn a_quiet_source_gives_its_bytes(rt: HostRuntime) {
     let mut source = QuietSource::new(b"A -> B");
-    let mut buffer = [0u8; 4];
-    assert_eq!(rt; source.pull(&mut buffer), Pull::Got(4));
-    assert_eq!(rt; buffer.as_slice(), b"A ->".as_slice());
-    let rest = read_all(rt.alloc(), &mut source, 2);
-    assert_eq!(rt;
-        rest.is_ok_and(|bytes| bytes.as_slice() == b" B".as_slice()),
-        true
-    );
+    assert!(rt; pulls(&mut source, Pull::Got(3), b"A -"));
+    assert!(rt; is_read(&read_all(rt.alloc(), &mut source, 3), &Ok(b"> B")));
 }
 
 #[test]
-fn readers_and_writers_of_std_are_devices(rt: HostRuntime) {
-    let got = read_all(rt.alloc(), &mut StdSource::new(b"A -> B".as_slice()), 6);
-    assert_eq!(rt;
-        got.is_ok_and(|bytes| bytes.as_slice() == b"A -> B".as_slice()),
-        true
+fn readers_of_std_are_sources(rt: HostRuntime) {
+    let mut source = StdSource::new(TEXT);
+    assert!(rt; is_read(&read_all(rt.alloc(), &mut source, 6), &Ok(TEXT)));
+    let mut source = StdSource::new(Halting { halted: false });
+    assert!(rt;
+        is_read(
+            &read_all(rt.alloc(), &mut source, 6),
+            &Err(ReadStop::Failed)
+        )
     );
-    let got = read_all(
-        rt.alloc(),
-        &mut StdSource::new(Halting { halted: false }),
-        6,
-    );
-    assert_eq!(rt; got.is_err_and(|stop| stop == ReadStop::Failed), true);
+}
 
+// The second write takes no bytes.
+#[test]
+fn writers_of_std_are_sinks(rt: HostRuntime) {
     let mut room = [0u8; 6];
-    assert_eq!(rt;
-        put_all(&mut StdSink::new(room.as_mut_slice()), b"A -> B"),
-        Ok(())
-    );
-    assert_eq!(rt; room.as_slice(), b"A -> B".as_slice());
-    let full = put_all(&mut StdSink::new(room.as_mut_slice()), b"C <-> D");
-    assert_eq!(rt; full, Err(WriteFault), "a write of no bytes");
+    assert!(rt; put_all(&mut StdSink::new(room.as_mut_slice()), TEXT).is_ok());
+    assert!(rt; room.as_slice() == TEXT);
+    assert!(rt; put_all(&mut StdSink::new(room.as_mut_slice()), b"C <-> D").is_err());
 }
 
 // Whether the next calls give these answers and lines, and no more calls may follow them.
