@@ -10,6 +10,7 @@ use Rattle.crn_ctext.specs.Blocks.{course}
 use Rattle.crn_ctext.specs.Records.{Record}
 use Rattle.crn_ctext.specs.Judged.{IsGood}
 use Rattle.crn_ctext.specs.Meaning.{meaning, versions}
+use Rattle.crn_ctext.specs.Courses.{none_own}
 use Rattle.crn_ctext.proofs.CallerLemmas.{settled, gives_or_fails, first_is_one, good_documents_are_read, good_one}
 use Rattle.crn_cert.specs.Built.{built}
 use Rattle.crn_render.specs.Faults.{usage_line}
@@ -38,7 +39,7 @@ one_refusal text out other p q =
 
 pub one_rejection : (text out other : List ℕ) → IsRejectionOf text out → IsRejectionOf text other → out ≡ other
 one_rejection text out other p q =
-    let same = first_is_one (course meaning versions built) settled (beginning text) p.line q.line p.code q.code p.fault q.fault in
+    let same = first_is_one none_own (course meaning versions built) settled (beginning text) p.line q.line p.code q.code p.fault q.fault in
     p.written ∙ ap₂ (λ (line : ℕ) (code : ℕ). rejected_line code line) same.0 same.1 ∙ sym q.written
 
 -- ---- what an output says of the text
@@ -47,7 +48,7 @@ one_rejection text out other p q =
 good_or_faulty : (text : List ℕ) → IsGood text → IsFaultyDocument text → ⊥
 good_or_faulty text good (line, code, fault) =
     let read = good_documents_are_read text good in
-    gives_or_fails (course meaning versions built) settled (beginning text) read.1.0 read.0 line code read.1.1 fault
+    gives_or_fails none_own (course meaning versions built) settled (beginning text) read.1.0 read.0 line code read.1.1 fault
 
 -- a good document has one report
 one_check : (text out other : List ℕ) → IsCheckOf text out → IsCheckOf text other → out ≡ other
