@@ -37,6 +37,7 @@ pub enum Positive {
 }
 
 /// Each row says `den * y = n1 * x1 + .. + nk * xk`, with a positive `den`. The basis is what is on the right. Coordinates count from 0, the columns of the matrix first and then its rows.
+#[derive(Clone)]
 pub struct Dictionary {
     pub columns: usize,
     pub width: usize,

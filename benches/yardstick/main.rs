@@ -3,6 +3,7 @@
 //!
 //!     yardstick report|certify|work [--budget N] [QUESTIONS]
 //!     yardstick check [QUESTIONS]
+//!     yardstick prove persist [--budget N]
 //!
 //! `work` writes what the searches did: visits of prefixes, decisions, finds of what was known, and exchanges.
 //! It is written for speed. QUESTIONS are numbers joined by commas, with those that they need, or else all fifteen.
@@ -20,6 +21,7 @@ mod graph;
 mod linear;
 mod lines;
 mod net;
+mod persist;
 mod regular;
 mod report;
 mod search;
@@ -79,6 +81,25 @@ fn read_and_solve(form: Form, asked: Asked, budget: u32) -> io::Result<Ended> {
     Ok((out, u8::from(verdicts.open() > 0)))
 }
 
+fn prove(budget: u32) -> io::Result<Ended> {
+    let mut text = Vec::new();
+    io::stdin().lock().take(text::MAX_TEXT as u64 + 1).read_to_end(&mut text)?;
+    let net = match text::read(&text) {
+        Ok(net) => net,
+        Err((code, line)) => {
+            let (number, name) = code.number_and_name();
+            return Ok(fault_line("refused", number, name, line, 2));
+        }
+    };
+    let answer = persist::persist(&net, budget);
+    let mut out = Vec::with_capacity(answer.lines.len() + 4096);
+    writeln!(out, "crn part persist 1\nnetwork {}", net.reactions.len())?;
+    (0..net.reactions.len()).for_each(|r| net.put_reaction(r, &mut out));
+    out.extend_from_slice(&answer.lines);
+    out.extend_from_slice(b"end\n");
+    Ok((out, u8::from(answer.is_open)))
+}
+
 fn check(asked: Asked) -> io::Result<Ended> {
     match check::check(io::stdin().lock(), asked) {
         Err(document::Stop::Failed(error)) => Err(error),
@@ -96,6 +117,15 @@ fn check(asked: Asked) -> io::Result<Ended> {
 
 /// What the words ask for, or nothing where they are no call.
 fn answer(words: &[String]) -> Option<io::Result<Ended>> {
+    let said: Vec<&str> = words.iter().map(String::as_str).collect();
+    if let ["prove", "persist", rest @ ..] = &said[..] {
+        let budget = match rest {
+            [] => BUDGET,
+            ["--budget", number] => number.parse().ok()?,
+            _ => return None,
+        };
+        return (1..=100_000).contains(&budget).then(|| prove(budget));
+    }
     let (command, rest) = words.split_first()?;
     let (budget, rest) = match rest {
         [option, number, rest @ ..] if option == "--budget" => (Some(number.parse().ok()?), rest),
