@@ -1,0 +1,5 @@
+mod SetLaws
+mod Systems
+mod Places
+mod Stops
+mod EndLaws

@@ -1,0 +1,26 @@
+use Rattle.std.proofs.Common.{subst}
+use Rattle.crn_siphon_check.specs.Answers.{IsAnswer, said_of}
+use Rattle.crn_siphon.specs.declared.search.End.{End}
+use Rattle.crn_siphon.specs.Inner.Ends.{IsEndOfVisits, IsStopAnswer}
+use Rattle.crn_conc.proofs.CallerLemmas.{if_ok}
+use Rattle.crn_siphon_check.specs.declared.answer.Persist.{Persist}
+use Rattle.crn_siphon.proofs.EndLaws.{yes_answer, no_answer, stop_answer}
+use Rattle.crn_siphon.proofs.answer.persist_by.Goals as goal
+
+pub returns-in-Ok-Found : goal.returns-in-Ok-Found
+returns-in-Ok-Found c =
+    let net = c.args.net.now in
+    let w = c.in-Ok-Found in
+    no_answer net c.args.budget c.args.law.list w.marks w.cover c.meets_definition.ensures c.requires.law (subst (λ (e : End). IsEndOfVisits net c.args.budget e) w.field-0-is w.ensures)
+
+pub returns-in-Ok-Refuted : goal.returns-in-Ok-Refuted
+returns-in-Ok-Refuted c =
+    let net = c.args.net.now in
+    let w = c.in-Ok-Refuted in
+    yes_answer net c.args.budget c.args.law.list w.tree c.meets_definition.ensures c.requires.law c.requires.free (subst (λ (e : End). IsEndOfVisits net c.args.budget e) w.field-0-is w.ensures)
+
+pub returns-in-Err : goal.returns-in-Err
+returns-in-Err c =
+    let net = c.args.net.now in
+    if_ok (λ (a : Persist). IsStopAnswer 2 c.in-Err.stop a) (λ (a : Persist). IsAnswer net c.args.budget (said_of a)) c.stop_answer.result
+    (λ a e. stop_answer net c.args.budget c.in-Err.stop a c.in-Err.ensures e) c.stop_answer.ensures

@@ -1,0 +1,5 @@
+use Rattle.crn_siphon.specs.Inner.Places.{AreEnds}
+use Rattle.crn_siphon.proofs.ends.ends_of.Given as goal
+
+abbrev pub invariant-loop-r : goal.invariant-loop-r
+invariant-loop-r l = AreEnds l.net l.r l.ends.items

@@ -1,0 +1,8 @@
+use Rattle.std.proofs.Common.{◌<◌, ℕ, suc, Bool, List}
+use Rattle.crn_siphon_check.specs.Prefixes.{IsBad}
+use Rattle.crn_siphon.specs.Inner.Places.{IsPlace}
+use Rattle.crn_siphon.proofs.ends.stopping.Given as goal
+
+-- no reaction so far stops the prefix
+abbrev pub invariant-loop-r : goal.invariant-loop-r
+invariant-loop-r l = (p : List Bool) → IsPlace l.place p → (k : ℕ) → k < l.r → IsBad l.net p (suc k) → ⊥

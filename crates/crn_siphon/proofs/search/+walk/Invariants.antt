@@ -1,0 +1,8 @@
+use Rattle.std.proofs.Common.{◌+◌, ◌-◌, ◌*◌, length}
+use Rattle.crn_siphon.proofs.search.+walk.Given as goal
+
+abbrev pub decreases-fork : goal.decreases-fork
+decreases-fork l = 2 * (length l.net.now.names - l.place.chosen)
+
+abbrev pub decreases-walk : goal.decreases-walk
+decreases-walk l = 2 * (length l.net.now.names - l.place.chosen) + 1

@@ -1,0 +1,7 @@
+-- For the contracts of private functions alone.
+pub mod Sets
+pub mod Places
+pub mod Systems
+pub mod Known
+pub mod Search
+pub mod Ends

@@ -1,0 +1,26 @@
+-- For the contracts of private functions alone.
+-- How the visits of a network end, the first of which is that of the empty prefix.
+use Rattle.std.specs.Prelude.{◌≡◌, ◌≤◌, ℕ, []}
+use Rattle.crn_vec.specs.Network.{Net}
+use Rattle.crn_siphon_check.specs.Trees.{plan_of, IsFormedTree, IsValidTree, node_count}
+use Rattle.crn_siphon_check.specs.SiphonVisits.{PassesBudget}
+use Rattle.crn_siphon_check.specs.Answers.{Wide, said_of}
+use Rattle.crn_siphon_check.specs.declared.answer.Persist.{Persist}
+use Rattle.crn_farkas.specs.declared.fault.Stop.{Stop}
+use Rattle.crn_farkas.specs.declared.fault.Stop.TheVariants.{Wide as StopWide, NoMemory}
+use Rattle.crn_siphon.specs.declared.search.End.{End}
+use Rattle.crn_siphon.specs.declared.search.End.TheVariants.{Found, Refuted, Spent}
+use Rattle.crn_siphon.specs.Inner.Search.{IsFoundBy}
+
+-- marks of a full prefix that stands, or a valid tree, within the budget; or the visits exceed it
+abbrev pub IsEndOfVisits : Net → (budget : ℕ) → End → Type 0
+IsEndOfVisits net budget (Found marks cover) = IsFoundBy net marks.list cover.list
+    × (PassesBudget net budget → ⊥)
+IsEndOfVisits net budget (Refuted tree) = (IsValidTree net [] (plan_of tree) × IsFormedTree net 0 (plan_of tree))
+    × (PassesBudget net budget → ⊥) × (node_count (plan_of tree) ≤ budget)
+IsEndOfVisits net budget Spent = PassesBudget net budget
+
+-- the answer if a solver of this system stopped: the system is wide there
+abbrev pub IsStopAnswer : ℕ → Stop → Persist → Type 0
+IsStopAnswer system (StopWide index basis) answer = said_of answer ≡ Wide system index basis.list
+IsStopAnswer system NoMemory answer = ⊥
