@@ -30,12 +30,15 @@ class Network {
         return found;
     }
 
-    // The linked pairs of complexes of terminal strong classes, each as the first reaction that links it.
+    // The linked pairs of complexes of terminal strong classes, each as the first reaction that links it, with the two sides
+    // that it parts, if it is a cut pair.
     pairs() {
-        return this.reactions.filter((reaction, at) => {
+        const groups = this.report.classes.map(members => members.map(name => this.report.complexes.indexOf(name)));
+        const first = this.reactions.filter((reaction, at) => {
             const back = this.reverse(reaction);
             return this.strongOf(reaction.from) === this.strongOf(reaction.to) && this.report.strong[this.strongOf(reaction.from)].terminal && (back < 0 || at < back);
         });
+        return first.map(it => ({ ...it, sides: sides(it.from, it.to, this.reactions, groups.find(members => members.includes(it.from))) }));
     }
 
     // The deficiency as what it is, with the rank if that is decided.
@@ -70,17 +73,13 @@ function deficiencyOne(net) {
     ];
 }
 
-function isCut(net, pair) {
-    const group = net.report.classes.find(members => members.includes(net.name(pair.from)));
-    return sides(pair.from, pair.to, net.reactions, group.map(name => net.report.complexes.indexOf(name)));
-}
-
 function regular(net) {
-    const [dependent] = net.parts(7), uncut = net.pairs().find(pair => !isCut(net, pair));
+    const [dependent] = net.parts(7), pairs = net.pairs(), uncut = pairs.find(pair => !pair.sides);
+    const because = uncut ? `${net.name(uncut.from)} and ${net.name(uncut.to)} have another way round` : pairs.length ? `so it is of ${of(pairs.length, 'pair')}` : 'no two are linked within one';
     return [
         oneTerminal(net),
         ['the network is positively dependent', ...verdictOf(dependent === 'open' ? null : dependent === 'yes', dependent === 'open' ? 'question 7 is open' : 'by question 7')],
-        ['each two linked complexes of a terminal strong class are a cut pair', ...verdictOf(!uncut, uncut ? `${net.name(uncut.from)} and ${net.name(uncut.to)} have another way round` : net.pairs().length ? 'each pair is shown below' : 'no two are linked within one')],
+        ['each two linked complexes of a terminal strong class are a cut pair', ...verdictOf(!uncut, because)],
     ];
 }
 
@@ -242,9 +241,9 @@ const WORDS = {
         const found = [hypotheses(regular(net))], walk = /^reaction (\d+), walk: (.*)$/.exec(question.evidence[0] || '');
         if (walk) found.push({ text: `Reaction ${walk[1]}, ${net.texts[walk[1] - 1]}, has another way round: ${walk[2].split('; ').join(' – ')}.` });
         if (question.parts[1] === 'not positively dependent') found.push(...WORDS[7](net, net.report.questions[6]));
-        if (question.verdict !== 'yes' || !net.pairs().length) return found;
-        const both = complexes => complexes.map(complex => net.name(complex)).join('; ');
-        return [...found, { text: 'Without the links between the two, the linkage class falls into two parts:', words: net.pairs().map(pair => [`${net.name(pair.from)}, ${net.name(pair.to)}`, isCut(net, pair).map(both).join(' | ')]) }];
+        const pairs = question.verdict === 'yes' ? net.pairs() : [], both = complexes => complexes.map(complex => net.name(complex)).join('; ');
+        if (pairs.length) found.push({ text: 'Without the links between the two, the linkage class falls into two parts:', words: pairs.map(pair => [`${net.name(pair.from)}, ${net.name(pair.to)}`, pair.sides.map(both).join(' | ')]) });
+        return found;
     },
     12: confluence,
     13: (net, question) => {

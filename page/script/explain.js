@@ -26,15 +26,13 @@ export function shelfOf(report, complex) {
 
 // The complexes on each side of a linked pair once the links between the two are taken away, or nothing if a walk remains.
 export function sides(from, to, reactions, members) {
-    const reached = new Set([to]);
-    for (let grew = true; grew;) {
-        grew = false;
-        for (const { from: a, to: b } of reactions) {
-            if ((a === from && b === to) || (a === to && b === from) || reached.has(a) === reached.has(b)) continue;
-            reached.add(a).add(b);
-            grew = true;
-        }
+    const near = new Map(members.map(vertex => [vertex, []])), reached = new Set([to]);
+    for (const { from: a, to: b } of reactions) {
+        if (!near.has(a) || (a === from && b === to) || (a === to && b === from)) continue;
+        near.get(a).push(b);
+        near.get(b).push(a);
     }
+    for (const vertex of reached) for (const other of near.get(vertex)) reached.add(other);
     return reached.has(from) ? null : [members.filter(vertex => !reached.has(vertex)), members.filter(vertex => reached.has(vertex))];
 }
 
