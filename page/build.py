@@ -51,7 +51,8 @@ def cures(root):
     found = []
     for row in rows(section(root, "If your text is refused")):
         code = re.match(r"(\d+) `\w+`(?: at line 0)?(?:: (.*))?$", row[1]) if len(row) == 3 else None
-        if code:
+        # What a file holds as a whole is told of by the page itself.
+        if code and row[0].startswith("`"):
             typed = [text.replace(r"\n", "\n") for text in re.findall(r"`([^`]*)`", row[0])]
             found.append({"code": int(code[1]), "typed": typed, "note": code[2] or "", "write": row[2].replace(r"\n", "\n")})
     meanings = {row[0]: sentence(row[2]) for row in rows(section(root, "Refusals")) if len(row) == 3 and row[0].isdigit()}

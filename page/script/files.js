@@ -2,7 +2,7 @@
 
 const leads = (bytes, ...first) => first.every((byte, at) => bytes[at] === byte);
 const isWide = bytes => leads(bytes, 0xff, 0xfe) || leads(bytes, 0xfe, 0xff);
-const BLANKS = /[\u00a0\u1680\u2000-\u200a\u202f\u205f\u3000]/g;
+const BLANKS = /[\u00a0\u1680\u2000-\u200a\u202f\u205f\u3000]/g, UNSEEN = /[\u00ad\u200b-\u200f\u2060\ufeff]/;
 
 function decoded(bytes) {
     return new TextDecoder(leads(bytes, 0xff, 0xfe) ? 'utf-16le' : leads(bytes, 0xfe, 0xff) ? 'utf-16be' : 'utf-8').decode(bytes);
@@ -11,20 +11,27 @@ function decoded(bytes) {
 // The text as the program reads texts: without a byte order mark, in UTF-8, with LF at the end of each line, and with spaces
 // where there are others.
 export function plain(bytes) {
-    const text = decoded(bytes).replace(/\r*\n|\r/g, '\n').replace(BLANKS, ' ').replace(/[\u200b\u2060\ufeff]/g, '');
+    const text = decoded(bytes).replace(/\r*\n|\r/g, '\n').replace(BLANKS, ' ').replace(new RegExp(UNSEEN, 'g'), '');
     return text && !text.endsWith('\n') ? text + '\n' : text;
 }
 
-// What of that a text has, in words.
-function oddities(bytes, isStrict) {
+// What of that the bytes have at their head and in a part of their text, in words.
+function oddities(bytes, part) {
     if (isWide(bytes)) return ['UTF-16'];
-    const text = decoded(bytes), found = [];
+    const found = [];
     if (leads(bytes, 0xef, 0xbb, 0xbf)) found.push('a byte order mark');
-    if (/\r\r\n/.test(text)) found.push('two CR before each LF');
-    else if (/\r(?!\n|$)/.test(text)) found.push('CR at the ends of lines');
-    else if (isStrict && text.includes('\r')) found.push('CR before LF at the ends of lines');
-    if (text.match(BLANKS)) found.push('no-break spaces, or other wide ones');
-    if (isStrict && !found.length && text && !text.endsWith('\n')) found.push('no LF after its last line');
+    if (/\r\r+(\n|$)/.test(part)) found.push('two CR before each LF');
+    else if (/\r(?!\n|$)/.test(part)) found.push('CR at the ends of lines');
+    if (part.match(BLANKS)) found.push('no-break spaces, or other wide ones');
+    if (UNSEEN.test(part.slice(1))) found.push('marks that are not seen');
+    return found;
+}
+
+// What no certificate has, besides.
+function strictly(bytes, text) {
+    const found = oddities(bytes, text);
+    if (/[^\r]\r\n/.test(text)) found.push('CR before LF at the ends of lines');
+    if (!found.length && text && !text.endsWith('\n')) found.push('no LF after its last line');
     return found;
 }
 
@@ -41,10 +48,12 @@ const KNOWN = [
 
 const knownAs = bytes => (KNOWN.find(([mark]) => mark.test(isWide(bytes) ? decoded(bytes) : String.fromCharCode(...bytes.subarray(0, 4096)))) || [])[1];
 
-// What to do with a text that is refused, as a sentence and what a button does; nothing if it may well be a network text.
-export function remedyOfText(bytes, fault) {
+// What to do with a text that is refused, at this line if at one, as a sentence and what a button does; nothing if it may well
+// be a network text.
+export function remedyOfText(bytes, fault, line) {
     if (/^\s*crn certificate \d/.test(plain(bytes.subarray(0, 200)))) return { says: 'This is a certificate, and not the text of a network.', does: 'check', label: 'Check it' };
-    const odd = fault.code === 11 ? oddities(bytes, false) : [];
+    // In a file of an old Macintosh all may be one comment.
+    const odd = fault.code === 11 ? oddities(bytes, line.replace(/#.*/, '')) : fault.code === 5 ? oddities(bytes, decoded(bytes)) : [];
     if (odd.length) return { says: `The text has ${odd.join(' and ')}, which the program does not read.`, does: 'convert', label: 'Convert it' };
     const known = knownAs(bytes);
     return known ? { says: known } : null;
@@ -58,9 +67,9 @@ export function remedyOfCertificate(bytes, fault) {
         const known = knownAs(bytes);
         return known ? { says: known } : { says: 'This is no certificate: one begins with the line `crn certificate 2`. It may be the text of a network.', does: 'read', label: 'Open it as a network' };
     }
-    const odd = fault.code <= 30 || fault.code === 43 ? oddities(bytes, true) : [];
+    const odd = fault.code <= 30 || fault.code === 43 ? strictly(bytes, decoded(bytes)) : [];
     const isWhole = /\nend\n$/.test(text);
-    if (odd.length && (isWhole || fault.line === 1)) return { says: `The certificate has ${odd.join(' and ')}, as no certificate is written.`, does: 'recheck', label: 'Check it without' };
+    if (odd.length && (isWhole || fault.line === 1)) return { says: `The certificate has ${odd.join(' and ')}, which is not how certificates are written.`, does: 'recheck', label: 'Convert and check it' };
     if (isWhole || ![27, 43].includes(fault.code)) return null;
     return { says: 'The certificate ends before its last line, `end`: only a part of it was saved or copied. Make it again from its network.', does: 'network', label: 'Open its network' };
 }

@@ -47,7 +47,8 @@ function putIn(text) {
     else if (!document.execCommand('insertHTML', false, escaped(text))) document.execCommand('insertText', false, text);
 }
 
-// Puts a text in the place of what is typed: only what differs, and so that Ctrl+Z takes it back, if the browser can.
+// Puts a text in the place of what is typed: only what differs, and so that Ctrl+Z takes it back, if the browser can, once
+// something was read.
 function replaceText(text) {
     const field = $('text'), before = field.value, after = text.replace(/\r\n?/g, '\n'), least = Math.min(before.length, after.length);
     let from = 0, ends = 0;
@@ -56,7 +57,7 @@ function replaceText(text) {
     while (ends < least - from && before[before.length - 1 - ends] === after[after.length - 1 - ends]) ends++;
     const piece = after.slice(from, after.length - ends);
     if (turn && Math.max(before.length, after.length) <= MOST_SHOWN) {
-        const focused = document.activeElement, place = [scrollX, scrollY];
+        const focused = document.activeElement, scrolled = [scrollX, scrollY];
         field.focus({ preventScroll: true });
         field.setSelectionRange(from, before.length - ends);
         isReplacing = true;
@@ -64,13 +65,13 @@ function replaceText(text) {
         isReplacing = false;
         if (focused && focused !== field) focused.focus({ preventScroll: true });
         if (document.activeElement === field && focused !== field) field.blur();
-        scrollTo(...place);
+        scrollTo(...scrolled);
     }
     if (field.value !== after) field.value = after;
 }
 
 // Puts a text, or the bytes of a file which show as this text, in the place of what is typed.
-function place(text, bytes = null) {
+function fill(text, bytes = null) {
     const isLong = text.length > MOST_SHOWN, shown = isLong ? text.slice(0, text.lastIndexOf('\n', MOST_SHOWN) + 1 || MOST_SHOWN) : text;
     $('text').readOnly = false;
     replaceText(shown);
@@ -82,7 +83,7 @@ function place(text, bytes = null) {
 }
 
 function setText(text, bytes = null) {
-    place(text, bytes);
+    fill(text, bytes);
     $('text').scrollTop = 0;
     changed(0);
 }
@@ -246,7 +247,8 @@ function showReport(text, certificate, trees = null) {
 async function refuse(done, text, mine) {
     const fault = done.status === 2 && readFault(textOf(done.out));
     if (!fault) return say(STATUS[done.status] || `the program ended with status ${done.status}`, 'bad');
-    const line = fault.line ? textOf(text).split('\n')[fault.line - 1].replace(/\r$/, '') : '', remedy = remedyOfText(text, fault);
+    const whole = fault.line ? textOf(text).split('\n')[fault.line - 1] : '', line = whole.replace(/\r$/, '');
+    const remedy = remedyOfText(text, fault, whole);
     say(fault.line ? `line ${fault.line} is refused` : 'the text is refused', 'bad');
     proposed = null;
     markLine(fault.line);
@@ -285,7 +287,7 @@ const REMEDIES = {
     network: () => { sayCertified(''); show('rejection', false); setText(networkIn(plain(rejected))); },
 };
 
-const remedy = event => REMEDIES[event.target.dataset.does]?.();
+const press = event => REMEDIES[event.target.dataset.does]?.();
 
 // ---- pictures
 
@@ -388,7 +390,7 @@ async function check(bytes) {
     clearTimeout(waiting);
     program.stop();
     turn++;
-    place(networkIn(document_));
+    fill(networkIn(document_));
     for (const id of ['halted', 'progress', 'shared']) show(id, false);
     showReport(out, document_, treesIn(document_));
     say('as the certificate says', 'good');
@@ -522,7 +524,7 @@ function wire() {
         });
     }
     on('share', 'click', share);
-    for (const id of ['refusal', 'rejection']) on(id, 'click', remedy);
+    for (const id of ['refusal', 'rejection']) on(id, 'click', press);
     on('certify', 'click', certify);
     on('save-certificate', 'click', () => save(`${name}.cert`, made));
     on('sample', 'click', trySample);

@@ -145,6 +145,9 @@ def kinds(program, report):
         ("line ends of an old Macintosh", b"A -> B\rB -> C\r", "CR at the ends", report(b"A -> B\nB -> C\n")),
         ("two CR", b"A -> B\r\r\n", "two CR", pair),
         ("no-break spaces", "A\u00a0->\u00a0B\n".encode(), "no-break spaces", pair),
+        ("a comment and line ends of an old Macintosh", b"# made\rA -> B\r", "CR at the ends", pair),
+        ("marks that are not seen", "A\u200b -> B\n".encode(), "not seen", pair),
+        ("another letter, and a no-break space in a comment", "\u03b1 -> B # a\u00a0b\n".encode(), "names of letters", ""),
         ("a mark, and an arrow of another kind", b"\xef\xbb\xbfA => B\n", "a byte order mark", "refused 18 StrayMark at line 1"),
         ("SBML with a mark", b'\xef\xbb\xbf<?xml version="1.0"?>\n', "a byte order mark", "crnt-tools import"),
         ("SBML", b'<?xml version="1.0"?>\n<sbml>\n', "crnt-tools import", ""),
@@ -155,7 +158,7 @@ def kinds(program, report):
         ("a PDF", b"%PDF-1.7\n%\xe2\xe3\n", "no text", ""),
         ("a report", pair.encode(), "a report", ""),
         ("a certificate", certificate, "a certificate", "the certificate is good"),
-        ("a certificate with a mark", b"\xef\xbb\xbf" + certificate, "a certificate", "Check it without"),
+        ("a certificate with a mark", b"\xef\xbb\xbf" + certificate, "a certificate", "Convert and check it"),
     ]
     return [{"name": name, "text": coded(text), "says": says, "leads": leads} for name, text, says, leads in rows]
 
