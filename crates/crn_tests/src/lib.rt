@@ -14,6 +14,8 @@ mod fractions;
 #[cfg(test)]
 mod lists;
 #[cfg(test)]
+mod matrices;
+#[cfg(test)]
 mod reports;
 #[cfg(test)]
 mod runs;

@@ -1,9 +1,8 @@
-ghost use Rattle.std.specs.Prelude.{◌≡◌, ◌≤◌, ◌<◌, ◌+◌, length, unsigned_abs, vec_len};
-ghost use Rattle.crn_vec.specs.Vectors.{AreWithin};
+ghost use Rattle.std.specs.Prelude.{◌≡◌};
 
-use crn_frac::{Frac, gcd, lcm_below};
+use super::matrices::{at, chain, fan, matrix};
 use crn_tab::{ColumnStop, Refused, Tableau, Wide};
-use crn_vec::{Ints, Kind, MAX_AMOUNT, Matrix, Sign};
+use crn_vec::{Ints, Kind, Matrix, Sign};
 use std::alloc::Global;
 use std::process::Abort;
 
@@ -68,48 +67,72 @@ fn is_up_to_sign(made: &[i128], want: &[i128]) -> bool {
     same || negatives
 }
 
-#[test]
-fn calls_worked_by_hand(rt: HostRuntime) {
-    assert_eq!(rt; lcm_below(6, 4, 12), None);
-    assert_eq!(rt; lcm_below(6, 4, 13), Some(12));
-    assert_eq!(rt; gcd(-12, 18), 6);
-    let half = Frac::new(6, -4);
-    assert_eq!(rt; (half.num(), half.den()), (-3, 2));
-    let zero = Frac::new(0, -5);
-    assert_eq!(rt; (zero.num(), zero.den()), (0, 1));
+// Whether the row of a coordinate is this list or its negative.
+fn has_row(rt: &impl Abort, matrix: &Matrix, t: &Tableau, k: usize, want: &[i128]) -> bool
+    requires { t.now.matrix ≡ matrix.now }
+{
+    is_up_to_sign(row(rt, matrix, t, k).as_slice(), want)
+}
 
-    let matrix = Matrix::new(rt.alloc(), 1, 2, &[-1, 1]).expect(&rt, "memory");
-    let mut t = Tableau::new(rt.alloc(), &matrix).expect(&rt, "memory");
-    assert!(rt; is_up_to_sign(row(&rt, &matrix, &t, 2).as_slice(), &[1, -1, 1]));
-    assert!(rt; exchange(&rt, &matrix, &mut t, 0, 2).is_ok());
-    assert!(rt; is_up_to_sign(row(&rt, &matrix, &t, 0).as_slice(), &[1, -1, 1]));
-    let column = column(&rt, &matrix, &t, 1)
-        .map_err(|_| "wide")
-        .expect(&rt, "column");
-    assert!(rt; is_up_to_sign(column.as_slice(), &[1, 1, 0]));
-    let basis = t.basis().expect(&rt, "memory");
-    assert_eq!(rt; basis.as_slice(), [1, 2].as_slice());
+// So for its column.
+fn has_column(rt: &impl Abort, matrix: &Matrix, t: &Tableau, k: usize, want: &[i128]) -> bool
+    requires { t.now.matrix ≡ matrix.now }
+{
+    match column(rt, matrix, t, k) {
+        Ok(made) => is_up_to_sign(made.as_slice(), want),
+        Err(_) => false,
+    }
+}
+
+// So for its vector of three numbers in a list that is lent.
+fn puts(rt: &impl Abort, matrix: &Matrix, t: &Tableau, k: usize, want: &[i128]) -> bool
+    requires { t.now.matrix ≡ matrix.now }
+{
     let mut into = [7i128; 3];
-    assert!(rt; put_vector(&rt, &matrix, &t, 0, &mut into));
-    assert!(rt; is_up_to_sign(&into, &[1, -1, 1]));
-    assert!(rt; put_vector(&rt, &matrix, &t, 1, &mut into));
-    assert!(rt; is_up_to_sign(&into, &[1, 1, 0]));
+    put_vector(rt, matrix, t, k, &mut into) && is_up_to_sign(&into, want)
+}
+
+fn has_basis(rt: &impl Abort, t: &Tableau, want: &[u32]) -> bool {
+    t.basis().expect(rt, "memory").as_slice() == want
+}
+
+// Whether a basis has these members once two coordinates are exchanged.
+fn has_next(
+    rt: &impl Abort,
+    matrix: &Matrix,
+    t: &Tableau,
+    leave: usize,
+    enter: usize,
+    want: &[u32],
+) -> bool
+    requires { t.now.matrix ≡ matrix.now }
+{
+    assert!(rt; enter < matrix.cols() + matrix.rows());
+    t.basis_after(leave, enter).expect(rt, "memory").as_slice() == want
 }
 
 #[test]
-fn rows_enter_as_far_as_they_can(rt: HostRuntime) {
-    // The second row depends on the first.
-    let matrix = Matrix::new(rt.alloc(), 3, 2, &[1, 2, 2, 4, 0, 1]).expect(&rt, "memory");
+fn calls_worked_by_hand(rt: HostRuntime) {
+    let matrix = matrix(&rt, rt.alloc(), 1, 2, &[-1, 1]);
     let mut t = Tableau::new(rt.alloc(), &matrix).expect(&rt, "memory");
-    assert!(rt; 3 < matrix.cols() + matrix.rows());
-    let next = t.basis_after(0, 3).expect(&rt, "memory");
-    assert_eq!(rt; next.as_slice(), [2, 4].as_slice());
-    let same = t.basis_after(1, 1).expect(&rt, "memory");
-    assert_eq!(rt; same.as_slice(), [1, 2].as_slice());
+    assert!(rt; has_row(&rt, &matrix, &t, 2, &[1, -1, 1]));
+    assert!(rt; exchange(&rt, &matrix, &mut t, 0, 2).is_ok());
+    assert!(rt; has_row(&rt, &matrix, &t, 0, &[1, -1, 1]));
+    assert!(rt; has_column(&rt, &matrix, &t, 1, &[1, 1, 0]));
+    assert!(rt; has_basis(&rt, &t, &[1, 2]));
+    assert!(rt; puts(&rt, &matrix, &t, 0, &[1, -1, 1]) && puts(&rt, &matrix, &t, 1, &[1, 1, 0]));
+}
+
+// The second row depends on the first.
+#[test]
+fn rows_enter_as_far_as_they_can(rt: HostRuntime) {
+    let matrix = matrix(&rt, rt.alloc(), 3, 2, &[1, 2, 2, 4, 0, 1]);
+    let mut t = Tableau::new(rt.alloc(), &matrix).expect(&rt, "memory");
+    assert!(rt; has_next(&rt, &matrix, &t, 0, 3, &[2, 4]));
+    assert!(rt; has_next(&rt, &matrix, &t, 1, 1, &[1, 2]));
     assert!(rt; t.enter_rows(2).is_ok());
-    let basis = t.basis().expect(&rt, "memory");
-    assert_eq!(rt; basis.as_slice(), [2, 4].as_slice());
-    assert!(rt; is_up_to_sign(row(&rt, &matrix, &t, 3).as_slice(), &[0, 0, -2, 1, 0]));
+    assert!(rt; has_basis(&rt, &t, &[2, 4]));
+    assert!(rt; has_row(&rt, &matrix, &t, 3, &[0, 0, -2, 1, 0]));
 }
 
 // The least level of a wrong coordinate, in the row or the column of a coordinate.
@@ -160,7 +183,7 @@ const WRONGS: &[(&str, usize, Sign, usize, usize)] = &[
 // The vectors (1, -1, 1) of the row, (1, 0, -1) and (0, 1, 1) of the columns.
 #[test]
 fn wrong_levels_are_found_by_slots(rt: HostRuntime) {
-    let matrix = Matrix::new(rt.alloc(), 1, 2, &[-1, 1]).expect(&rt, "memory");
+    let matrix = matrix(&rt, rt.alloc(), 1, 2, &[-1, 1]);
     let t = Tableau::new(rt.alloc(), &matrix).expect(&rt, "memory");
     let asked = [Kind::Pos, Kind::Pos, Kind::Zero];
     for (name, k, sign, from, want) in WRONGS {
@@ -200,76 +223,12 @@ const CUTS: &[(&str, &[Kind], Option<Sign>)] = &[
 
 #[test]
 fn rows_cut_by_their_slots(rt: HostRuntime) {
-    let matrix = Matrix::new(rt.alloc(), 1, 2, &[-1, 1]).expect(&rt, "memory");
+    let matrix = matrix(&rt, rt.alloc(), 1, 2, &[-1, 1]);
     let t = Tableau::new(rt.alloc(), &matrix).expect(&rt, "memory");
     for (name, kinds, want) in CUTS {
         let found = cuts(&rt, &matrix, &t, 2, kinds);
         assert!(rt; found == *want, "{name}");
     }
-}
-
-fn at(rows: &[i128], place: usize) -> i128 {
-    match rows.get(place) {
-        Some(x) => *x,
-        None => 0,
-    }
-}
-
-// A small number, as a matrix may hold it.
-fn small(x: i128) -> i128
-    ensures { unsigned_abs result ≤ MAX_AMOUNT }
-{
-    if -99 <= x && x <= 99 { x } else { 0 }
-}
-
-// Adds a row that has one number on its diagonal and one in the column beside it or in the last.
-fn push_row(
-    rt: &impl Abort,
-    entries: &mut Vec<i128>,
-    cols: usize,
-    i: usize,
-    own: i128,
-    beside: (usize, i128),
-)
-    requires { AreWithin MAX_AMOUNT entries.old.items }
-    ensures within { AreWithin MAX_AMOUNT entries.new.items }
-    ensures count { vec_len entries.new ≡ vec_len entries.old + cols }
-{
-    for j in 0..cols {
-        let x = if j == i {
-            own
-        } else if j == beside.0 {
-            beside.1
-        } else {
-            0
-        };
-        entries.push(small(x)).expect(rt, "memory");
-    }
-}
-
-// The rows own x_i + 99 x_(i + 1).
-fn chain(rt: &impl Abort, alloc: Global, count: usize) -> Matrix
-    requires { count < 20 }
-    ensures { result.cols ≡ count + 1 }
-{
-    let mut entries = Vec::new(alloc);
-    for i in 0..count {
-        push_row(rt, &mut entries, count + 1, i, -1, (i + 1, 99));
-    }
-    Matrix::new(alloc, count, count + 1, &entries).expect(rt, "memory")
-}
-
-// The rows p x_i - x_last, for each p.
-fn fan(rt: &impl Abort, alloc: Global, numbers: &[i128]) -> Matrix
-    requires { length numbers.now < 20 }
-    ensures { result.cols ≡ length numbers.now + 1 }
-{
-    let count = numbers.len();
-    let mut entries = Vec::new(alloc);
-    for (i, p) in numbers.iter().enumerate() {
-        push_row(rt, &mut entries, count + 1, i, *p, (count, -1));
-    }
-    Matrix::new(alloc, count, count + 1, &entries).expect(rt, "memory")
 }
 
 // Exchanges each of the first columns with the row of the same number.
@@ -284,59 +243,74 @@ fn exchange_diagonal(rt: &impl Abort, matrix: &Matrix, t: &mut Tableau, count: u
     }
 }
 
+// The row of the first coordinate, once nine exchanges were made.
+fn has_factors(made: &[i128]) -> bool {
+    at(made, 0).unsigned_abs() == 1 && at(made, 9).unsigned_abs() == 913517247483640899
+}
+
 #[test]
 fn the_tenth_factor_of_99_is_wide(rt: HostRuntime) {
-    let matrix = chain(&rt, rt.alloc(), 11);
+    let matrix = matrix(&rt, rt.alloc(), 11, 12, &chain(&rt, rt.alloc(), 11));
     let mut t = Tableau::new(rt.alloc(), &matrix).expect(&rt, "memory");
     exchange_diagonal(&rt, &matrix, &mut t, 9);
     let made = row(&rt, &matrix, &t, 0);
-    assert_eq!(rt; at(made.as_slice(), 0).unsigned_abs(), 1);
-    assert_eq!(rt; at(made.as_slice(), 9).unsigned_abs(), 913517247483640899);
-    assert_eq!(rt;
-        exchange(&rt, &matrix, &mut t, 9, 21),
-        Err(Wide { index: 1 })
-    );
+    assert!(rt; has_factors(made.as_slice()));
+    assert!(rt; exchange(&rt, &matrix, &mut t, 9, 21) == Err(Wide { index: 1 }));
     let again = row(&rt, &matrix, &t, 0);
-    assert_eq!(rt; again.as_slice(), made.as_slice());
+    assert!(rt; again.as_slice() == made.as_slice());
 }
 
 #[test]
 fn rows_enter_until_a_vector_is_wide(rt: HostRuntime) {
-    let matrix = chain(&rt, rt.alloc(), 11);
+    let matrix = matrix(&rt, rt.alloc(), 11, 12, &chain(&rt, rt.alloc(), 11));
     let mut t = Tableau::new(rt.alloc(), &matrix).expect(&rt, "memory");
     let refused = Refused {
         leave: 9,
         enter: 21,
         index: 1,
     };
-    assert_eq!(rt; t.enter_rows(12), Err(refused));
-    assert!(rt; 21 < matrix.cols() + matrix.rows());
-    let next = t.basis_after(9, 21).expect(&rt, "memory");
+    assert!(rt; t.enter_rows(12) == Err(refused));
     let want = [11, 12, 13, 14, 15, 16, 17, 18, 19, 20, 21, 22];
-    assert_eq!(rt; next.as_slice(), want.as_slice());
+    assert!(rt; has_next(&rt, &matrix, &t, 9, 21, &want));
 }
 
 // The column of the last coordinate, once each other one depends on it.
-fn last_of_fan(rt: &impl Abort, alloc: Global, numbers: &[i128]) -> Result<Ints, ColumnStop>
-    requires { length numbers.now < 20 }
-{
-    let matrix = fan(rt, alloc, numbers);
+fn last_of_fan(rt: &impl Abort, alloc: Global, numbers: &[i128]) -> Result<Ints, ColumnStop> {
+    let count = numbers.len();
+    let matrix = matrix(
+        rt,
+        alloc,
+        count,
+        count.wrapping_add(1),
+        &fan(rt, alloc, numbers),
+    );
     let mut t = Tableau::new(alloc, &matrix).expect(rt, "memory");
-    exchange_diagonal(rt, &matrix, &mut t, numbers.len());
-    column(rt, &matrix, &t, numbers.len())
+    exchange_diagonal(rt, &matrix, &mut t, count);
+    column(rt, &matrix, &t, count)
+}
+
+const PRIMES: [i128; 11] = [97, 89, 83, 79, 73, 71, 67, 61, 59, 53, 47];
+
+// Whether a column is that of the first ten of these, by their product.
+fn is_of_ten(column: &Result<Ints, ColumnStop>) -> bool {
+    match column {
+        Ok(made) => {
+            at(made.as_slice(), 10).unsigned_abs() == 3749562977351496827
+                && at(made.as_slice(), 0).unsigned_abs() == 3749562977351496827 / 97
+        }
+        Err(_) => false,
+    }
+}
+
+fn is_wide(column: &Result<Ints, ColumnStop>) -> bool {
+    match column {
+        Err(ColumnStop::Wide) => true,
+        _ => false,
+    }
 }
 
 #[test]
 fn a_column_is_wide_by_its_common_multiple(rt: HostRuntime) {
-    let primes = [97, 89, 83, 79, 73, 71, 67, 61, 59, 53, 47];
-    let made = last_of_fan(&rt, rt.alloc(), &primes[..10])
-        .map_err(|_| "wide")
-        .expect(&rt, "column");
-    assert_eq!(rt; at(made.as_slice(), 10).unsigned_abs(), 3749562977351496827);
-    assert_eq!(rt;
-        at(made.as_slice(), 0).unsigned_abs(),
-        3749562977351496827 / 97
-    );
-    let stop = last_of_fan(&rt, rt.alloc(), &primes).err();
-    assert_eq!(rt; stop, Some(ColumnStop::Wide));
+    assert!(rt; is_of_ten(&last_of_fan(&rt, rt.alloc(), &PRIMES[..10])));
+    assert!(rt; is_wide(&last_of_fan(&rt, rt.alloc(), &PRIMES)));
 }

@@ -1,7 +1,7 @@
 use Rattle.std.proofs.Common.{◌≡◌, ◌+◌, vec_len}
 use Rattle.crn_vec.specs.declared.limits.TheConstants.{MAX_AMOUNT}
 use Rattle.crn_vec.specs.Vectors.{AreWithin}
-use Rattle.crn_tests.proofs.tableaus.push_row.Given as goal
+use Rattle.crn_tests.proofs.matrices.push_row.Given as goal
 
 abbrev pub invariant-loop-j : goal.invariant-loop-j
 invariant-loop-j g l = record {

@@ -5,7 +5,7 @@ use Rattle.std.proofs.lemmas.Int.{to_z-of_z}
 use Rattle.crn_vec.specs.declared.limits.TheConstants.{MAX_AMOUNT}
 use Rattle.crn_vec.specs.Vectors.{AreWithin}
 use Rattle.crn_vec.proofs.CallerLemmas.{within_append}
-use Rattle.crn_tests.proofs.tableaus.push_row.Goals as goal
+use Rattle.crn_tests.proofs.matrices.push_row.Goals as goal
 
 pub loop-j-preserved : goal.loop-j-preserved
 loop-j-preserved g c =
