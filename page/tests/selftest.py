@@ -76,7 +76,7 @@ def evidence(report, certificate):
             below[at].append(line)
     found = {1: ["; ".join(it) for it in classes], 2: [it for it, _ in strong], 10: [], 12: []}
     found[3] = [f"{a} <-> {b}" for at, (a, b) in enumerate(ends) if (b, a) in ends[at + 1 :]] if parts[3] == ["yes"] else [below[3][0].split(": ")[1]]
-    found[4] = [f"{a} -> {b}" for a, b in ends if (b, a) not in ends] if parts[4] == ["yes"] else [below[4][0].split(": ")[1]]
+    found[4] = [f"{a} -> {b}back by {b} -> " for a, b in ends if (b, a) not in ends] if parts[4] == ["yes"] else [below[4][0].split(": ")[1]]
     if parts[5][0] != "open":
         found[5] = [f"reaction {k}" for k in below[5][0].split(": ")[1].split()]
     if parts[6][0] != "open":
@@ -106,6 +106,10 @@ def evidence(report, certificate):
     for k in range(1, 16):
         if parts[k][0] == "open":
             found[k] = {"wide": ["2^62"], "budget": ["lists of signs"], "rests": ["question", "open"]}[parts[k][1].split()[0]]
+            species = listed(report, "species").split()
+            named = {"  system 1": species + reactions, "  system 2": reactions + species}.get((below[k] or [""])[0])
+            if named:
+                found[k] += [named[int(it) - 1] for it in re.findall(r"\d+", " ".join(below[k][1:]))]
     return {k: found.get(k, []) for k in range(1, 16)}
 
 
