@@ -166,11 +166,12 @@ function wide(net, question) {
     const { columns, rows, each, then } = systemOf(net, question), names = [...columns, ...rows];
     const index = Number(question.evidence[1].slice('index '.length)), basis = rest(question.evidence[2]).split(' ').map(Number), others = basis.filter(it => it !== index);
     const what = basis.includes(index)
-        ? `The choice with which all numbers below are 0, and that of ${names[index - 1]} is not, needs`
-        : `How the number of ${names[index - 1]} follows from those below needs`;
-    return [
-        { text: `To decide it, a number is chosen for each ${each}; then follows ${then}. ${what} a whole number of 2^62 or more:` , words: others.map(it => [it <= columns.length ? 'chosen' : 'follows', names[it - 1]]) },
-    ];
+        ? `The choice with which all below are 0, and that of ${names[index - 1]} is not,`
+        : `How that of ${names[index - 1]} follows from those below`;
+    return [{
+        text: `A number is chosen for each ${each}, and others follow: ${then}. ${what} takes a whole number of 2^62 or more, which the program does not form:`,
+        words: others.map(it => [it <= columns.length ? 'chosen' : 'follows', names[it - 1]]),
+    }];
 }
 
 function openly(net, question) {
