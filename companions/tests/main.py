@@ -37,6 +37,8 @@ def install() -> None:
     apt_get("update")
     for package in missing:
         apt_get("install", "-y", "--no-install-recommends", package)
+    # libSBML is on the path by a .pth file, which Python reads only when it starts
+    os.execv(sys.executable, [sys.executable, __file__, *(word for word in sys.argv[1:] if word != "--install")])
 
 
 def apt_get(*words: str) -> None:
