@@ -6,8 +6,6 @@ mod answers;
 #[cfg(test)]
 mod devices;
 #[cfg(test)]
-mod documents;
-#[cfg(test)]
 mod faults;
 #[cfg(test)]
 mod fractions;

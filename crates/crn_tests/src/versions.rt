@@ -6,10 +6,10 @@ ghost use Rattle.crn_cert.specs.Formed.{AreFormed};
 ghost use Rattle.crn_cert.specs.TreeSizes.{HaveFewNodes};
 
 use super::reports::ROUNDS;
-use super::runs::{ends_so, run_on};
+use super::runs::{run_on, sink_of};
 use crn_cert::Answers;
 use crn_ctext::{document_length, write_document};
-use crn_io::QuietSink;
+use crn_io::MemSink;
 use crn_net::Network;
 use crn_run::{MAX_BUDGET, Status};
 use crn_solve::solve;
@@ -17,18 +17,18 @@ use crn_text::read;
 use std::process::Abort;
 
 // The document of these answers. It has the length that is said of it.
-fn document_of(rt: &(impl Abort + AllocGlobal), net: &Network, answers: &Answers) -> QuietSink
+fn document_of(rt: &(impl Abort + AllocGlobal), net: &Network, answers: &Answers) -> MemSink
     requires formed { AreFormed net.now [] built answers.now }
     requires few { HaveFewNodes MAX_BUDGET answers.now }
 {
-    let mut sink = QuietSink::new(rt.alloc(), 65_536).expect(rt, "memory");
+    let mut sink = sink_of(rt, 65_536, &[]);
     assert!(rt; write_document(net, answers, &mut sink).is_ok());
     assert!(rt; document_length(net, answers) == sink.bytes().len() as u64);
     sink
 }
 
 // The document of the answers on a network.
-fn solved(rt: &(impl Abort + AllocGlobal), text: &str) -> QuietSink {
+fn solved(rt: &(impl Abort + AllocGlobal), text: &str) -> MemSink {
     let net = read(rt.alloc(), text.as_bytes()).expect(rt, "a network");
     let answers = solve(rt.alloc(), &net, MAX_BUDGET).expect(rt, "memory");
     document_of(rt, &net, &answers)
@@ -36,16 +36,12 @@ fn solved(rt: &(impl Abort + AllocGlobal), text: &str) -> QuietSink {
 
 // Whether that document is one of version 1 and is accepted with the network's own report.
 fn comes_round(rt: &(impl Abort + AllocGlobal), text: &str) -> bool {
-    let (_, report) = run_on(rt, "crnt report", text.as_bytes(), 65_536);
+    let (_, report) = run_on(rt, "crnt report", text.as_bytes());
     let document = solved(rt, text);
+    let (status, again) = run_on(rt, "crnt check", document.bytes());
     document.bytes().starts_with(b"crn certificate 1\n")
-        && ends_so(
-            rt,
-            "crnt check",
-            document.bytes(),
-            Status::Done,
-            report.bytes(),
-        )
+        && status == Status::Done
+        && again.bytes() == report.bytes()
 }
 
 #[test]

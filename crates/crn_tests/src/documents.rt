@@ -1,3 +1,0 @@
-// The document of `A <-> B` in version 1.
-pub const BOTH_WAYS: &str =
-    "crn certificate 1\nnetwork 2\nA -> B\nB -> A\nq1 1\nlabel 1 1\nup 0 1\ndepth 0 1\nq2 1 1\nlabel 1 1\nfrom 0 1\nfromdepth 0 1\nto 0 2\ntodepth 0 1\nlevel 0\nexit 0\nq3 yes\nback 2 1\nq4 yes\nq5 1\nbase 1\ndual -1 0\ncomb 1 -1\nq6 0 0\nbase 1\ndual -1 0\ncomb 1 -1\nq7 yes\nvec 1 1\nq8 yes\nvec 1 1\nq9 yes 1\nq10 yes\nq11 yes\nside 1 0 1\nq12 none zero\ntie 1 0 0\ntie 0 1 0\nq13 none\nq14 yes\nsplit\nsplit\nflat\ncuta 0 1\nsplit\ncuta 1 0\ncutb 1 1\ncuta 1 0\nq15 yes\nsplit\nsplit\nflat\ncuta 0 1\nsplit\ncuta 1 0\ncutb 1 1\ncuta 1 0\nend\n";
