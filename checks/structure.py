@@ -76,13 +76,8 @@ def public_definitions_are_on_the_pages(repository, pages):
         yield f"{definition} has a row, or is an inner definition", definition in named
 
 
-# the frame of documents of parts: each part's crate will read it, and none stands yet
-FRAME_OF_PARTS = "crn_ctext/specs/Parts.antt"
-FRAME_BESIDE = {
-    Definition("crn_ctext/specs/Course.antt", "find_own"),
-    Definition("crn_ctext/specs/Course.antt", "test_own"),
-    Definition("crn_ctext/specs/Courses.antt", "IsWrittenBy"),
-}
+# lines of a part that are due in order: the parts to come have such
+NOT_READ_YET = Definition("crn_ctext/specs/Parts.antt", "asks_parts")
 
 
 def public_definitions_have_readers(repository):
@@ -96,10 +91,9 @@ def public_definitions_have_readers(repository):
                     starts.setdefault(target, file)
     reached = repository.reached_from(starts)
     for definition in definitions_outside_inner(repository):
-        is_frame = definition.file == FRAME_OF_PARTS or definition in FRAME_BESIDE
-        yield f"{definition} is read outside, or is an inner definition", definition in reached or is_frame
-    read = Definition(FRAME_OF_PARTS, "Part") in reached
-    yield "the frame of parts is excused only while no part reads it", not read
+        is_read = definition in reached or definition == NOT_READ_YET
+        yield f"{definition} is read outside, or is an inner definition", is_read
+    yield "a definition is excused only while nothing reads it", NOT_READ_YET not in reached
 
 
 def helpers_are_in_their_files(repository, pages):

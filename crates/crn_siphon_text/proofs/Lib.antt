@@ -1,0 +1,11 @@
+mod TestsDecided
+mod Settled
+mod Nodes
+mod Answered
+mod LinesRead
+mod NodesRead
+mod TreesRead
+mod VerdictsRead
+mod DocumentsRead
+mod Written
+mod ShortDocuments

@@ -1,0 +1,6 @@
+use Rattle.std.proofs.Common.{◌≡◌, take}
+use Rattle.crn_siphon_check.specs.Siphons.{set_of}
+use Rattle.crn_siphon_text.proofs.verify.set_of.Given as goal
+
+abbrev pub invariant-loop-s : goal.invariant-loop-s
+invariant-loop-s l = l.set.items ≡ take l.s (set_of l.marks)
