@@ -57,15 +57,20 @@ enum Form {
     Work,
 }
 
-fn read_and_solve(form: Form, asked: Asked, budget: u32) -> io::Result<Ended> {
+/// The network that standard input spells, or how the call ends that refuses it.
+fn read_network() -> io::Result<Result<net::Net, Ended>> {
     let mut text = Vec::new();
     io::stdin().lock().take(text::MAX_TEXT as u64 + 1).read_to_end(&mut text)?;
-    let net = match text::read(&text) {
+    Ok(text::read(&text).map_err(|(code, line)| {
+        let (number, name) = code.number_and_name();
+        fault_line("refused", number, name, line, 2)
+    }))
+}
+
+fn read_and_solve(form: Form, asked: Asked, budget: u32) -> io::Result<Ended> {
+    let net = match read_network()? {
         Ok(net) => net,
-        Err((code, line)) => {
-            let (number, name) = code.number_and_name();
-            return Ok(fault_line("refused", number, name, line, 2));
-        }
+        Err(refused) => return Ok(refused),
     };
     let shows = form == Form::Certificate;
     let (verdicts, shown) = answers::solve(&net, Settings { asked, budget, shows });
@@ -82,14 +87,9 @@ fn read_and_solve(form: Form, asked: Asked, budget: u32) -> io::Result<Ended> {
 }
 
 fn prove(budget: u32) -> io::Result<Ended> {
-    let mut text = Vec::new();
-    io::stdin().lock().take(text::MAX_TEXT as u64 + 1).read_to_end(&mut text)?;
-    let net = match text::read(&text) {
+    let net = match read_network()? {
         Ok(net) => net,
-        Err((code, line)) => {
-            let (number, name) = code.number_and_name();
-            return Ok(fault_line("refused", number, name, line, 2));
-        }
+        Err(refused) => return Ok(refused),
     };
     let answer = persist::persist(&net, budget);
     let mut out = Vec::with_capacity(answer.lines.len() + 4096);
