@@ -1,6 +1,6 @@
 -- The tests of a block, in the words of a document's course, and what is known after it.
 use Rattle.std.proofs.Common.{◌≡◌, ◌≤◌, ◌+◌, ◌-◌, ◌++◌, ◌∙◌, ℕ, zero, suc, Bool, true, false, ◌==◌, ◌&&◌, List, [], ◌∷◌, length, map, replicate, refl, sym, subst, ap, ap₂, inl, inr, arith, Result}
-use Rattle.std.specs.Prelude.{ℤ, if◌then◌else◌}
+use Rattle.std.specs.Prelude.{ℤ, if◌then◌else◌, slice_index_or}
 use Rattle.std.specs.List.{AllByRecursion, AllZip, flat_map}
 use Rattle.std.proofs.lemmas.Bool.{eqb-true}
 use Rattle.std.proofs.lemmas.List.{length-map, map-append}
@@ -9,8 +9,8 @@ use Rattle.crn_vec.specs.Network.{Net}
 use Rattle.crn_vec.specs.declared.limits.TheConstants.{MAX_COMPLEXES}
 use Rattle.crn_cert.specs.declared.answer.Verdict.{Verdict}
 use Rattle.crn_cert.specs.declared.answer.Verdict.TheVariants.{No, Yes}
+use Rattle.crn_cert.specs.declared.head_kind.HeadKind.TheVariants.{Rests}
 use Rattle.crn_cert.specs.declared.answer.Proof.{Proof}
-use Rattle.crn_cert.specs.declared.answer.Proof.TheVariants.{Nothing}
 use Rattle.crn_cert.specs.declared.answer.Answer.{Answer}
 use Rattle.crn_cert.specs.Questions.{Earlier, Question, Q2, Q13, Q14, Q15, on, terminal_of}
 use Rattle.crn_cert.specs.Tests.{Test, AllHold, FailsFirst}
@@ -19,7 +19,7 @@ use Rattle.crn_pairs.specs.Pairs.{pairs_to}
 use Rattle.crn_cert.specs.Formed.{IsFormed, IsFormedOf}
 use Rattle.crn_cert.proofs.CallerLemmas.{hold_parts}
 use Rattle.crn_ctext.specs.Records.{Record, Form, Fits}
-use Rattle.crn_ctext.specs.Questions.{Shapes, later_numbers}
+use Rattle.crn_ctext.specs.Questions.{later_numbers}
 use Rattle.crn_ctext.specs.Course.{Course, Give, ◌>>=◌, Gives}
 use Rattle.crn_ctext.specs.Course as course
 use Rattle.crn_ctext.specs.Blocks.{AfterBlocks, Problem, asks_all, asks_trees, below, claims, has_tree, is_open, problems, unless}
@@ -37,8 +37,8 @@ use Rattle.crn_check.specs.Facts.{KeptFacts, asked}
 use Rattle.crn_check.specs.Check.{AsksForTree, IsBuilt, shown_by_tree, tree_place}
 use Rattle.crn_cert.specs.Verdicts.{tight}
 use Rattle.crn_document.specs.declared.parts.Part.{Part}
-use Rattle.crn_document.specs.Inner.Answer.{IsHeadOf, verdict_at, verdict_of_head}
-use Rattle.crn_document.specs.Inner.Answers.{FitAnswer, proof_of_head}
+use Rattle.crn_document.specs.Inner.Answer.{decided, kind_at, kind_of, open_kinds, verdict_by, verdict_of_head}
+use Rattle.crn_document.specs.Inner.Answers.{FitAnswer, proof_by, proof_of_head}
 use Rattle.crn_document.specs.Inner.Parts.{IsKnown, before, parts_below}
 use Rattle.crn_document.specs.Inner.Records.{AreRows, MayBeRow, fixed_rows, many_rows, part_rows, row_form, rows_below}
 use Rattle.crn_document.specs.declared.rows.Row.{Row}
@@ -47,6 +47,7 @@ use Rattle.crn_document.specs.Inner.Heads.{IsHead, known_of, class_count}
 use Rattle.crn_document.specs.Inner.Blocks.{HeadHolds, IsAfter, IsBlock, Learns, after_at, after_by, end_course, forms_below, head_course, many_after, parts_after, rows_course, tests_course}
 use Rattle.crn_document.proofs.Fields.{part_within}
 use Rattle.crn_document.proofs.Ranks.{AreRanks}
+use Rattle.crn_document.proofs.HeadKinds.{heads_hold, tight_and_bare}
 use Rattle.crn_document.proofs.Heads.{said_facts}
 use Rattle.crn_document.proofs.Linkages.{pairs_known}
 use Rattle.crn_document.proofs.TreesBelow.{no_tree_below}
@@ -145,7 +146,7 @@ abbrev pub said_verdict : ℕ → List ℤ → List Record → Verdict
 said_verdict n head rs = verdict_of_head (asked n) head rs
 
 abbrev pub said_proof : Net → Earlier → ℕ → List ℤ → List Record → Proof
-said_proof net earlier n head rs = proof_of_head (asked n) (shapes_of (known_of net earlier)) (parts_after net earlier n head) head rs
+said_proof net earlier n head rs = proof_of_head (asked n) (parts_after net earlier n head) head rs
 
 -- the answer is the one that the block says
 pub record IsAnswerOf (net : Net) (earlier : Earlier) (n : ℕ) (head : List ℤ) (rs : List Record) (a : Answer) : Type 0 where
@@ -153,10 +154,10 @@ pub record IsAnswerOf (net : Net) (earlier : Earlier) (n : ℕ) (head : List ℤ
   pub proof_is : a.proof ≡ said_proof net earlier n head rs
 
 pub said_answer : (net : Net) (earlier : Earlier) (n : ℕ) (head : List ℤ) (parts : List Part) (rows : List (List ℤ)) (h : Record) (rs : List Record) (a : Answer) → IsBlock net earlier n head rows h rs → parts ≡ parts_after net earlier n head
-    → ((rs : List Record) → lists rs ≡ rows → a.verdict ≡ verdict_of_head (asked n) head rs) → ((rs : List Record) (s : Shapes) → lists rs ≡ rows → a.proof ≡ proof_of_head (asked n) s parts head rs) → IsAnswerOf net earlier n head rs a
+    → ((rs : List Record) → lists rs ≡ rows → a.verdict ≡ verdict_of_head (asked n) head rs) → ((rs : List Record) → lists rs ≡ rows → a.proof ≡ proof_of_head (asked n) parts head rs) → IsAnswerOf net earlier n head rs a
 said_answer net earlier n head parts rows h rs a b is verdict proof = record {
   verdict_is = verdict rs (sym b.rows_are);
-  proof_is = proof rs (shapes_of (known_of net earlier)) (sym b.rows_are) ∙ ap (λ (ps : List Part). proof_of_head (asked n) (shapes_of (known_of net earlier)) ps head rs) is;
+  proof_is = proof rs (sym b.rows_are) ∙ ap (λ (ps : List Part). proof_of_head (asked n) ps head rs) is;
 }
 
 same_answer : (P : Verdict → Proof → Type 0) (net : Net) (earlier : Earlier) (n : ℕ) (head : List ℤ) (rs : List Record) (a : Answer) → IsAnswerOf net earlier n head rs a → P (said_verdict n head rs) (said_proof net earlier n head rs) → P a.verdict a.proof
@@ -203,23 +204,19 @@ answer_holds net earlier n head rs a is h =
     other_answer (λ v p. AllHold (row_tests net earlier (asked n) v p)) net earlier n head rs a is (hold_parts (head_tests net earlier (asked n) a.verdict) (row_tests net earlier (asked n) a.verdict a.proof) h).1
 
 -- the tests of its head hold
-pub answer_heads : (net : Net) (n : ℕ) (facts : KeptFacts) (head : List ℤ) (rows : List (List ℤ)) (h : Record) (rs : List Record) (a : Answer) → IsBuilt n → IsKnown net (before n) facts → HeadHolds net facts.earlier n head → IsBlock net facts.earlier n head rows h rs → IsAnswerOf net facts.earlier n head rs a
-    → AllHold (head_tests net facts.earlier (asked n) a.verdict)
-answer_heads net n facts head rows h rs a built known hold b is =
-    let g = said_facts net n facts head h built known b.is_head in
-    subst (λ (v : Verdict). AllHold (head_tests net facts.earlier (asked n) v)) (sym is.verdict_is) (let s = g.heads_same in s rs hold)
+pub answer_heads : (net : Net) (earlier : Earlier) (n : ℕ) (head : List ℤ) (rs : List Record) (a : Answer) → HeadHolds net earlier n head → IsAnswerOf net earlier n head rs a → AllHold (head_tests net earlier (asked n) a.verdict)
+answer_heads net earlier n head rs a hold is =
+    subst (λ (v : Verdict). AllHold (head_tests net earlier (asked n) v)) (sym is.verdict_is) (heads_hold net earlier (asked n) (kind_of (asked n) head) (later_numbers head) (lists rs) hold)
 
 -- its verdict is as it is kept
-pub answer_tight : (net : Net) (n : ℕ) (facts : KeptFacts) (head : List ℤ) (rows : List (List ℤ)) (h : Record) (rs : List Record) (a : Answer) → IsBuilt n → IsKnown net (before n) facts → IsBlock net facts.earlier n head rows h rs → IsAnswerOf net facts.earlier n head rs a → tight a.verdict ≡ a.verdict
-answer_tight net n facts head rows h rs a built known b is =
-    let g = said_facts net n facts head h built known b.is_head in
-    ap tight is.verdict_is ∙ (let t = g.tight_is in t rs) ∙ sym is.verdict_is
+pub answer_tight : (net : Net) (earlier : Earlier) (n : ℕ) (head : List ℤ) (rs : List Record) (a : Answer) → IsAnswerOf net earlier n head rs a → tight a.verdict ≡ a.verdict
+answer_tight net earlier n head rs a is = ap tight is.verdict_is ∙ (tight_and_bare (kind_of (asked n) head) (later_numbers head) (lists rs)).0 ∙ sym is.verdict_is
 
 pub answer_fails : (net : Net) (n : ℕ) (facts : KeptFacts) (head : List ℤ) (rows : List (List ℤ)) (h : Record) (rs : List Record) (a : Answer) (part code : ℕ) → IsBuilt n → IsKnown net (before n) facts → HeadHolds net facts.earlier n head → IsBlock net facts.earlier n head rows h rs → IsAnswerOf net facts.earlier n head rs a
     → FailsFirst (tests_of net facts.earlier (asked n) a) part code → FailsFirst (row_tests net facts.earlier (asked n) (said_verdict n head rs) (said_proof net facts.earlier n head rs)) part code
 answer_fails net n facts head rows h rs a part code built known hold b is f =
     let earlier = facts.earlier in
-    let same = answer_heads net n facts head rows h rs a built known hold b is in
+    let same = answer_heads net earlier n head rs a hold is in
     other_answer (λ v p. FailsFirst (row_tests net earlier (asked n) v p) part code) net earlier n head rs a is (fail_after (head_tests net earlier (asked n) a.verdict) (row_tests net earlier (asked n) a.verdict a.proof) part code same f)
 
 pub answer_part : (net : Net) (n : ℕ) (facts : KeptFacts) (head : List ℤ) (rows : List (List ℤ)) (h : Record) (rs : List Record) (a : Answer) (part code : ℕ) → IsBuilt n → IsKnown net (before n) facts → HeadHolds net facts.earlier n head → IsBlock net facts.earlier n head rows h rs → IsAnswerOf net facts.earlier n head rs a
@@ -240,7 +237,7 @@ block_learns net n facts head rows h rs a new line built known hold b is holds k
     let v = said_verdict n head rs in
     let p = said_proof net earlier n head rs in
     let said_is : verdict_of (asked n) (sizes_of (known_of net earlier)) h rs ≡ v = (let s = f.said in s rs) in
-    let tight_is : v ≡ tight a.verdict = sym (let t = f.tight_is in t rs) ∙ sym (ap tight is.verdict_is) in
+    let tight_is : v ≡ tight a.verdict = sym (answer_tight net earlier n head rs a is ∙ is.verdict_is) in
     let same : new ≡ earlier ++ (asked n, verdict_of (asked n) (sizes_of (known_of net earlier)) h rs) ∷ [] = kept ∙ ap (λ (w : Verdict). earlier ++ (asked n, w) ∷ []) (sym (said_is ∙ tight_is)) in (
       ap (λ (es : Earlier). known_of net es) same,
       λ place. as_tests (λ d. Gives d place tt place) v p net earlier n line h rs said_is (let s = f.shown in s rs) (let r = f.rows_are in r rs) (claims_hold line (row_tests net earlier (asked n) v p) place (answer_holds net earlier n head rs a is holds)),
@@ -259,32 +256,38 @@ block_fails net n facts head rows h rs a line part code built known hold b is fa
 
 -- ---- a verdict that trees show
 
-first_signal : (head : List ℤ) (rs : List Record) → IsHeadOf Q13 head → verdict_of_head Q13 head rs ≡ No → said.number head 0 ≡ 2
-first_signal head rs (zs, inl e) y = let f = subst (λ (x : List ℤ). verdict_of_head Q13 x rs ≡ No) e y in absurd cc
-first_signal head rs (zs, inr (inl e)) y = let f = subst (λ (x : List ℤ). verdict_of_head Q13 x rs ≡ No) e y in absurd cc
-first_signal head rs (zs, inr (inr (inl e))) y = ap (λ (x : List ℤ). said.number x 0) e
-first_signal head rs (zs, inr (inr (inr (inl e)))) y = let f = subst (λ (x : List ℤ). verdict_of_head Q13 x rs ≡ No) e y in absurd cc
-first_signal head rs (zs, inr (inr (inr (inr (inl e))))) y = let f = subst (λ (x : List ℤ). verdict_of_head Q13 x rs ≡ No) e y in absurd cc
-first_signal head rs (zs, inr (inr (inr (inr (inr (inl e)))))) y = let f = subst (λ (x : List ℤ). verdict_of_head Q13 x rs ≡ No) e y in absurd cc
-first_signal head rs (zs, inr (inr (inr (inr (inr (inr e)))))) y = let f = subst (λ (x : List ℤ). verdict_of_head Q13 x rs ≡ No) e y in absurd cc
+signal_place : (place : ℕ) (head : List ℤ) (rows : List (List ℤ)) → verdict_by (kind_at Q13 place) head rows ≡ No → place ≡ 2
+signal_place zero head rows y = absurd cc
+signal_place (suc zero) head rows y = absurd cc
+signal_place (suc (suc zero)) head rows y = refl
+signal_place (suc (suc (suc zero))) head rows y = absurd cc
+signal_place (suc (suc (suc (suc zero)))) head rows y = absurd cc
+signal_place (suc (suc (suc (suc (suc zero))))) head rows y = absurd cc
+signal_place (suc (suc (suc (suc (suc (suc zero)))))) head rows y = absurd cc
+signal_place (suc (suc (suc (suc (suc (suc (suc place))))))) head rows y = absurd cc
 
-first_plain : (head : List ℤ) (rs : List Record) → IsHeadOf Q14 head → verdict_of_head Q14 head rs ≡ Yes → said.number head 0 ≡ 1
-first_plain head rs (zs, inl e) y = ap (λ (x : List ℤ). said.number x 0) e
-first_plain head rs (zs, inr (inl e)) y = let f = subst (λ (x : List ℤ). verdict_of_head Q14 x rs ≡ Yes) e y in absurd cc
-first_plain head rs (zs, inr (inr (inl e))) y = let f = subst (λ (x : List ℤ). verdict_of_head Q14 x rs ≡ Yes) e y in absurd cc
-first_plain head rs (zs, inr (inr (inr e))) y = let f = subst (λ (x : List ℤ). verdict_of_head Q14 x rs ≡ Yes) e y in absurd cc
+-- of the kinds of questions 14 and 15 the first alone says yes
+yes_first : (i : ℕ) (head : List ℤ) (rows : List (List ℤ)) → verdict_by (slice_index_or (decided Q14 ++ open_kinds) i Rests) head rows ≡ Yes → i ≡ 0
+yes_first zero head rows y = refl
+yes_first (suc zero) head rows y = absurd cc
+yes_first (suc (suc zero)) head rows y = absurd cc
+yes_first (suc (suc (suc zero))) head rows y = absurd cc
+yes_first (suc (suc (suc (suc zero)))) head rows y = absurd cc
+yes_first (suc (suc (suc (suc (suc i))))) head rows y = absurd cc
 
-first_strong : (head : List ℤ) (rs : List Record) → IsHeadOf Q15 head → verdict_of_head Q15 head rs ≡ Yes → said.number head 0 ≡ 1
-first_strong head rs (zs, inl e) y = ap (λ (x : List ℤ). said.number x 0) e
-first_strong head rs (zs, inr (inl e)) y = let f = subst (λ (x : List ℤ). verdict_of_head Q15 x rs ≡ Yes) e y in absurd cc
-first_strong head rs (zs, inr (inr (inl e))) y = let f = subst (λ (x : List ℤ). verdict_of_head Q15 x rs ≡ Yes) e y in absurd cc
-first_strong head rs (zs, inr (inr (inr e))) y = let f = subst (λ (x : List ℤ). verdict_of_head Q15 x rs ≡ Yes) e y in absurd cc
+plain_place : (place : ℕ) (head : List ℤ) (rows : List (List ℤ)) → verdict_by (kind_at Q14 place) head rows ≡ Yes → place ≡ 1
+plain_place zero head rows y = absurd cc
+plain_place (suc i) head rows y = ap (λ (k : ℕ). suc k) (yes_first i head rows y)
+
+strong_place : (place : ℕ) (head : List ℤ) (rows : List (List ℤ)) → verdict_by (kind_at Q15 place) head rows ≡ Yes → place ≡ 1
+strong_place zero head rows y = absurd cc
+strong_place (suc i) head rows y = ap (λ (k : ℕ). suc k) (yes_first i head rows y)
 
 -- the head of such a verdict is of the form below which trees follow
-pub shown_first : (n : ℕ) (head : List ℤ) (rs : List Record) → AsksForTree n → IsHeadOf (asked n) head → said_verdict n head rs ≡ shown_by_tree (asked n) → said.number head 0 ≡ tree_place n
-shown_first n head rs (inl e) is y = first_signal head rs (subst (λ (m : ℕ). IsHeadOf (asked m) head) e is) (subst (λ (m : ℕ). said_verdict m head rs ≡ shown_by_tree (asked m)) e y) ∙ ap (λ (m : ℕ). tree_place m) (sym e)
-shown_first n head rs (inr (inl e)) is y = first_plain head rs (subst (λ (m : ℕ). IsHeadOf (asked m) head) e is) (subst (λ (m : ℕ). said_verdict m head rs ≡ shown_by_tree (asked m)) e y) ∙ ap (λ (m : ℕ). tree_place m) (sym e)
-shown_first n head rs (inr (inr e)) is y = first_strong head rs (subst (λ (m : ℕ). IsHeadOf (asked m) head) e is) (subst (λ (m : ℕ). said_verdict m head rs ≡ shown_by_tree (asked m)) e y) ∙ ap (λ (m : ℕ). tree_place m) (sym e)
+pub shown_first : (n : ℕ) (head : List ℤ) (rs : List Record) → AsksForTree n → said_verdict n head rs ≡ shown_by_tree (asked n) → said.number head 0 ≡ tree_place n
+shown_first n head rs (inl e) y = signal_place (said.number head 0) (later_numbers head) (lists rs) (subst (λ (m : ℕ). said_verdict m head rs ≡ shown_by_tree (asked m)) e y) ∙ ap (λ (m : ℕ). tree_place m) (sym e)
+shown_first n head rs (inr (inl e)) y = plain_place (said.number head 0) (later_numbers head) (lists rs) (subst (λ (m : ℕ). said_verdict m head rs ≡ shown_by_tree (asked m)) e y) ∙ ap (λ (m : ℕ). tree_place m) (sym e)
+shown_first n head rs (inr (inr e)) y = strong_place (said.number head 0) (later_numbers head) (lists rs) (subst (λ (m : ℕ). said_verdict m head rs ≡ shown_by_tree (asked m)) e y) ∙ ap (λ (m : ℕ). tree_place m) (sym e)
 
 -- that form says the verdict, and the records below it have no tests but those of the trees
 record IsShownSaid (net : Net) (earlier : Earlier) (n : ℕ) (head : List ℤ) (rs : List Record) : Type 1 where
@@ -295,20 +298,20 @@ shown_said : (net : Net) (earlier : Earlier) (n : ℕ) (head : List ℤ) (rs : L
 shown_said net earlier n head rs (inl e) place =
     let two : said.number head 0 ≡ 2 = place ∙ ap (λ (m : ℕ). tree_place m) e in
     subst (λ (m : ℕ). IsShownSaid net earlier m head rs) (sym e) (record {
-      verdict = subst (λ (k : ℕ). verdict_at Q13 k (later_numbers head) rs ≡ No) (sym two) refl;
-      tests = subst (λ (k : ℕ). row_tests net earlier Q13 (verdict_at Q13 k (later_numbers head) rs) Nothing ≡ []) (sym two) refl;
+      verdict = subst (λ (k : ℕ). verdict_by (kind_at Q13 k) (later_numbers head) (lists rs) ≡ No) (sym two) refl;
+      tests = subst (λ (k : ℕ). row_tests net earlier Q13 (verdict_by (kind_at Q13 k) (later_numbers head) (lists rs)) (proof_by (kind_at Q13 k) Q13 (parts_after net earlier 13 head) (later_numbers head) (lists rs)) ≡ []) (sym two) refl;
     })
 shown_said net earlier n head rs (inr (inl e)) place =
     let one : said.number head 0 ≡ 1 = place ∙ ap (λ (m : ℕ). tree_place m) e in
     subst (λ (m : ℕ). IsShownSaid net earlier m head rs) (sym e) (record {
-      verdict = subst (λ (k : ℕ). verdict_at Q14 k (later_numbers head) rs ≡ Yes) (sym one) refl;
-      tests = subst (λ (k : ℕ). row_tests net earlier Q14 (verdict_at Q14 k (later_numbers head) rs) Nothing ≡ []) (sym one) refl;
+      verdict = subst (λ (k : ℕ). verdict_by (kind_at Q14 k) (later_numbers head) (lists rs) ≡ Yes) (sym one) refl;
+      tests = subst (λ (k : ℕ). row_tests net earlier Q14 (verdict_by (kind_at Q14 k) (later_numbers head) (lists rs)) (proof_by (kind_at Q14 k) Q14 (parts_after net earlier 14 head) (later_numbers head) (lists rs)) ≡ []) (sym one) refl;
     })
 shown_said net earlier n head rs (inr (inr e)) place =
     let one : said.number head 0 ≡ 1 = place ∙ ap (λ (m : ℕ). tree_place m) e in
     subst (λ (m : ℕ). IsShownSaid net earlier m head rs) (sym e) (record {
-      verdict = subst (λ (k : ℕ). verdict_at Q15 k (later_numbers head) rs ≡ Yes) (sym one) refl;
-      tests = subst (λ (k : ℕ). row_tests net earlier Q15 (verdict_at Q15 k (later_numbers head) rs) Nothing ≡ []) (sym one) refl;
+      verdict = subst (λ (k : ℕ). verdict_by (kind_at Q15 k) (later_numbers head) (lists rs) ≡ Yes) (sym one) refl;
+      tests = subst (λ (k : ℕ). row_tests net earlier Q15 (verdict_by (kind_at Q15 k) (later_numbers head) (lists rs)) (proof_by (kind_at Q15 k) Q15 (parts_after net earlier 15 head) (later_numbers head) (lists rs)) ≡ []) (sym one) refl;
     })
 
 -- a no to question 13 whose head passes its tests is about a vector
@@ -316,7 +319,7 @@ pub vector_shown : (net : Net) (earlier : Earlier) (n : ℕ) (head : List ℤ) �
 vector_shown net earlier n head e place hold =
     let two : said.number head 0 ≡ 2 = place ∙ ap (λ (m : ℕ). tree_place m) e in
     let h : HeadHolds net earlier 13 head = subst (λ (m : ℕ). HeadHolds net earlier m head) e hold in
-    (subst (λ (k : ℕ). AllHold (head_tests net earlier Q13 (verdict_at Q13 k (later_numbers head) []))) two h).0
+    (subst (λ (k : ℕ). AllHold (head_tests net earlier Q13 (verdict_by (kind_at Q13 k) (later_numbers head) []))) two h).0
 
 -- no test of the records fails, and this is known after the block
 pub block_shown : (net : Net) (n : ℕ) (facts : KeptFacts) (head : List ℤ) (rows : List (List ℤ)) (h : Record) (rs : List Record) (new : Earlier) (line : ℕ) → IsBuilt n → IsKnown net (before n) facts → IsBlock net facts.earlier n head rows h rs → AsksForTree n → said.number head 0 ≡ tree_place n → new ≡ facts.earlier ++ (asked n, shown_by_tree (asked n)) ∷ []

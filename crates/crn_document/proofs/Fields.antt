@@ -7,7 +7,7 @@ use Rattle.std.proofs.lemmas.List.{append-nil}
 use Rattle.crn_cert.specs.Tests.{Test, FailsFirst}
 use Rattle.crn_ctext.specs.Records.{Record, Field, Takes, AreNarrow, AreOf, AreBetween, Fits}
 use Rattle.crn_ctext.specs.Kinds.{small, small_form}
-use Rattle.crn_document.specs.Inner.Answer.{AreSmall}
+use Rattle.crn_document.specs.Inner.Answer.{AreSmall, AreSmallAt}
 
 -- ---- numbers
 
@@ -50,3 +50,7 @@ small_list least greatest (pos n ∷ zs) lt b = (omega (arith, ints, lt, b.0.1),
 
 pub form_small : (word : List ℕ) (count least greatest : ℕ) (r : Record) → greatest < 2 ^ 32 → Fits (small_form word count least greatest) r → AreSmall r.numbers
 form_small word count least greatest r lt f = let p = one_field (small count least greatest) r.numbers f.1 in small_list least greatest r.numbers lt p.0.1
+
+pub none_small : (places : List ℕ) → AreSmallAt places []
+none_small [] = tt
+none_small (i ∷ is) = (tt, none_small is)

@@ -1,5 +1,5 @@
 -- What the form of a head says of its numbers, of the records below it and of the answer.
-use Rattle.std.proofs.Common.{◌≡◌, ◌≤◌, ◌<◌, ◌+◌, ◌^◌, ◌⊎◌, ◌++◌, ◌∙◌, ℕ, suc, List, [], ◌∷◌, length, map, refl, sym, subst, ap, ap₂, arith}
+use Rattle.std.proofs.Common.{◌≡◌, ◌≤◌, ◌<◌, ◌+◌, ◌^◌, ◌⊎◌, ◌++◌, ◌∙◌, ℕ, zero, suc, List, [], ◌∷◌, length, map, refl, sym, subst, ap, ap₂, arith}
 use Rattle.std.specs.Prelude.{ℤ, pos, nat_abs}
 use Rattle.std.specs.List.{AllZip, range_with_len}
 use Rattle.std.proofs.lemmas.List.{append-nil, length-map}
@@ -12,9 +12,7 @@ use Rattle.crn_cert.specs.Formed.{HeadMayBe}
 use Rattle.crn_ctext.proofs.CallerLemmas.{zip_long, record_is}
 use Rattle.crn_cert.specs.Questions.{Earlier}
 use Rattle.crn_cert.specs.Data.{IsBasisOf}
-use Rattle.crn_cert.specs.Tests.{AllHold}
 use Rattle.crn_cert.specs.Valid.{head_tests, row_tests, linkage, linkage_count, class_places, pair_places}
-use Rattle.crn_cert.specs.Verdicts.{tight}
 use Rattle.crn_cert.specs.Ranges.{AreFrom}
 use Rattle.crn_ctext.specs.Records.{Record, Form, AreRising, Rising, Fits, AreOf}
 use Rattle.crn_ctext.specs.Kinds.{small, just, small_form}
@@ -22,7 +20,7 @@ use Rattle.crn_ctext.specs.Blocks.{is_open, below, problems, unless}
 use Rattle.crn_ctext.specs.Documents.{IsOneOf}
 use Rattle.crn_ctext.specs.Meaning.{meaning, number, lists, pairs_of, problems_by, sizes_of, shapes_of, verdict_of, proof_of}
 use Rattle.crn_check.specs.Facts.{asked}
-use Rattle.crn_document.specs.Inner.Answer.{AreSmall, AreSmallRows, IsHeadOf, verdict_of_head}
+use Rattle.crn_document.specs.Inner.Answer.{AreSmall, AreSmallAt, row, verdict_of_head}
 use Rattle.crn_document.specs.Inner.Answers.{FitAnswer, proof_of_head}
 use Rattle.crn_document.specs.Inner.Blocks.{HeadHolds, forms_below, parts_after}
 use Rattle.crn_document.specs.Inner.Heads.{known_of, head_forms, tagged, class_count}
@@ -32,22 +30,19 @@ use Rattle.crn_document.proofs.Ranks.{AreRanks}
 pub record HeadFacts (net : Net) (earlier : Earlier) (n : ℕ) (h : Record) (t : List ℤ) : Type 1 where
   pub small : AreSmall t
   pub short : length t ≤ 800
-  pub is_head : IsHeadOf (asked n) t
   pub few : class_count n t ≤ MAX_COMPLEXES
   pub ranks : length (linkage earlier) ≤ MAX_COMPLEXES → AreRanks (parts_after net earlier n t)
   pub may : HeadMayBe net earlier (asked n) (verdict_of_head (asked n) t [])
   pub below_is : below (asked n) (shapes_of (known_of net earlier)) h ≡ forms_below net earlier n t
   pub said : (rs : List Record) → verdict_of (asked n) (sizes_of (known_of net earlier)) h rs ≡ verdict_of_head (asked n) t rs
-  pub shown : (rs : List Record) → proof_of (asked n) (shapes_of (known_of net earlier)) h rs ≡ proof_of_head (asked n) (shapes_of (known_of net earlier)) (parts_after net earlier n t) t rs
+  pub shown : (rs : List Record) → proof_of (asked n) (shapes_of (known_of net earlier)) h rs ≡ proof_of_head (asked n) (parts_after net earlier n t) t rs
   pub heads_are : unless (is_open h) (head_tests net earlier (asked n) (verdict_of_head (asked n) t [])) ≡ head_tests net earlier (asked n) (verdict_of_head (asked n) t [])
-  pub rows_are : (rs : List Record) → unless (is_open h) (row_tests net earlier (asked n) (verdict_of_head (asked n) t rs) (proof_of_head (asked n) (shapes_of (known_of net earlier)) (parts_after net earlier n t) t rs)) ≡ row_tests net earlier (asked n) (verdict_of_head (asked n) t rs) (proof_of_head (asked n) (shapes_of (known_of net earlier)) (parts_after net earlier n t) t rs)
+  pub rows_are : (rs : List Record) → unless (is_open h) (row_tests net earlier (asked n) (verdict_of_head (asked n) t rs) (proof_of_head (asked n) (parts_after net earlier n t) t rs)) ≡ row_tests net earlier (asked n) (verdict_of_head (asked n) t rs) (proof_of_head (asked n) (parts_after net earlier n t) t rs)
   pub trees_are : problems_by (asked n) (known_of net earlier) (number t 0) ≡ problems meaning (asked n) (known_of net earlier) h
-  pub tight_is : (rs : List Record) → tight (verdict_of_head (asked n) t rs) ≡ verdict_of_head (asked n) t rs
   pub head_parts : PartsWithin 7 (head_tests net earlier (asked n) (verdict_of_head (asked n) t []))
-  pub heads_same : (rs : List Record) → AllHold (head_tests net earlier (asked n) (verdict_of_head (asked n) t [])) → AllHold (head_tests net earlier (asked n) (verdict_of_head (asked n) t rs))
   pub fit : (rs : List Record) → HeadHolds net earlier n t → AllZip Fits (forms_below net earlier n t) rs → FitAnswer (asked n) t (parts_after net earlier n t) (lists rs)
   pub row_parts : (rs : List Record) → HeadHolds net earlier n t → AllZip Fits (forms_below net earlier n t) rs
-      → PartsWithin (suc (length rs)) (row_tests net earlier (asked n) (verdict_of_head (asked n) t rs) (proof_of_head (asked n) (shapes_of (known_of net earlier)) (parts_after net earlier n t) t rs))
+      → PartsWithin (suc (length rs)) (row_tests net earlier (asked n) (verdict_of_head (asked n) t rs) (proof_of_head (asked n) (parts_after net earlier n t) t rs))
 
 abbrev pub head_with : List (List ℕ) → List ℤ → Record
 head_with words numbers = record { words = words; numbers = numbers }
@@ -65,11 +60,16 @@ abbrev pub AreSmallForms : List Form → Type 0
 AreSmallForms [] = Unit {0}
 AreSmallForms (form ∷ forms) = ((word : List ℕ) × (count least greatest : ℕ) × (form ≡ small_form word count least greatest) × (greatest < 2 ^ 32)) × AreSmallForms forms
 
-pub small_rows : (forms : List Form) (rs : List Record) → AreSmallForms forms → AllZip Fits forms rs → AreSmallRows (lists rs)
-small_rows [] [] s z = tt
-small_rows [] (r ∷ rs) s z = absurd z
-small_rows (f ∷ fs) [] s z = absurd z
-small_rows (f ∷ fs) (r ∷ rs) s z = let t = s.0 in (form_small t.0 t.1 t.2 t.3 r t.5 (subst (λ (f : Form). Fits f r) t.4 z.0), small_rows fs rs s.1 z.1)
+small_row : (forms : List Form) (rs : List Record) (i : ℕ) → AreSmallForms forms → AllZip Fits forms rs → AreSmall (row (lists rs) i)
+small_row [] [] i s z = tt
+small_row [] (r ∷ rs) i s z = absurd z
+small_row (f ∷ fs) [] i s z = absurd z
+small_row (f ∷ fs) (r ∷ rs) zero s z = let t = s.0 in form_small t.0 t.1 t.2 t.3 r t.5 (subst (λ (f : Form). Fits f r) t.4 z.0)
+small_row (f ∷ fs) (r ∷ rs) (suc i) s z = small_row fs rs i s.1 z.1
+
+pub small_at : (places : List ℕ) (forms : List Form) (rs : List Record) → AreSmallForms forms → AllZip Fits forms rs → AreSmallAt places (lists rs)
+small_at [] forms rs s z = tt
+small_at (i ∷ is) forms rs s z = (small_row forms rs i s z, small_at is forms rs s z)
 
 pub few_rows : (forms : List Form) (rs : List Record) → AllZip Fits forms rs → length (lists rs) ≡ length forms
 few_rows forms rs z = length-map rs (λ (r : Record). r.numbers) ∙ zip_long forms rs z

@@ -8,7 +8,7 @@ use Rattle.crn_ctext.specs.Records.{Record, Form, CountAndPart}
 use Rattle.crn_ctext.specs.Kinds.{small, small_form}
 use Rattle.crn_ctext.specs.Questions.{head, yes, no}
 use Rattle.crn_document.proofs.Fields.{one_field, one_number}
-use Rattle.crn_document.proofs.HeadFacts.{Facts, one_small, AreSmallForms, small_rows, few_rows, form_of, same_facts, as_form, FactsAt}
+use Rattle.crn_document.proofs.HeadFacts.{Facts, one_small, AreSmallForms, small_at, form_of, same_facts, as_form, FactsAt}
 
 linkage_facts : (net : Net) (earlier : Earlier) (k : ℕ) → IsNetwork net → (1 ≤ k) × (k ≤ length net.complexes) → Facts net earlier 1 (codes "q1" ∷ []) (pos k ∷ [])
 linkage_facts net earlier k network range =
@@ -21,7 +21,6 @@ linkage_facts net earlier k network range =
       small = (omega arith, one_small k (omega (arith, few, range.1)));
       short = omega arith;
       ranks = λ long. tt;
-      is_head = (k, refl, omega (arith, few, range.1));
       few = omega (arith, few, range.1);
       may = (range, tt);
       below_is = refl;
@@ -30,10 +29,8 @@ linkage_facts net earlier k network range =
       heads_are = refl;
       rows_are = λ rs. refl;
       trees_are = refl;
-      tight_is = λ rs. refl;
       head_parts = tt;
-      heads_same = λ rs p. p;
-      fit = λ rs hold z. (few_rows forms rs z, small_rows forms rs smalls z);
+      fit = λ rs hold z. (small_at (0 ∷ []) forms rs smalls z, small_at (1 ∷ 2 ∷ []) forms rs smalls z);
       row_parts = λ rs hold z. let l = zip_long forms rs z in (omega (arith, l), (omega (arith, l), tt));
     }
 
@@ -52,7 +49,6 @@ strong_facts net earlier k m network range =
       small = (omega arith, (omega (arith, few, range.2), one_small m (omega (arith, few, range.1, range.2))));
       short = omega arith;
       ranks = λ long. tt;
-      is_head = (k, m, refl, omega (arith, few, range.2), omega (arith, few, range.1, range.2));
       few = omega (arith, few, range.2);
       may = (((omega (arith, range.0, range.1), range.2), (range.0, range.1)), tt);
       below_is = refl;
@@ -61,10 +57,8 @@ strong_facts net earlier k m network range =
       heads_are = refl;
       rows_are = λ rs. refl;
       trees_are = refl;
-      tight_is = λ rs. refl;
       head_parts = tt;
-      heads_same = λ rs p. p;
-      fit = λ rs hold z. (few_rows forms rs z, small_rows forms rs smalls z);
+      fit = λ rs hold z. (small_at (0 ∷ 6 ∷ []) forms rs smalls z, small_at (1 ∷ 2 ∷ 3 ∷ 4 ∷ 5 ∷ []) forms rs smalls z);
       row_parts = λ rs hold z. let l = zip_long forms rs z in (omega (arith, l), (omega (arith, l), (omega (arith, l), (omega (arith, l), (omega (arith, l), (omega (arith, l), tt))))));
     }
 
@@ -73,7 +67,6 @@ reversible_facts net earlier network = record {
   small = (omega arith, tt);
   short = omega arith;
   ranks = λ long. tt;
-  is_head = inl refl;
   few = omega arith;
   may = tt;
   below_is = refl;
@@ -82,10 +75,8 @@ reversible_facts net earlier network = record {
   heads_are = refl;
   rows_are = λ rs. refl;
   trees_are = refl;
-  tight_is = λ rs. refl;
   head_parts = tt;
-  heads_same = λ rs p. p;
-  fit = λ rs hold z. let many = network.partial.reactions_limit in let forms = small_form (codes "back") (length net.reactions) 1 (length net.reactions) ∷ [] in (few_rows forms rs z, small_rows forms rs (form_of (codes "back") (length net.reactions) 1 (length net.reactions) (omega (arith, many)), tt) z);
+  fit = λ rs hold z. let many = network.partial.reactions_limit in let back = small_at (0 ∷ []) (small_form (codes "back") (length net.reactions) 1 (length net.reactions) ∷ []) rs (form_of (codes "back") (length net.reactions) 1 (length net.reactions) (omega (arith, many)), tt) z in (tt, back.0);
   row_parts = λ rs hold z. (omega arith, tt);
 }
 
@@ -94,7 +85,6 @@ irreversible_facts net earlier k network range = record {
   small = (omega arith, one_small k (let few = network.partial.reactions_limit in omega (arith, few, range.1)));
   short = omega arith;
   ranks = λ long. tt;
-  is_head = inr (k, refl, (let few = network.partial.reactions_limit in omega (arith, few, range.1)));
   few = omega arith;
   may = (range, tt);
   below_is = refl;
@@ -103,10 +93,8 @@ irreversible_facts net earlier k network range = record {
   heads_are = refl;
   rows_are = λ rs. refl;
   trees_are = refl;
-  tight_is = λ rs. refl;
   head_parts = (omega arith, tt);
-  heads_same = λ rs p. p;
-  fit = λ rs hold z. (few_rows [] rs z, small_rows [] rs tt z);
+  fit = λ rs hold z. (tt, tt);
   row_parts = λ rs hold z. tt;
 }
 
@@ -115,7 +103,6 @@ weak_facts net earlier network = record {
   small = (omega arith, tt);
   short = omega arith;
   ranks = λ long. tt;
-  is_head = inl refl;
   few = omega arith;
   may = tt;
   below_is = refl;
@@ -124,10 +111,8 @@ weak_facts net earlier network = record {
   heads_are = refl;
   rows_are = λ rs. refl;
   trees_are = refl;
-  tight_is = λ rs. refl;
   head_parts = (omega arith, tt);
-  heads_same = λ rs p. p;
-  fit = λ rs hold z. tt;
+  fit = λ rs hold z. (tt, tt);
   row_parts = λ rs hold z. tt;
 }
 
@@ -136,7 +121,6 @@ not_weak_facts net earlier k network range = record {
   small = (omega arith, one_small k (let few = network.partial.reactions_limit in omega (arith, few, range.1)));
   short = omega arith;
   ranks = λ long. tt;
-  is_head = inr (k, refl, (let few = network.partial.reactions_limit in omega (arith, few, range.1)));
   few = omega arith;
   may = (range, tt);
   below_is = refl;
@@ -145,10 +129,8 @@ not_weak_facts net earlier k network range = record {
   heads_are = refl;
   rows_are = λ rs. refl;
   trees_are = refl;
-  tight_is = λ rs. refl;
   head_parts = (omega arith, tt);
-  heads_same = λ rs p. p;
-  fit = λ rs hold z. tt;
+  fit = λ rs hold z. (tt, tt);
   row_parts = λ rs hold z. tt;
 }
 

@@ -20,7 +20,6 @@ concordance_facts net earlier = record {
   small = (omega arith, tt);
   short = omega arith;
   ranks = λ long. tt;
-  is_head = (_, inl refl);
   few = omega arith;
   may = tt;
   below_is = refl;
@@ -29,10 +28,8 @@ concordance_facts net earlier = record {
   heads_are = refl;
   rows_are = λ rs. refl;
   trees_are = refl;
-  tight_is = λ rs. refl;
   head_parts = tt;
-  heads_same = λ rs p. p;
-  fit = λ rs hold z. tt;
+  fit = λ rs hold z. (tt, tt);
   row_parts = λ rs hold z. tt;
 }
 
@@ -41,7 +38,6 @@ no_concordance_facts net earlier = record {
   small = (omega arith, tt);
   short = omega arith;
   ranks = λ long. tt;
-  is_head = (_, inr (inl refl));
   few = omega arith;
   may = tt;
   below_is = refl;
@@ -50,10 +46,8 @@ no_concordance_facts net earlier = record {
   heads_are = refl;
   rows_are = λ rs. refl;
   trees_are = refl;
-  tight_is = λ rs. refl;
   head_parts = tt;
-  heads_same = λ rs p. p;
-  fit = λ rs hold z. tt;
+  fit = λ rs hold z. (tt, tt);
   row_parts = λ rs hold z. let l = zip_long (pair_forms (length net.reactions)) rs z in (omega (arith, l), tt);
 }
 
@@ -62,7 +56,6 @@ concordance_wide_facts net earlier index basis network low high long rising = re
   small = wide_small 3 2 index (length net.reactions + length net.names) basis (omega arith) (omega arith) (let s0 = network.partial.species_limit in let r0 = network.partial.reactions_limit in omega (arith, high, s0, r0)) (let s0 = network.partial.species_limit in let r0 = network.partial.reactions_limit in omega (arith, s0, r0)) rising;
   short = (let s0 = network.partial.species_limit in let r0 = network.partial.reactions_limit in omega (arith, long, s0, r0));
   ranks = λ long. tt;
-  is_head = (_, inr (inr (inl refl)));
   few = omega arith;
   may = ((refl, refl, wide_basis (length net.reactions) (length net.names) index basis low high long rising), tt);
   below_is = refl;
@@ -71,10 +64,8 @@ concordance_wide_facts net earlier index basis network low high long rising = re
   heads_are = refl;
   rows_are = λ rs. refl;
   trees_are = refl;
-  tight_is = λ rs. refl;
   head_parts = tt;
-  heads_same = λ rs p. p;
-  fit = λ rs hold z. tt;
+  fit = λ rs hold z. (tt, tt);
   row_parts = λ rs hold z. tt;
 }
 
@@ -83,7 +74,6 @@ concordance_spent_facts net earlier k range = record {
   small = (omega arith, one_small k (omega (arith, range.1)));
   short = omega arith;
   ranks = λ long. tt;
-  is_head = (_, inr (inr (inr refl)));
   few = omega arith;
   may = (range, tt);
   below_is = refl;
@@ -92,10 +82,8 @@ concordance_spent_facts net earlier k range = record {
   heads_are = refl;
   rows_are = λ rs. refl;
   trees_are = refl;
-  tight_is = λ rs. refl;
   head_parts = tt;
-  heads_same = λ rs p. p;
-  fit = λ rs hold z. tt;
+  fit = λ rs hold z. (tt, tt);
   row_parts = λ rs hold z. tt;
 }
 
@@ -104,7 +92,6 @@ strongly_facts net earlier = record {
   small = (omega arith, tt);
   short = omega arith;
   ranks = λ long. tt;
-  is_head = (_, inl refl);
   few = omega arith;
   may = tt;
   below_is = refl;
@@ -113,10 +100,8 @@ strongly_facts net earlier = record {
   heads_are = refl;
   rows_are = λ rs. refl;
   trees_are = refl;
-  tight_is = λ rs. refl;
   head_parts = tt;
-  heads_same = λ rs p. p;
-  fit = λ rs hold z. tt;
+  fit = λ rs hold z. (tt, tt);
   row_parts = λ rs hold z. tt;
 }
 
@@ -125,7 +110,6 @@ no_strongly_facts net earlier = record {
   small = (omega arith, tt);
   short = omega arith;
   ranks = λ long. tt;
-  is_head = (_, inr (inl refl));
   few = omega arith;
   may = tt;
   below_is = refl;
@@ -134,10 +118,8 @@ no_strongly_facts net earlier = record {
   heads_are = refl;
   rows_are = λ rs. refl;
   trees_are = refl;
-  tight_is = λ rs. refl;
   head_parts = tt;
-  heads_same = λ rs p. p;
-  fit = λ rs hold z. tt;
+  fit = λ rs hold z. (tt, tt);
   row_parts = λ rs hold z. let l = zip_long (pair_forms (length net.reactions)) rs z in (omega (arith, l), tt);
 }
 
@@ -146,7 +128,6 @@ strongly_wide_facts net earlier index basis network low high long rising = recor
   small = wide_small 3 2 index (length net.reactions + length net.names) basis (omega arith) (omega arith) (let s0 = network.partial.species_limit in let r0 = network.partial.reactions_limit in omega (arith, high, s0, r0)) (let s0 = network.partial.species_limit in let r0 = network.partial.reactions_limit in omega (arith, s0, r0)) rising;
   short = (let s0 = network.partial.species_limit in let r0 = network.partial.reactions_limit in omega (arith, long, s0, r0));
   ranks = λ long. tt;
-  is_head = (_, inr (inr (inl refl)));
   few = omega arith;
   may = ((refl, refl, wide_basis (length net.reactions) (length net.names) index basis low high long rising), tt);
   below_is = refl;
@@ -155,10 +136,8 @@ strongly_wide_facts net earlier index basis network low high long rising = recor
   heads_are = refl;
   rows_are = λ rs. refl;
   trees_are = refl;
-  tight_is = λ rs. refl;
   head_parts = tt;
-  heads_same = λ rs p. p;
-  fit = λ rs hold z. tt;
+  fit = λ rs hold z. (tt, tt);
   row_parts = λ rs hold z. tt;
 }
 
@@ -167,7 +146,6 @@ strongly_spent_facts net earlier k range = record {
   small = (omega arith, one_small k (omega (arith, range.1)));
   short = omega arith;
   ranks = λ long. tt;
-  is_head = (_, inr (inr (inr refl)));
   few = omega arith;
   may = (range, tt);
   below_is = refl;
@@ -176,10 +154,8 @@ strongly_spent_facts net earlier k range = record {
   heads_are = refl;
   rows_are = λ rs. refl;
   trees_are = refl;
-  tight_is = λ rs. refl;
   head_parts = tt;
-  heads_same = λ rs p. p;
-  fit = λ rs hold z. tt;
+  fit = λ rs hold z. (tt, tt);
   row_parts = λ rs hold z. tt;
 }
 

@@ -47,7 +47,6 @@ regular_facts net earlier pairs =
       small = (omega arith, tt);
       short = omega arith;
       ranks = λ long. tt;
-      is_head = (_, inl refl);
       few = omega arith;
       may = tt;
       below_is = ap (λ (xs : List ℕ). map (side_form z) xs) pairs ∙ rows_are;
@@ -56,10 +55,8 @@ regular_facts net earlier pairs =
       heads_are = refl;
       rows_are = λ rs. refl;
       trees_are = refl;
-      tight_is = λ rs. refl;
       head_parts = (omega arith, tt);
-      heads_same = λ rs p. p;
-      fit = λ rs hold zz. tt;
+      fit = λ rs hold zz. (tt, tt);
       row_parts = λ rs hold zz. let l = long rs zz in let m = zip_long forms rs (of_forms rs zz) in let n = length-map ps (side_form z) in side_parts net earlier 1 (suc (length rs)) ps (map later_numbers (lists rs)) (omega (arith, l, m, n));
     }
 
@@ -68,7 +65,6 @@ regular_split_facts net earlier k m network least a b = record {
   small = (omega arith, (omega (arith, least, a.1), one_small m (let few = network.partial.complexes_limit in omega (arith, few, b.1))));
   short = omega arith;
   ranks = λ long. tt;
-  is_head = (_, inr (inl refl));
   few = omega arith;
   may = (a, (b, tt));
   below_is = refl;
@@ -77,10 +73,8 @@ regular_split_facts net earlier k m network least a b = record {
   heads_are = refl;
   rows_are = λ rs. refl;
   trees_are = refl;
-  tight_is = λ rs. refl;
   head_parts = (omega arith, tt);
-  heads_same = λ rs p. p;
-  fit = λ rs hold z. tt;
+  fit = λ rs hold z. (tt, tt);
   row_parts = λ rs hold z. tt;
 }
 
@@ -89,7 +83,6 @@ regular_dependence_facts net earlier = record {
   small = (omega arith, tt);
   short = omega arith;
   ranks = λ long. tt;
-  is_head = (_, inr (inr (inl refl)));
   few = omega arith;
   may = tt;
   below_is = refl;
@@ -98,10 +91,8 @@ regular_dependence_facts net earlier = record {
   heads_are = refl;
   rows_are = λ rs. refl;
   trees_are = refl;
-  tight_is = λ rs. refl;
   head_parts = (omega arith, tt);
-  heads_same = λ rs p. p;
-  fit = λ rs hold z. tt;
+  fit = λ rs hold z. (tt, tt);
   row_parts = λ rs hold z. tt;
 }
 
@@ -118,7 +109,6 @@ regular_cycle_facts net earlier k network range = record {
   small = (omega arith, one_small k (let few = network.partial.reactions_limit in omega (arith, few, range.1)));
   short = omega arith;
   ranks = λ long. tt;
-  is_head = (_, inr (inr (inr (inl refl))));
   few = omega arith;
   may = (range, tt);
   below_is = refl;
@@ -127,10 +117,8 @@ regular_cycle_facts net earlier k network range = record {
   heads_are = refl;
   rows_are = λ rs. refl;
   trees_are = refl;
-  tight_is = λ rs. refl;
   head_parts = (omega arith, tt);
-  heads_same = λ rs p. p;
-  fit = λ rs hold z. walk_small (length net.complexes) rs (let few = network.partial.complexes_limit in omega (arith, few)) z;
+  fit = λ rs hold z. ((walk_small (length net.complexes) rs (let few = network.partial.complexes_limit in omega (arith, few)) z, tt), tt);
   row_parts = λ rs hold z. (omega arith, tt);
 }
 
@@ -139,7 +127,6 @@ regular_rests_facts net earlier = record {
   small = (omega arith, one_small 7 (omega arith));
   short = omega arith;
   ranks = λ long. tt;
-  is_head = (_, inr (inr (inr (inr refl))));
   few = omega arith;
   may = ((omega arith, omega arith), tt);
   below_is = refl;
@@ -148,10 +135,8 @@ regular_rests_facts net earlier = record {
   heads_are = refl;
   rows_are = λ rs. refl;
   trees_are = refl;
-  tight_is = λ rs. refl;
   head_parts = tt;
-  heads_same = λ rs p. p;
-  fit = λ rs hold z. tt;
+  fit = λ rs hold z. (tt, tt);
   row_parts = λ rs hold z. tt;
 }
 
@@ -191,7 +176,6 @@ confluence_facts net earlier =
       small = (omega arith, tt);
       short = omega arith;
       ranks = λ long. tt;
-      is_head = (_, inl refl);
       few = omega arith;
       may = tt;
       below_is = ap (λ (fs : List Form). vector ∷ fs) (ties_by net earlier n) ∙ rows_are;
@@ -200,10 +184,8 @@ confluence_facts net earlier =
       heads_are = refl;
       rows_are = λ rs. refl;
       trees_are = refl;
-      tight_is = λ rs. refl;
       head_parts = (omega arith, tt);
-      heads_same = λ rs p. p;
-      fit = λ rs hold zz. tt;
+      fit = λ rs hold zz. (tt, tt);
       row_parts = λ rs hold zz.
           let l = zip_long forms rs (of_forms rs zz) in
           let r = length-replicate n (free_form (codes "tie") (length net.names + linkage_count earlier)) in
@@ -216,7 +198,6 @@ irregular_facts net earlier = record {
   small = (omega arith, tt);
   short = omega arith;
   ranks = λ long. tt;
-  is_head = (_, inr (inl refl));
   few = omega arith;
   may = tt;
   below_is = refl;
@@ -225,10 +206,8 @@ irregular_facts net earlier = record {
   heads_are = refl;
   rows_are = λ rs. refl;
   trees_are = refl;
-  tight_is = λ rs. refl;
   head_parts = (omega arith, tt);
-  heads_same = λ rs p. p;
-  fit = λ rs hold z. tt;
+  fit = λ rs hold z. (tt, tt);
   row_parts = λ rs hold z. tt;
 }
 
@@ -243,7 +222,6 @@ only_zero_facts net earlier =
       small = (omega arith, tt);
       short = omega arith;
       ranks = λ long. tt;
-      is_head = (_, inr (inr (inl refl)));
       few = omega arith;
       may = tt;
       below_is = ties_by net earlier c ∙ rows_are;
@@ -252,10 +230,8 @@ only_zero_facts net earlier =
       heads_are = refl;
       rows_are = λ rs. refl;
       trees_are = refl;
-      tight_is = λ rs. refl;
       head_parts = (omega arith, tt);
-      heads_same = λ rs p. p;
-      fit = λ rs hold zz. tt;
+      fit = λ rs hold zz. (tt, tt);
       row_parts = λ rs hold zz.
           let l = length-map rs (λ (r : Record). r.numbers) in
           tie_parts net (linkage earlier) (linkage_count earlier) _ 1 (suc (length rs)) _ (lists rs) (omega (arith, l));
@@ -266,7 +242,6 @@ plane_facts net earlier a b network first second differ = record {
   small = (let few = network.partial.complexes_limit in (omega arith, (omega (arith, few, first.1), one_small b (omega (arith, few, second.1)))));
   short = omega arith;
   ranks = λ long. tt;
-  is_head = (_, inr (inr (inr (inl refl))));
   few = omega arith;
   may = ((first, second, differ), tt);
   below_is = refl;
@@ -275,10 +250,8 @@ plane_facts net earlier a b network first second differ = record {
   heads_are = refl;
   rows_are = λ rs. refl;
   trees_are = refl;
-  tight_is = λ rs. refl;
   head_parts = (omega arith, tt);
-  heads_same = λ rs p. p;
-  fit = λ rs hold z. tt;
+  fit = λ rs hold z. (tt, tt);
   row_parts = λ rs hold z. let l = zip_long (free_form (codes "vec") (length net.complexes) ∷ free_form (codes "vec") (length net.complexes) ∷ []) rs z in (omega arith, (omega (arith, l), tt));
 }
 
@@ -292,7 +265,6 @@ confluence_wide_facts net earlier index basis network least low high long rising
       small = wide_small 5 4 index (columns + rows) basis (omega arith) (omega arith) (omega (arith, high, s0, c0, least)) (omega (arith, s0, c0, least)) rising;
       short = omega (arith, long, c0);
       ranks = λ long. tt;
-      is_head = (_, inr (inr (inr (inr (inl refl)))));
       few = omega arith;
       may = ((refl, refl, wide_basis columns rows index basis low high long rising), tt);
       below_is = refl;
@@ -301,10 +273,8 @@ confluence_wide_facts net earlier index basis network least low high long rising
       heads_are = refl;
       rows_are = λ rs. refl;
       trees_are = refl;
-      tight_is = λ rs. refl;
       head_parts = tt;
-      heads_same = λ rs p. p;
-      fit = λ rs hold z. tt;
+      fit = λ rs hold z. (tt, tt);
       row_parts = λ rs hold z. tt;
     }
 
@@ -313,7 +283,6 @@ confluence_rests_facts net earlier = record {
   small = (omega arith, one_small 11 (omega arith));
   short = omega arith;
   ranks = λ long. tt;
-  is_head = (_, inr (inr (inr (inr (inr refl)))));
   few = omega arith;
   may = ((omega arith, omega arith), tt);
   below_is = refl;
@@ -322,10 +291,8 @@ confluence_rests_facts net earlier = record {
   heads_are = refl;
   rows_are = λ rs. refl;
   trees_are = refl;
-  tight_is = λ rs. refl;
   head_parts = tt;
-  heads_same = λ rs p. p;
-  fit = λ rs hold z. tt;
+  fit = λ rs hold z. (tt, tt);
   row_parts = λ rs hold z. tt;
 }
 

@@ -14,7 +14,7 @@ use Rattle.crn_cert.specs.declared.answer.RankProof.{RankProof}
 use Rattle.crn_vec.specs.Network.{Net, IsNetwork}
 use Rattle.crn_vec.specs.declared.limits.TheConstants.{MAX_COMPLEXES, MAX_REACTIONS}
 use Rattle.crn_cert.specs.Formed.{HeadMayBe}
-use Rattle.crn_ctext.proofs.CallerLemmas.{zip_none, zip_long}
+use Rattle.crn_ctext.proofs.CallerLemmas.{zip_long}
 use Rattle.crn_cert.specs.Questions.{Earlier, Q6}
 use Rattle.crn_cert.specs.Valid.{linkage, linkage_count, class_places, class_rank_tests}
 use Rattle.crn_ctext.specs.Records.{Record, Form, AreRising, ClassWide, Fits, AreOf, AreBetween}
@@ -37,7 +37,6 @@ rank_wide_facts net earlier index basis network low high long rising = record {
   small = wide_small 2 1 index (length net.names + length net.reactions) basis (omega arith) (omega arith) (let s0 = network.partial.species_limit in let r0 = network.partial.reactions_limit in omega (arith, high, s0, r0)) (let s0 = network.partial.species_limit in let r0 = network.partial.reactions_limit in omega (arith, s0, r0)) rising;
   short = (let s0 = network.partial.species_limit in let r0 = network.partial.reactions_limit in omega (arith, long, s0, r0));
   ranks = λ long. tt;
-  is_head = (_, inr refl);
   few = omega arith;
   may = ((refl, refl, wide_basis (length net.names) (length net.reactions) index basis low high long rising), tt);
   below_is = refl;
@@ -46,10 +45,8 @@ rank_wide_facts net earlier index basis network low high long rising = record {
   heads_are = refl;
   rows_are = λ rs. refl;
   trees_are = refl;
-  tight_is = λ rs. refl;
   head_parts = tt;
-  heads_same = λ rs p. p;
-  fit = λ rs hold z. tt;
+  fit = λ rs hold z. (tt, tt);
   row_parts = λ rs hold z. tt;
 }
 
@@ -68,7 +65,6 @@ rank_facts net earlier k network range =
       small = (omega arith, one_small k (omega (arith, many, le)));
       short = omega arith;
       ranks = λ long. (omega (arith, many, le), tt);
-      is_head = (_, inl refl);
       few = omega arith;
       may = (range, tt);
       below_is = below_is;
@@ -77,10 +73,8 @@ rank_facts net earlier k network range =
       heads_are = refl;
       rows_are = λ rs. refl;
       trees_are = refl;
-      tight_is = λ rs. refl;
       head_parts = tt;
-      heads_same = λ rs p. p;
-      fit = λ rs hold z0. let zz = subst (λ (fs : List Form). AllZip Fits fs rs) (sym below_is) z0 in let l = few_rows forms rs zz in (omega (arith, l, long, count, le), rank_small z k all rs (λ x i. let m = member_few net labels 0 x (subst (λ (xs : List ℕ). IsIn x xs) (sym (members_all net labels)) i) in omega (arith, m, many)) zz);
+      fit = λ rs hold z0. let zz = subst (λ (fs : List Form). AllZip Fits fs rs) (sym below_is) z0 in let l = few_rows forms rs zz in let s = rank_small z k all rs (λ x i. let m = member_few net labels 0 x (subst (λ (xs : List ℕ). IsIn x xs) (sym (members_all net labels)) i) in omega (arith, m, many)) zz in ((s, tt), (omega (arith, l, long, count, le), s));
       row_parts = λ rs hold z0. let zz = subst (λ (fs : List Form). AllZip Fits fs rs) (sym below_is) z0 in let l = zip_long forms rs zz in rank_parts net all 1 (suc (length rs)) k _ (rank_formed net z k all rs refl zz) (omega (arith, l, long, count, le));
     }
 
@@ -106,7 +100,6 @@ deficiency_facts net earlier total ds network few within long between =
       small = (omega arith, (omega (arith, within, most), small_list 0 (length net.complexes) ds (omega (arith, most)) between));
       short = omega (arith, long, few);
       ranks = λ most. class_ranks net labels 1 ds most;
-      is_head = (_, inl refl);
       few = omega arith;
       may = admitted;
       below_is = same_forms ∙ rows_are_forms;
@@ -115,10 +108,8 @@ deficiency_facts net earlier total ds network few within long between =
       heads_are = refl;
       rows_are = λ rs. refl;
       trees_are = refl;
-      tight_is = λ rs. refl;
       head_parts = (omega arith, (omega arith, tt));
-      heads_same = λ rs p. p;
-      fit = λ rs hold zz. class_fit net earlier z 0 ds rs many hold.1.0.1 (of_forms rs zz);
+      fit = λ rs hold zz. (tt, class_fit net earlier z 0 ds rs many hold.1.0.1 (of_forms rs zz));
       row_parts = λ rs hold zz. let l = zip_long forms rs (of_forms rs zz) in subst (λ (list : List RankProof). PartsWithin (suc (length rs)) (class_rank_tests net earlier 1 1 list)) (sym (class_proofs_are net earlier 0 ds rs)) (class_parts_within net earlier 1 (suc (length rs)) 0 z ds (proofs_from net earlier 1 ds rs) hold.1.0.1 (class_formed net earlier z 0 ds rs refl hold.1.0.1 (of_forms rs zz)) (omega (arith, l)));
     }
 
@@ -168,7 +159,6 @@ class_wide_facts net earlier k index basis network few inside low high long risi
       small = (omega arith, (omega arith, (omega (arith, inside, few), (omega (arith, high, s0, within), rising_small (columns + rows) basis (omega (arith, s0, within)) rising))));
       short = omega (arith, long, s0);
       ranks = λ long. tt;
-      is_head = (_, inr (inl refl));
       few = omega arith;
       may = gap;
       below_is = refl;
@@ -177,10 +167,8 @@ class_wide_facts net earlier k index basis network few inside low high long risi
       heads_are = refl;
       rows_are = λ rs. refl;
       trees_are = refl;
-      tight_is = λ rs. refl;
       head_parts = tt;
-      heads_same = λ rs p. p;
-      fit = λ rs hold z. ap (λ (x : List Record). lists x) (zip_none rs z);
+      fit = λ rs hold z. (tt, tt);
       row_parts = λ rs hold z. tt;
     }
 
@@ -189,7 +177,6 @@ deficiency_rests_facts net earlier = record {
   small = (omega arith, one_small 5 (omega arith));
   short = omega arith;
   ranks = λ long. tt;
-  is_head = (_, inr (inr refl));
   few = omega arith;
   may = ((omega arith, omega arith), tt);
   below_is = refl;
@@ -198,10 +185,8 @@ deficiency_rests_facts net earlier = record {
   heads_are = refl;
   rows_are = λ rs. refl;
   trees_are = refl;
-  tight_is = λ rs. refl;
   head_parts = tt;
-  heads_same = λ rs p. p;
-  fit = λ rs hold z. ap (λ (x : List Record). lists x) (zip_none rs z);
+  fit = λ rs hold z. (tt, tt);
   row_parts = λ rs hold z. tt;
 }
 

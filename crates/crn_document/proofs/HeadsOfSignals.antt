@@ -1,6 +1,6 @@
 -- What the head of question 13 says.
 use Rattle.std.proofs.Common.{◌≡◌, ◌≤◌, ◌<◌, ◌+◌, ◌^◌, ◌++◌, ◌∙◌, ℕ, List, [], ◌∷◌, length, map, refl, sym, subst, ap, inl, inr, arith}
-use Rattle.std.specs.Prelude.{ℤ, pos, negsuc, codes, nat_abs}
+use Rattle.std.specs.Prelude.{ℤ, pos, negsuc, codes, nat_abs, slice_index_or}
 use Rattle.crn_vec.specs.Lists.{IsIn}
 use Rattle.crn_vec.specs.Network.{Net, IsNetwork}
 use Rattle.crn_vec.specs.declared.limits.TheConstants.{MAX_BUDGET}
@@ -9,12 +9,13 @@ use Rattle.crn_cert.specs.Valid.{pair_places}
 use Rattle.crn_ctext.specs.Records.{Record, Form, AreRising, Fits}
 use Rattle.crn_ctext.specs.Kinds.{small, just, record_form, free_form}
 use Rattle.crn_ctext.specs.Questions.{Sizes, head, yes, no, wide, rests, spent, open_by}
-use Rattle.crn_ctext.specs.Meaning.{pairs_of, sizes_of, shapes_of}
-use Rattle.crn_document.specs.Inner.Answer.{IsHeadOf}
+use Rattle.crn_ctext.specs.Meaning.{ints, lists, pairs_of, sizes_of, shapes_of}
+use Rattle.crn_document.specs.Inner.Answer.{row, turn_of}
 use Rattle.crn_document.specs.Inner.Heads.{known_of, head_forms}
 use Rattle.crn_document.proofs.Fields.{Holds, one_field, one_number}
 use Rattle.crn_document.proofs.HeadFacts.{Facts, one_small, wide_numbers, wide_small, wide_basis, same_facts, as_form, FactsAt, HeadFacts, head_with, FactsOf, ArePairs, IsWide}
 use Rattle.std.proofs.Common.{Bool, true, false}
+use Rattle.crn_cert.specs.declared.answer.Verdict.TheVariants.{YesSignal}
 use Rattle.crn_cert.specs.Formed.{IsWideGap}
 use Rattle.crn_ctext.proofs.CallerLemmas.{zip_long, spent_place, rests_place}
 use Rattle.crn_cert.specs.Says.{IsTurn}
@@ -36,28 +37,25 @@ turn_small : (turn : ℤ) → IsTurn turn → nat_abs turn < 2 ^ 32
 turn_small turn (inl e) = subst (λ (z : ℤ). nat_abs z < 2 ^ 32) (sym e) (omega arith)
 turn_small turn (inr e) = subst (λ (z : ℤ). nat_abs z < 2 ^ 32) (sym e) (omega arith)
 
-turn_head : (turn : ℤ) → IsTurn turn → IsHeadOf Q13 (pos 1 ∷ turn ∷ [])
-turn_head turn (inl e) = ([], inl (ap (λ (z : ℤ). pos 1 ∷ z ∷ []) e))
-turn_head turn (inr e) = ([], inr (inl (ap (λ (z : ℤ). pos 1 ∷ z ∷ []) e)))
+turn_is : (turn : ℤ) → IsTurn turn → turn_of turn ≡ turn
+turn_is turn (inl e) = subst (λ (z : ℤ). turn_of z ≡ z) (sym e) refl
+turn_is turn (inr e) = subst (λ (z : ℤ). turn_of z ≡ z) (sym e) refl
 
 signal_facts : (net : Net) (earlier : Earlier) (turn : ℤ) → IsTurn turn → Facts net earlier 13 (codes "q13" ∷ yes) (turn ∷ [])
 signal_facts net earlier turn is = record {
   small = (omega arith, (turn_small turn is, tt));
   short = omega arith;
   ranks = λ long. tt;
-  is_head = turn_head turn is;
   few = omega arith;
-  may = (is, tt);
+  may = (subst IsTurn (sym (turn_is turn is)) is, tt);
   below_is = refl;
-  said = λ rs. refl;
+  said = λ rs. ap (λ (z : ℤ). YesSignal z (ints (row (lists rs) 0)) (ints (row (lists rs) 1)) (slice_index_or (row (lists rs) 2) 0 (pos 0)) (ints (row (lists rs) 3))) (sym (turn_is turn is));
   shown = λ rs. refl;
   heads_are = refl;
   rows_are = λ rs. refl;
   trees_are = refl;
-  tight_is = λ rs. refl;
   head_parts = (omega arith, tt);
-  heads_same = λ rs p. p;
-  fit = λ rs hold z. tt;
+  fit = λ rs hold z. (tt, tt);
   row_parts = λ rs hold z. let l = zip_long (signal_forms (terminal_of (on earlier Q2)) (length net.names) (length net.reactions)) rs z in (omega (arith, l), tt);
 }
 
@@ -68,7 +66,6 @@ no_signal_facts net earlier = record {
   small = (omega arith, tt);
   short = omega arith;
   ranks = λ long. tt;
-  is_head = ([], inr (inr (inl refl)));
   few = omega arith;
   may = tt;
   below_is = refl;
@@ -77,10 +74,8 @@ no_signal_facts net earlier = record {
   heads_are = refl;
   rows_are = λ rs. refl;
   trees_are = refl;
-  tight_is = λ rs. refl;
   head_parts = (omega arith, tt);
-  heads_same = λ rs p. p;
-  fit = λ rs hold z. tt;
+  fit = λ rs hold z. (tt, tt);
   row_parts = λ rs hold z. tt;
 }
 
@@ -89,7 +84,6 @@ none_facts net earlier = record {
   small = (omega arith, tt);
   short = omega arith;
   ranks = λ long. tt;
-  is_head = ([], inr (inr (inr (inl refl))));
   few = omega arith;
   may = tt;
   below_is = refl;
@@ -98,10 +92,8 @@ none_facts net earlier = record {
   heads_are = refl;
   rows_are = λ rs. refl;
   trees_are = refl;
-  tight_is = λ rs. refl;
   head_parts = (omega arith, tt);
-  heads_same = λ rs p. p;
-  fit = λ rs hold z. tt;
+  fit = λ rs hold z. (tt, tt);
   row_parts = λ rs hold z. tt;
 }
 
@@ -114,7 +106,6 @@ wide_facts net earlier system columns height index basis fits some many low high
   small = wide_small 4 system index (columns + height) basis (omega arith) fits (omega (arith, high, some, many)) (omega (arith, some, many)) rising;
   short = omega (arith, long, some);
   ranks = λ long. tt;
-  is_head = (_, inr (inr (inr (inr (inl refl)))));
   few = omega arith;
   may = gap;
   below_is = refl;
@@ -123,10 +114,8 @@ wide_facts net earlier system columns height index basis fits some many low high
   heads_are = refl;
   rows_are = λ rs. refl;
   trees_are = refl;
-  tight_is = λ rs. refl;
   head_parts = tt;
-  heads_same = λ rs p. p;
-  fit = λ rs hold z. tt;
+  fit = λ rs hold z. (tt, tt);
   row_parts = λ rs hold z. tt;
 }
 
@@ -142,7 +131,6 @@ spent_facts net earlier k range =
       small = (omega arith, one_small k (omega (arith, range.1)));
       short = omega arith;
       ranks = λ long. tt;
-      is_head = (_, inr (inr (inr (inr (inr (inl refl))))));
       few = omega arith;
       may = (range, tt);
       below_is = ap (λ (p : ℕ). rows Q13 (shapes_of known) p (pos k ∷ [])) place;
@@ -151,10 +139,8 @@ spent_facts net earlier k range =
       heads_are = refl;
       rows_are = λ rs. refl;
       trees_are = refl;
-      tight_is = λ rs. refl;
       head_parts = tt;
-      heads_same = λ rs p. p;
-      fit = λ rs hold z. tt;
+      fit = λ rs hold z. (tt, tt);
       row_parts = λ rs hold z. tt;
     })
 
@@ -166,7 +152,6 @@ rests_facts net earlier =
       small = (omega arith, one_small 12 (omega arith));
       short = omega arith;
       ranks = λ long. tt;
-      is_head = (_, inr (inr (inr (inr (inr (inr refl))))));
       few = omega arith;
       may = ((omega arith, omega arith), tt);
       below_is = ap (λ (p : ℕ). rows Q13 (shapes_of known) p (pos 12 ∷ [])) place;
@@ -175,10 +160,8 @@ rests_facts net earlier =
       heads_are = refl;
       rows_are = λ rs. refl;
       trees_are = refl;
-      tight_is = λ rs. refl;
       head_parts = tt;
-      heads_same = λ rs p. p;
-      fit = λ rs hold z. tt;
+      fit = λ rs hold z. (tt, tt);
       row_parts = λ rs hold z. tt;
     })
 

@@ -18,7 +18,6 @@ zero_yes_facts net earlier = record {
   small = (omega arith, one_small 1 (omega arith));
   short = omega arith;
   ranks = λ long. tt;
-  is_head = (_, inl refl);
   few = omega arith;
   may = ((omega arith, omega arith), tt);
   below_is = refl;
@@ -27,10 +26,8 @@ zero_yes_facts net earlier = record {
   heads_are = refl;
   rows_are = λ rs. refl;
   trees_are = refl;
-  tight_is = λ rs. refl;
   head_parts = (omega arith, (omega arith, tt));
-  heads_same = λ rs p. p;
-  fit = λ rs hold z. tt;
+  fit = λ rs hold z. (tt, tt);
   row_parts = λ rs hold z. tt;
 }
 
@@ -39,7 +36,6 @@ zero_other_facts net earlier = record {
   small = (omega arith, one_small 0 (omega arith));
   short = omega arith;
   ranks = λ long. tt;
-  is_head = (_, inl refl);
   few = omega arith;
   may = ((omega arith, omega arith), tt);
   below_is = refl;
@@ -48,10 +44,8 @@ zero_other_facts net earlier = record {
   heads_are = refl;
   rows_are = λ rs. refl;
   trees_are = refl;
-  tight_is = λ rs. refl;
   head_parts = (omega arith, (omega arith, tt));
-  heads_same = λ rs p. p;
-  fit = λ rs hold z. tt;
+  fit = λ rs hold z. (tt, tt);
   row_parts = λ rs hold z. tt;
 }
 
@@ -60,7 +54,6 @@ zero_no_facts net earlier d network range = record {
   small = (omega arith, one_small d (let few = network.partial.complexes_limit in omega (arith, few, range.1)));
   short = omega arith;
   ranks = λ long. tt;
-  is_head = (_, inr (inl refl));
   few = omega arith;
   may = (range, tt);
   below_is = refl;
@@ -69,10 +62,8 @@ zero_no_facts net earlier d network range = record {
   heads_are = refl;
   rows_are = λ rs. refl;
   trees_are = refl;
-  tight_is = λ rs. refl;
   head_parts = (omega arith, (omega arith, tt));
-  heads_same = λ rs p. p;
-  fit = λ rs hold z. tt;
+  fit = λ rs hold z. (tt, tt);
   row_parts = λ rs hold z. tt;
 }
 
@@ -81,7 +72,6 @@ zero_rests_facts net earlier = record {
   small = (omega arith, one_small 5 (omega arith));
   short = omega arith;
   ranks = λ long. tt;
-  is_head = (_, inr (inr refl));
   few = omega arith;
   may = ((omega arith, omega arith), tt);
   below_is = refl;
@@ -90,10 +80,8 @@ zero_rests_facts net earlier = record {
   heads_are = refl;
   rows_are = λ rs. refl;
   trees_are = refl;
-  tight_is = λ rs. refl;
   head_parts = tt;
-  heads_same = λ rs p. p;
-  fit = λ rs hold z. tt;
+  fit = λ rs hold z. (tt, tt);
   row_parts = λ rs hold z. tt;
 }
 
@@ -102,7 +90,6 @@ one_yes_facts net earlier = record {
   small = (omega arith, tt);
   short = omega arith;
   ranks = λ long. tt;
-  is_head = (_, inl refl);
   few = omega arith;
   may = tt;
   below_is = refl;
@@ -111,10 +98,8 @@ one_yes_facts net earlier = record {
   heads_are = refl;
   rows_are = λ rs. refl;
   trees_are = refl;
-  tight_is = λ rs. refl;
   head_parts = (omega arith, tt);
-  heads_same = λ rs p. p;
-  fit = λ rs hold z. tt;
+  fit = λ rs hold z. (tt, tt);
   row_parts = λ rs hold z. tt;
 }
 
@@ -123,7 +108,6 @@ one_split_facts net earlier k m network least a b = record {
   small = (omega arith, (omega (arith, least, a.1), one_small m (let few = network.partial.complexes_limit in omega (arith, few, b.1))));
   short = omega arith;
   ranks = λ long. tt;
-  is_head = (_, inr (inl refl));
   few = omega arith;
   may = (a, (b, tt));
   below_is = refl;
@@ -132,10 +116,8 @@ one_split_facts net earlier k m network least a b = record {
   heads_are = refl;
   rows_are = λ rs. refl;
   trees_are = refl;
-  tight_is = λ rs. refl;
   head_parts = (omega arith, tt);
-  heads_same = λ rs p. p;
-  fit = λ rs hold z. tt;
+  fit = λ rs hold z. (tt, tt);
   row_parts = λ rs hold z. tt;
 }
 
@@ -144,7 +126,6 @@ one_large_facts net earlier k m network least a b = record {
   small = (omega arith, (omega (arith, least, a.1), one_small m (let few = network.partial.complexes_limit in omega (arith, few, b.1))));
   short = omega arith;
   ranks = λ long. tt;
-  is_head = (_, inr (inr (inl refl)));
   few = omega arith;
   may = (a, (b, tt));
   below_is = refl;
@@ -153,10 +134,8 @@ one_large_facts net earlier k m network least a b = record {
   heads_are = refl;
   rows_are = λ rs. refl;
   trees_are = refl;
-  tight_is = λ rs. refl;
   head_parts = (omega arith, tt);
-  heads_same = λ rs p. p;
-  fit = λ rs hold z. tt;
+  fit = λ rs hold z. (tt, tt);
   row_parts = λ rs hold z. tt;
 }
 
@@ -165,7 +144,6 @@ one_sum_facts net earlier x network range = record {
   small = (omega arith, one_small x (let few = network.partial.complexes_limit in omega (arith, few, range.1)));
   short = omega arith;
   ranks = λ long. tt;
-  is_head = (_, inr (inr (inr (inl refl))));
   few = omega arith;
   may = (range, tt);
   below_is = refl;
@@ -174,10 +152,8 @@ one_sum_facts net earlier x network range = record {
   heads_are = refl;
   rows_are = λ rs. refl;
   trees_are = refl;
-  tight_is = λ rs. refl;
   head_parts = (omega arith, tt);
-  heads_same = λ rs p. p;
-  fit = λ rs hold z. tt;
+  fit = λ rs hold z. (tt, tt);
   row_parts = λ rs hold z. tt;
 }
 
@@ -186,7 +162,6 @@ one_rests_facts net earlier = record {
   small = (omega arith, one_small 6 (omega arith));
   short = omega arith;
   ranks = λ long. tt;
-  is_head = (_, inr (inr (inr (inr refl))));
   few = omega arith;
   may = ((omega arith, omega arith), tt);
   below_is = refl;
@@ -195,10 +170,8 @@ one_rests_facts net earlier = record {
   heads_are = refl;
   rows_are = λ rs. refl;
   trees_are = refl;
-  tight_is = λ rs. refl;
   head_parts = tt;
-  heads_same = λ rs p. p;
-  fit = λ rs hold z. tt;
+  fit = λ rs hold z. (tt, tt);
   row_parts = λ rs hold z. tt;
 }
 

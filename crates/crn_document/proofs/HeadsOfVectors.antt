@@ -12,7 +12,6 @@ dependence_wide_facts net earlier index basis network low high long rising = rec
   small = wide_small 3 2 index (length net.reactions + length net.names) basis (omega arith) (omega arith) (let s0 = network.partial.species_limit in let r0 = network.partial.reactions_limit in omega (arith, high, s0, r0)) (let s0 = network.partial.species_limit in let r0 = network.partial.reactions_limit in omega (arith, s0, r0)) rising;
   short = (let s0 = network.partial.species_limit in let r0 = network.partial.reactions_limit in omega (arith, long, s0, r0));
   ranks = λ long. tt;
-  is_head = (_, inr (inr refl));
   few = omega arith;
   may = ((refl, refl, wide_basis (length net.reactions) (length net.names) index basis low high long rising), tt);
   below_is = refl;
@@ -21,10 +20,8 @@ dependence_wide_facts net earlier index basis network low high long rising = rec
   heads_are = refl;
   rows_are = λ rs. refl;
   trees_are = refl;
-  tight_is = λ rs. refl;
   head_parts = tt;
-  heads_same = λ rs p. p;
-  fit = λ rs hold z. tt;
+  fit = λ rs hold z. (tt, tt);
   row_parts = λ rs hold z. tt;
 }
 
@@ -33,7 +30,6 @@ law_wide_facts net earlier index basis network low high long rising = record {
   small = wide_small 3 1 index (length net.names + length net.reactions) basis (omega arith) (omega arith) (let s0 = network.partial.species_limit in let r0 = network.partial.reactions_limit in omega (arith, high, s0, r0)) (let s0 = network.partial.species_limit in let r0 = network.partial.reactions_limit in omega (arith, s0, r0)) rising;
   short = (let s0 = network.partial.species_limit in let r0 = network.partial.reactions_limit in omega (arith, long, s0, r0));
   ranks = λ long. tt;
-  is_head = (_, inr (inr refl));
   few = omega arith;
   may = ((refl, refl, wide_basis (length net.names) (length net.reactions) index basis low high long rising), tt);
   below_is = refl;
@@ -42,10 +38,8 @@ law_wide_facts net earlier index basis network low high long rising = record {
   heads_are = refl;
   rows_are = λ rs. refl;
   trees_are = refl;
-  tight_is = λ rs. refl;
   head_parts = tt;
-  heads_same = λ rs p. p;
-  fit = λ rs hold z. tt;
+  fit = λ rs hold z. (tt, tt);
   row_parts = λ rs hold z. tt;
 }
 
@@ -54,7 +48,6 @@ dependence_facts net earlier = record {
   small = (omega arith, tt);
   short = omega arith;
   ranks = λ long. tt;
-  is_head = (_, inl refl);
   few = omega arith;
   may = tt;
   below_is = refl;
@@ -63,10 +56,8 @@ dependence_facts net earlier = record {
   heads_are = refl;
   rows_are = λ rs. refl;
   trees_are = refl;
-  tight_is = λ rs. refl;
   head_parts = tt;
-  heads_same = λ rs p. p;
-  fit = λ rs hold z. tt;
+  fit = λ rs hold z. (tt, tt);
   row_parts = λ rs hold z. (omega arith, tt);
 }
 
@@ -75,7 +66,6 @@ no_dependence_facts net earlier = record {
   small = (omega arith, tt);
   short = omega arith;
   ranks = λ long. tt;
-  is_head = (_, inr (inl refl));
   few = omega arith;
   may = tt;
   below_is = refl;
@@ -84,10 +74,8 @@ no_dependence_facts net earlier = record {
   heads_are = refl;
   rows_are = λ rs. refl;
   trees_are = refl;
-  tight_is = λ rs. refl;
   head_parts = tt;
-  heads_same = λ rs p. p;
-  fit = λ rs hold z. tt;
+  fit = λ rs hold z. (tt, tt);
   row_parts = λ rs hold z. (omega arith, tt);
 }
 
@@ -96,7 +84,6 @@ law_facts net earlier = record {
   small = (omega arith, tt);
   short = omega arith;
   ranks = λ long. tt;
-  is_head = (_, inl refl);
   few = omega arith;
   may = tt;
   below_is = refl;
@@ -105,10 +92,8 @@ law_facts net earlier = record {
   heads_are = refl;
   rows_are = λ rs. refl;
   trees_are = refl;
-  tight_is = λ rs. refl;
   head_parts = tt;
-  heads_same = λ rs p. p;
-  fit = λ rs hold z. tt;
+  fit = λ rs hold z. (tt, tt);
   row_parts = λ rs hold z. (omega arith, tt);
 }
 
@@ -117,7 +102,6 @@ no_law_facts net earlier = record {
   small = (omega arith, tt);
   short = omega arith;
   ranks = λ long. tt;
-  is_head = (_, inr (inl refl));
   few = omega arith;
   may = tt;
   below_is = refl;
@@ -126,10 +110,8 @@ no_law_facts net earlier = record {
   heads_are = refl;
   rows_are = λ rs. refl;
   trees_are = refl;
-  tight_is = λ rs. refl;
   head_parts = tt;
-  heads_same = λ rs p. p;
-  fit = λ rs hold z. tt;
+  fit = λ rs hold z. (tt, tt);
   row_parts = λ rs hold z. (omega arith, tt);
 }
 

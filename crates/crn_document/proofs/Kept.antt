@@ -98,13 +98,6 @@ sides_new net n es new v old sides keep built is eleven shown below =
           absurd cc;
     }
 
--- nothing is said before the first verdict
-pub no_sides : (net : Net) (es : Earlier) (sides : List (List ℤ)) → es ≡ [] → KeepSides net es sides
-no_sides net es sides none = subst (λ (x : Earlier). KeepSides net x sides) (sym none) (record {
-  are_sides = λ y. let no : NotApplicable ≡ Yes = y in absurd cc;
-  with_vector = λ some. absurd cc;
-})
-
 -- what is kept of the sides after a verdict
 pub sides_after : (net : Net) (n : ℕ) (facts : KeptFacts) (new : Earlier) (v : Verdict) (old sides : List (List ℤ)) → KeepSides net facts.earlier old → IsBuilt n → IsKnown net (before n) facts → new ≡ facts.earlier ++ (asked n, v) ∷ [] → (n ≡ 11 → v ≡ Yes → AreSides net sides) → ((n ≡ 11 → ⊥) → sides ≡ old) → (n ≡ 12 → IsSome (vector_given v) → on facts.earlier Q11 ≡ Yes) → KeepSides net new sides
 sides_after net n facts new v old sides keep built known is shown same vector =

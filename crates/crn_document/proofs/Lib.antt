@@ -19,6 +19,7 @@ mod Said
 mod Bodies
 mod Documents
 mod Codes
+mod HeadKinds
 mod CoursesFollowed
 mod DueTrees
 mod NodeRecords
@@ -28,6 +29,5 @@ mod TreesBelow
 mod SignalsKnown
 mod SignalTrees
 mod Kept
-mod SignalSaid
 mod Digits
 mod Naming

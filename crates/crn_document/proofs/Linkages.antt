@@ -1,7 +1,7 @@
 -- The linkage classes that are known before a block, by the verdicts on all questions before it.
-use Rattle.std.proofs.Common.{◌≡◌, ◌≤◌, ◌+◌, ◌-◌, ◌++◌, ◌∙◌, ℕ, zero, suc, Bool, true, false, List, [], ◌∷◌, length, map, drop, refl, sym, subst, ap, inl, inr, arith}
+use Rattle.std.proofs.Common.{◌≡◌, ◌≤◌, ◌+◌, ◌-◌, ◌++◌, ◌∙◌, ℕ, zero, suc, Bool, List, [], ◌∷◌, length, map, drop, refl, sym, subst, ap, inl, inr, arith}
 use Rattle.std.specs.Prelude.{codes, filter, replicate, ◌&&◌, ◌⊎◌}
-use Rattle.std.proofs.Common.{cond, ap₂, append_assoc, Result, Ok, Err, OnOk, Bor}
+use Rattle.std.proofs.Common.{ap₂, append_assoc, Result, Ok, Err, OnOk, Bor}
 use Rattle.std.specs.List.{AllByRecursion, range_with_len}
 use Rattle.std.proofs.lemmas.List.Elements.{filter-append}
 use Rattle.std.proofs.lemmas.List.FromFn.{length-range_with_len, length-map-range_with_len}
@@ -126,10 +126,6 @@ pub filter_step : (net : Net) (labels : List ℕ) (k n : ℕ) → filter (λ r. 
 filter_step net labels k n =
     let p : ℕ → Bool = λ r. is_in_class net labels k r in
     ap (λ (t : List ℕ). filter p t) (range_more 1 n (n + 1) (omega arith)) ∙ filter-append p (range_with_len 1 n) ((n + 1) ∷ [])
-
-le_cons : (b : Bool) (x : ℕ) (xs ys : List ℕ) → length ys ≤ length xs → length (cond b (x ∷ ys) ys) ≤ length (x ∷ xs)
-le_cons true x xs ys l = omega (arith, l)
-le_cons false x xs ys l = omega (arith, l)
 
 -- the linked pairs within terminal classes are some of the reactions
 pub pairs_few : (net : Net) (earlier : Earlier) → length (pair_places net earlier) ≤ length net.reactions

@@ -198,7 +198,3 @@ second_names version a s k word numbers r h i b c d g =
 -- one number that names one of few lists is small
 pub names_small : (k : ℕ) (zs : List ℤ) → k < 2 ^ 32 → NamesOne k zs → AreSmall zs
 names_small k zs lt h = subst AreSmall (sym h.1) (omega (arith, h.2.1, lt), tt)
-
--- and the place that it names
-pub names_place : (k : ℕ) (zs : List ℤ) → NamesOne k zs → (1 ≤ number zs 0) × (number zs 0 ≤ k)
-names_place k zs h = subst (λ (ys : List ℤ). (1 ≤ number ys 0) × (number ys 0 ≤ k)) (sym h.1) h.2

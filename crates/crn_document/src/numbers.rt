@@ -1,7 +1,9 @@
-ghost use Rattle.std.specs.Prelude.{◌≡◌, [], nat_abs, drop, pos, slice_index_or, IfOk};
+ghost use Rattle.std.specs.Prelude.{◌≡◌, ◌≤◌, nat_abs, drop, length, pos, slice_index_or, IfOk};
 ghost use Rattle.crn_ctext.specs.Meaning.{number, nums, ints};
-ghost use Rattle.crn_document.specs.Inner.Answer.{IsSmall, AreSmall};
+ghost use Rattle.crn_ctext.specs.Questions.{later_numbers};
+ghost use Rattle.crn_document.specs.Inner.Answer.{AreSmall, IsSmall, row};
 
+use crn_cert::Rows;
 use crn_vec::{Ints, NoMemory, Nums};
 use std::alloc::Global;
 
@@ -34,6 +36,25 @@ pub(crate) fn number_of(row: &[i128], i: usize) -> u32
     }
 }
 
+// The numbers of a record after the first.
+pub(crate) fn later_numbers(row: &[i128]) -> &[i128]
+    ensures are { result.now ≡ later_numbers row.now }
+    ensures small { AreSmall row.now → AreSmall result.now }
+    ensures short { length result.now ≤ length row.now }
+{
+    match row {
+        [_, later @ ..] => later,
+        _ => &[],
+    }
+}
+
+// The numbers of a record without the first `count`.
+pub(crate) fn after(row: &[i128], count: usize) -> &[i128]
+    ensures { result.now ≡ drop count row.now }
+{
+    row.get(count..).unwrap_or(&[])
+}
+
 // The absolute values of the numbers of a record, which are small.
 pub(crate) fn nums_of(alloc: Global, row: &[i128]) -> Result<Nums, NoMemory>
     requires { AreSmall row.now }
@@ -46,30 +67,27 @@ pub(crate) fn nums_of(alloc: Global, row: &[i128]) -> Result<Nums, NoMemory>
     Ok(Nums::from_vec(items))
 }
 
-// The numbers of a record.
-pub(crate) fn ints_of(alloc: Global, row: &[i128]) -> Result<Ints, NoMemory>
-    ensures { IfOk result (λ made. made ≡ ints row.now) }
+// The numbers of the record at this place, counted from 0, and none if there is no such record.
+pub(crate) fn row_at(rows: &Rows, i: usize) -> &[i128]
+    ensures { result.now ≡ row rows.now i }
 {
-    Ints::from_slice(alloc, row)
+    if i < rows.len() {
+        return rows.row(i);
+    }
+    &[]
 }
 
-// A list without numbers. It takes no memory.
-pub(crate) fn no_nums(alloc: Global) -> Nums
-    ensures { result ≡ nums [] }
+// The absolute values of the numbers of that record, which are small.
+pub(crate) fn nums_at(alloc: Global, rows: &Rows, i: usize) -> Result<Nums, NoMemory>
+    requires { AreSmall (row rows.now i) }
+    ensures { IfOk result (λ made. made ≡ nums (row rows.now i)) }
 {
-    Nums::from_vec(Vec::new(alloc))
+    nums_of(alloc, row_at(rows, i))
 }
 
-// A list without signed numbers. It takes no memory.
-pub(crate) fn no_ints(alloc: Global) -> Ints
-    ensures { result ≡ ints [] }
+// The numbers of that record as a list.
+pub(crate) fn ints_at(alloc: Global, rows: &Rows, i: usize) -> Result<Ints, NoMemory>
+    ensures { IfOk result (λ made. made ≡ ints (row rows.now i)) }
 {
-    Ints::from_vec(Vec::new(alloc))
-}
-
-// The numbers of a head without the first `count`.
-pub(crate) fn after(head: &[i128], count: usize) -> &[i128]
-    ensures { result.now ≡ drop count head.now }
-{
-    head.get(count..).unwrap_or(&[])
+    Ints::from_slice(alloc, row_at(rows, i))
 }

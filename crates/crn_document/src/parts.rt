@@ -2,15 +2,14 @@ ghost use Rattle.std.specs.Prelude.{◌≡◌, ◌≤◌, ◌<◌, ◌+◌, ◌*
 ghost use Rattle.crn_vec.specs.Network.{IsNetwork};
 ghost use Rattle.crn_vec.specs.declared.limits.TheConstants.{MAX_COMPLEXES};
 ghost use Rattle.crn_io.specs.declared.lines.TheConstants.{MAX_NUMBERS};
-ghost use Rattle.crn_cert.specs.Questions.{Q5, Q6};
-ghost use Rattle.crn_ctext.specs.Meaning.{number};
-ghost use Rattle.crn_ctext.specs.Questions.{later_numbers};
 ghost use Rattle.crn_check.specs.Check.{IsBuilt};
 ghost use Rattle.crn_document.specs.Inner.Answer.{AreSmall};
-ghost use Rattle.crn_document.specs.Inner.Parts.{class_part, class_parts, class_counts, parts_at, parts_below};
+ghost use Rattle.crn_document.specs.Inner.Parts.{class_part, class_parts, class_counts, parts_below, parts_by};
 
+use crate::kind::kind_at;
 use crate::linkage::{complexes_of, count_members};
-use crate::numbers::{number_of, small};
+use crate::numbers::{later_numbers, number_of, small};
+use crn_cert::HeadKind;
 use crn_io::NoMemory;
 use crn_net::Network;
 use crn_vec::Nums;
@@ -62,50 +61,36 @@ fn push_classes(
     }
 }
 
-// The deficiencies that a head says.
-fn deficiencies_in(head: &[i128]) -> &[i128]
-    ensures { result.now ≡ later_numbers (later_numbers head.now) }
-{
-    match head {
-        [_, _, rest @ ..] => rest,
-        _ => &[],
-    }
-}
-
-// The rank that the records below a decided head of question 5 prove.
-fn rank_parts(alloc: Global, net: &Network, head: &[i128]) -> Result<Vec<Part>, NoMemory>
-    requires small { AreSmall head.now }
-    requires decided { number head.now 0 ≡ 1 }
-    ensures { IfOk result (λ parts. parts.items
-        ≡ parts_at net.now [] Q5 (number head.now 0) (later_numbers head.now)) }
-{
-    let mut parts = Vec::new(alloc);
-    parts.push(Part {
-        class: 0,
-        rank: number_of(head, 1),
-        count: net.reactions() as u32,
-    })?;
-    Ok(parts)
-}
-
-// The ranks that the records below a decided head of question 6 prove.
-fn classes_parts(
+// The ranks that the records below a head of this kind with these numbers prove.
+fn parts_by(
     alloc: Global,
     net: &Network,
     labels: &[u32],
+    kind: HeadKind,
     head: &[i128],
 ) -> Result<Vec<Part>, NoMemory>
     requires network { IsNetwork net.now }
     requires few { length labels.now ≤ MAX_COMPLEXES }
     requires small { AreSmall head.now }
     requires short { length head.now ≤ 2 * MAX_NUMBERS }
-    requires decided { number head.now 0 ≡ 1 }
-    ensures { IfOk result (λ parts. parts.items
-        ≡ parts_at net.now labels.now Q6 (number head.now 0) (later_numbers head.now)) }
+    ensures { IfOk result (λ parts. parts.items ≡ parts_by net.now labels.now kind head.now) }
 {
     let mut parts = Vec::new(alloc);
-    push_classes(net, labels, 1, deficiencies_in(head), &mut parts)?;
-    Ok(parts)
+    match kind {
+        HeadKind::Rank => {
+            parts.push(Part {
+                class: 0,
+                rank: number_of(head, 0),
+                count: net.reactions() as u32,
+            })?;
+            Ok(parts)
+        }
+        HeadKind::Deficiency => {
+            push_classes(net, labels, 1, later_numbers(head), &mut parts)?;
+            Ok(parts)
+        }
+        _ => Ok(parts),
+    }
 }
 
 // The ranks that the records below a head prove.
@@ -124,14 +109,8 @@ pub(crate) fn parts_of(
     ensures { IfOk result (λ parts. parts.items
         ≡ parts_below net.now labels.now question head.now) }
 {
-    if number_of(head, 0) != 1 {
-        return Ok(Vec::new(alloc));
-    }
-    match question {
-        5 => rank_parts(alloc, net, head),
-        6 => classes_parts(alloc, net, labels, head),
-        _ => Ok(Vec::new(alloc)),
-    }
+    let kind = kind_at(question, number_of(head, 0));
+    parts_by(alloc, net, labels, kind, later_numbers(head))
 }
 
 // Adds how many reactions each of this many linkage classes has, from this class on.

@@ -8,14 +8,15 @@ use Rattle.crn_vec.specs.Network.{Net, IsNetwork}
 use Rattle.crn_vec.specs.Deficiency.{class_members}
 use Rattle.crn_vec.specs.declared.limits.TheConstants.{MAX_COMPLEXES}
 use Rattle.crn_cert.specs.Built.{built}
-use Rattle.crn_cert.specs.Questions.{Earlier, Question, Q5, Q6, number as number_of}
+use Rattle.crn_cert.specs.declared.head_kind.HeadKind.{HeadKind}
+use Rattle.crn_cert.specs.declared.head_kind.HeadKind.TheVariants.{Rank, Deficiency}
+use Rattle.crn_cert.specs.Questions.{Earlier, Question, number as number_of}
 use Rattle.crn_cert.specs.Valid.{linkage, linkage_count}
 use Rattle.crn_ctext.specs.Questions.{first_number, later_numbers}
-use Rattle.crn_ctext.specs.Meaning.{number}
 use Rattle.crn_check.specs.Facts.{KeptFacts, AreFactsOf, asked}
 use Rattle.crn_document.specs.declared.linkage.Linkage.{Linkage}
 use Rattle.crn_document.specs.declared.parts.Part.{Part}
-use Rattle.crn_document.specs.Inner.Answer.{AreSmall}
+use Rattle.crn_document.specs.Inner.Answer.{AreSmall, kind_of}
 
 -- the questions that are answered before this one
 abbrev pub before : (question : ℕ) → List Question
@@ -63,20 +64,20 @@ class_parts net labels k [] = []
 class_parts net labels k (z ∷ zs) =
     class_part net labels k (nat_abs z) ∷ class_parts net labels (suc k) zs
 
--- the ranks that the records below a head prove, by the place of its form and its numbers
-abbrev pub parts_at : Net → List ℕ → Question → (place : ℕ) → List ℤ → List Part
-parts_at net labels Q5 (suc zero) n = record {
+-- the ranks that the records below a head of this kind with these numbers prove
+abbrev pub parts_by : Net → List ℕ → HeadKind → (head : List ℤ) → List Part
+parts_by net labels Rank n = record {
   class = 0;
   rank = first_number n;
   count = length net.reactions;
 } ∷ []
-parts_at net labels Q6 (suc zero) n = class_parts net labels 1 (later_numbers n)
-parts_at net labels q place n = []
+parts_by net labels Deficiency n = class_parts net labels 1 (later_numbers n)
+parts_by net labels kind n = []
 
 -- the same, by the numbers after the place of the form
 abbrev pub parts_below : Net → List ℕ → (question : ℕ) → List ℤ → List Part
 parts_below net labels question head =
-    parts_at net labels (asked question) (number head 0) (later_numbers head)
+    parts_by net labels (kind_of (asked question) head) (later_numbers head)
 
 -- how many reactions each of this many linkage classes has, from this one on
 abbrev pub class_counts : Net → List ℕ → (k count : ℕ) → List ℕ

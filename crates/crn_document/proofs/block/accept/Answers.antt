@@ -23,10 +23,6 @@ use Rattle.crn_cert.specs.Verdicts.{tight}
 use Rattle.crn_check.specs.declared.fault.CheckFault.{CheckFault}
 use Rattle.crn_document.proofs.block.accept.Goals as goal
 
-pub answer_of-requires-clause-head : goal.answer_of-requires-clause-head
-answer_of-requires-clause-head c =
-    let f = said_facts c.args.net.now c.args.question c.args.checked.now.facts c.args.head.now c.requires.block.0 c.requires.built c.requires.ready.known (let b = c.requires.block.2 in b.is_head) in f.is_head
-
 pub answer_of-requires-clause-small : goal.answer_of-requires-clause-small
 answer_of-requires-clause-small c =
     let f = said_facts c.args.net.now c.args.question c.args.checked.now.facts c.args.head.now c.requires.block.0 c.requires.built c.requires.ready.known (let b = c.requires.block.2 in b.is_head) in f.small
@@ -48,7 +44,7 @@ check_records-requires-clause-heads c =
     let rs = c.requires.block.1 in
     let b = c.requires.block.2 in
     let is = said_answer net facts.earlier n head c.args.parts.now rows h rs c.in_ok-answer.answer b c.requires.parts c.in_ok-answer.ensures.verdict c.in_ok-answer.ensures.proof in
-    answer_heads net n facts head rows h rs a c.requires.built c.requires.ready.known c.requires.heads b is
+    answer_heads net facts.earlier n head rs a c.requires.heads is
 
 pub check_records-requires-clause-formed : goal.check_records-requires-clause-formed
 check_records-requires-clause-formed c =
@@ -75,9 +71,8 @@ check_records-requires-clause-treeless c =
     let h = c.requires.block.0 in
     let rs = c.requires.block.1 in
     let b = c.requires.block.2 in
-    let f = said_facts net n facts head h c.requires.built c.requires.ready.known b.is_head in
     let is = said_answer net facts.earlier n head c.args.parts.now rows h rs c.in_ok-answer.answer b c.requires.parts c.in_ok-answer.ensures.verdict c.in_ok-answer.ensures.proof in
-    answer_treeless net facts.earlier n a (λ tree shown. c.requires.treeless tree (shown_first n head rs tree f.is_head (sym is.verdict_is ∙ shown)))
+    answer_treeless net facts.earlier n a (λ tree shown. c.requires.treeless tree (shown_first n head rs tree (sym is.verdict_is ∙ shown)))
     (answer_formed net n facts head rows h rs a c.requires.treeless c.requires.built c.requires.ready.known c.requires.heads b is)
 
 pub returns-in-Ok-clause-step : goal.returns-in-Ok-clause-step
@@ -111,9 +106,9 @@ returns-in-Ok-clause-ready c =
     let judged : AllHold (tests_of net facts.earlier (asked n) a) = subst (λ (r : Result (Unit {0}) CheckFault). Judges (tests_of net facts.earlier (asked n) a) r) c.in-Ok.is c.in_ok-check_records.ensures.judged in
     let kept = subst (λ (r : Result (Unit {0}) CheckFault). OnOk r (c.check_records.new.checked.facts.earlier ≡ facts.earlier ++ (asked n, tight a.verdict) ∷ [])) c.in-Ok.is c.in_ok-check_records.ensures.accepted in
     let new : c.keep_sides.new.checked.facts.earlier ≡ facts.earlier ++ (asked n, tight a.verdict) ∷ [] = ap (λ (f : KeptFacts). f.earlier) c.keep_sides.ensures.facts ∙ kept in
-    let tight_is = answer_tight net n facts head rows h rs a c.requires.built known b is in
+    let tight_is = answer_tight net facts.earlier n head rs a is in
     let formed = answer_formed net n facts head rows h rs a c.requires.treeless c.requires.built known c.requires.heads b is in
-    let heads = answer_heads net n facts head rows h rs a c.requires.built known c.requires.heads b is in
+    let heads = answer_heads net facts.earlier n head rs a c.requires.heads is in
     record {
       known = record {
         network = known.network;

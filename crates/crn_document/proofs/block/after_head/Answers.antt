@@ -9,7 +9,7 @@ use Rattle.crn_ctext.specs.Course.{◌>>=◌}
 use Rattle.crn_ctext.specs.Course as course
 use Rattle.crn_ctext.proofs.CallerLemmas.{fails_before}
 use Rattle.crn_check.specs.Facts.{asked}
-use Rattle.crn_document.specs.Inner.Answer.{AreSmall, IsHeadOf}
+use Rattle.crn_document.specs.Inner.Answer.{AreSmall}
 use Rattle.crn_document.specs.Inner.Heads.{IsHead}
 use Rattle.crn_document.specs.Inner.Blocks.{IsAfter, after_at, head_course, rows_course}
 use Rattle.crn_reading.specs.Steps.{StepIs}
@@ -18,11 +18,6 @@ use Rattle.crn_document.proofs.Places.{needs_at}
 use Rattle.crn_reading.proofs.CallerLemmas.{step_then_is, tests_give, tests_fail}
 use Rattle.crn_document.proofs.Blocks.{claims_fail, claims_hold, head_course_by, said_verdict}
 use Rattle.crn_document.proofs.block.after_head.Goals as goal
-
-pub bare_verdict-requires-clause-head : goal.bare_verdict-requires-clause-head
-bare_verdict-requires-clause-head g c =
-    let f = said_facts c.args.net.now c.args.question c.args.checked.now.facts c.args.at.now.numbers.list c.requires.head.0 c.requires.built c.requires.ready.known c.requires.head.1 in
-    subst (λ (zs : List ℤ). IsHeadOf (asked c.args.question) zs) (sym (c.as_slice-2.ensures ∙ c.in_ok-head.ensures.list ∙ c.as_slice.ensures)) f.is_head
 
 pub bare_verdict-requires-clause-small : goal.bare_verdict-requires-clause-small
 bare_verdict-requires-clause-small g c =

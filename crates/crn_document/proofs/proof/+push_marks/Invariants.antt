@@ -1,5 +1,5 @@
 use Rattle.std.proofs.Common.{◌-◌, length}
-use Rattle.crn_document.proofs.confluence.+push_marks.Given as goal
+use Rattle.crn_document.proofs.proof.+push_marks.Given as goal
 
 abbrev pub decreases-push_marks : goal.decreases-push_marks
 decreases-push_marks l = length l.rows.now - l.i

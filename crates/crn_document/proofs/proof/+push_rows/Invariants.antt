@@ -1,5 +1,5 @@
 use Rattle.std.proofs.Common.{◌-◌}
-use Rattle.crn_document.proofs.answer.+push_rows.Given as goal
+use Rattle.crn_document.proofs.proof.+push_rows.Given as goal
 
 abbrev pub decreases-push_rows : goal.decreases-push_rows
 decreases-push_rows l = l.end - l.i

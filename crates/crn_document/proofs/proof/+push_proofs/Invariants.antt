@@ -1,5 +1,5 @@
 use Rattle.std.proofs.Common.{length}
-use Rattle.crn_document.proofs.answer.+push_proofs.Given as goal
+use Rattle.crn_document.proofs.proof.+push_proofs.Given as goal
 
 abbrev pub decreases-push_proofs : goal.decreases-push_proofs
 decreases-push_proofs l = length l.parts.now

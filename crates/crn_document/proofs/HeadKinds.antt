@@ -1,0 +1,56 @@
+-- The kind of a head by its place, and verdicts by their kind.
+use Rattle.std.proofs.Common.{◌≡◌, ◌≤◌, ◌-◌, ◌++◌, ◌∙◌, ℕ, zero, suc, List, [], ◌∷◌, length, refl, sym, subst, ap, arith}
+use Rattle.std.specs.Prelude.{ℤ, slice_index_or}
+use Rattle.crn_vec.specs.Network.{Net}
+use Rattle.crn_cert.proofs.CallerLemmas.{tests_by_heads}
+use Rattle.crn_cert.specs.declared.answer.Verdict.{Verdict}
+use Rattle.crn_cert.specs.declared.head_kind.HeadKind.{HeadKind}
+use Rattle.crn_cert.specs.declared.head_kind.HeadKind.TheVariants.{Classes, Strong, Rank, Deficiency, Yes, YesWeak, YesVec, YesSignal, No, NoReaction, NoVec, NoNumber, NoTerminal, NoClass, NoSum, NoDependence, NoCycle, NoPair, NotRegular, OnlyZero, Plane, NotApplicable, Wide, Budget, Rests}
+use Rattle.crn_cert.specs.Heads.{bare}
+use Rattle.crn_cert.specs.Questions.{Earlier, Question}
+use Rattle.crn_cert.specs.Tests.{AllHold}
+use Rattle.crn_cert.specs.Valid.{head_tests}
+use Rattle.crn_cert.specs.Verdicts.{tight}
+use Rattle.crn_document.specs.Inner.Answer.{decided, kind_at, open_kinds, verdict_by}
+
+later_kind : (xs ys : List HeadKind) (i : ℕ) → length xs ≤ i → slice_index_or ys (i - length xs) Rests ≡ slice_index_or (xs ++ ys) i Rests
+later_kind [] ys i le = ap (λ (k : ℕ). slice_index_or ys k Rests) (omega arith)
+later_kind (x ∷ xs) ys zero le = absurd (omega (arith, le))
+later_kind (x ∷ xs) ys (suc i) le = ap (λ (k : ℕ). slice_index_or ys k Rests) (omega arith) ∙ later_kind xs ys i (omega (arith, le))
+
+pub open_kind : (q : Question) (place : ℕ) → (place ≡ 0 → ⊥) → length (decided q) ≤ place - 1 → slice_index_or open_kinds (place - 1 - length (decided q)) Rests ≡ kind_at q place
+open_kind q zero some le = absurd (some refl)
+open_kind q (suc i) some le = ap (λ (k : ℕ). slice_index_or open_kinds k Rests) (omega arith) ∙ later_kind (decided q) open_kinds i (omega (arith, le))
+
+-- a verdict is as it is kept, and without its lists it is that of its head
+pub tight_and_bare : (kind : HeadKind) (n : List ℤ) (r : List (List ℤ)) → (tight (verdict_by kind n r) ≡ verdict_by kind n r) × (bare (verdict_by kind n r) ≡ verdict_by kind n [])
+tight_and_bare Classes n r = (refl, refl)
+tight_and_bare Strong n r = (refl, refl)
+tight_and_bare Rank n r = (refl, refl)
+tight_and_bare Deficiency n r = (refl, refl)
+tight_and_bare Yes n r = (refl, refl)
+tight_and_bare YesWeak n r = (refl, refl)
+tight_and_bare YesVec n r = (refl, refl)
+tight_and_bare YesSignal n r = (refl, refl)
+tight_and_bare No n r = (refl, refl)
+tight_and_bare NoReaction n r = (refl, refl)
+tight_and_bare NoVec n r = (refl, refl)
+tight_and_bare NoNumber n r = (refl, refl)
+tight_and_bare NoTerminal n r = (refl, refl)
+tight_and_bare NoClass n r = (refl, refl)
+tight_and_bare NoSum n r = (refl, refl)
+tight_and_bare NoDependence n r = (refl, refl)
+tight_and_bare NoCycle n r = (refl, refl)
+tight_and_bare NoPair n r = (refl, refl)
+tight_and_bare NotRegular n r = (refl, refl)
+tight_and_bare OnlyZero n r = (refl, refl)
+tight_and_bare Plane n r = (refl, refl)
+tight_and_bare NotApplicable n r = (refl, refl)
+tight_and_bare Wide n r = (refl, refl)
+tight_and_bare Budget n r = (refl, refl)
+tight_and_bare Rests n r = (refl, refl)
+
+-- the tests of a head do not look at the lists
+pub heads_hold : (net : Net) (earlier : Earlier) (q : Question) (kind : HeadKind) (n : List ℤ) (r : List (List ℤ)) → AllHold (head_tests net earlier q (verdict_by kind n [])) → AllHold (head_tests net earlier q (verdict_by kind n r))
+heads_hold net earlier q kind n r h =
+    subst AllHold (sym (tests_by_heads net earlier q (verdict_by kind n r))) (subst (λ (v : Verdict). AllHold (head_tests net earlier q v)) (sym (tight_and_bare kind n r).1) h)
