@@ -19,7 +19,6 @@ mod Tight
 mod AllLaws
 mod Networks
 mod Examples
-mod GoodDocument
 mod WorkedRows
 mod Heads
 mod PairPlaces
