@@ -180,7 +180,8 @@ pub record IsCycle (net : Net) (r : ℕ) (walk : List ℕ) : Type 0 where
   pub no_cut_pair : IsCutPair net.reactions y z → ⊥
   pub shown : WalkLeads (IsFreeStep net.reactions y z) y walk z
 
--- the network is regular, or fails to be so in this way first
+-- the network is regular, or fails to be so by the first condition that fails, or by a cycle, beside
+-- which positive dependence may be open
 abbrev pub SaysRegular : Net → Verdict → Type 0
 SaysRegular net Yes = IsRegular net
 SaysRegular net (NoTerminal k count) = IsFirstSplitClass net k count
