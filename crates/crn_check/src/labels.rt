@@ -5,8 +5,8 @@ ghost use Rattle.crn_check.specs.Inner.Tests.{LeavesLabels};
 
 use crn_net::Network;
 
-// Whether the labels count from 1 by first appearance, up to the count.
-pub(crate) fn are_numbered(labels: &[u32], count: u32) -> bool
+/// Whether the labels count from 1 by first appearance, up to the count.
+pub fn are_numbered(labels: &[u32], count: u32) -> bool
     ensures { IsTrue result ↔ AreNumbered labels.now count }
 {
     let mut most = 0;

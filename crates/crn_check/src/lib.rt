@@ -37,4 +37,6 @@ mod zero;
 pub use check::{accept_tree, check_answer, check_head, check_signal_answer};
 pub use facts::Facts;
 pub use fault::CheckFault;
+pub use labels::are_numbered;
 pub use positive::{amount_change, is_conservation, rules_out_conservation, weight_change};
+pub use ranks::check_rank_proof;

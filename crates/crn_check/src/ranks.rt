@@ -1,4 +1,5 @@
 ghost use Rattle.std.specs.Prelude.{◌<◌, ◌^◌, ◌⊎◌, length};
+ghost use Rattle.std.specs.List.{range_with_len};
 ghost use Rattle.crn_vec.specs.Network.{IsNetwork};
 ghost use Rattle.crn_cert.specs.Formed.{IsFormedOf};
 ghost use Rattle.crn_cert.specs.Parts.{IsRankProof};
@@ -40,6 +41,18 @@ pub(crate) fn check_members(
     check_combs(net, members, base, skips, &proof.combs, first)
 }
 
+/// The tests of a proof of the rank of all reactions, in order; its base is record `part`. It takes no memory.
+pub fn check_rank_proof(net: &Network, part: u32, proof: &RankProof) -> Result<(), CheckFault>
+    requires network { IsNetwork net.now }
+    requires part { part < 2 ^ 30 }
+    requires proof { IsRankProof net.now (range_with_len 1 (length net.now.reactions))
+        (length proof.now.base.list) proof.now }
+    ensures { Judges (rank_tests net.now (range_with_len 1 (length net.now.reactions)) part
+        proof.now.base.list proof.now.duals proof.now.combs) result }
+{
+    check_members(net, &Members::All, part, proof, &mut no_skips())
+}
+
 // The tests of the records on the rank.
 pub(crate) fn check_rank(net: &Network, verdict: &Verdict, proof: &Proof) -> Result<(), CheckFault>
     requires network { IsNetwork net.now }
@@ -48,9 +61,7 @@ pub(crate) fn check_rank(net: &Network, verdict: &Verdict, proof: &Proof) -> Res
     ensures { Judges (rank_rows net.now verdict.now proof.now) result }
 {
     match (verdict, proof) {
-        (Verdict::Rank { .. }, Proof::Rank(proof)) => {
-            check_members(net, &Members::All, 1, proof, &mut no_skips())
-        }
+        (Verdict::Rank { .. }, Proof::Rank(proof)) => { check_rank_proof(net, 1, proof) }
         _ => Ok(()),
     }
 }
