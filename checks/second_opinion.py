@@ -28,6 +28,7 @@ NAMES = {
     27: "EndsEarly", 28: "AfterEnd", 29: "DocumentTooLong", 30: "LineTooLong", 31: "WrongClasses", 32: "WrongWalk",
     33: "NotIndependent", 34: "NotSpanned", 35: "BadVector", 36: "WrongNumber", 37: "WrongVerdict", 41: "BadLeaf",
     42: "NodeNotAllowed", 43: "TreeEndsEarly", 44: "TreeGoesOn", 45: "BadEvidence", 46: "WrongShape",
+    51: "NotSiphon", 52: "NotCovered", 53: "BadLaw", 54: "BadNode",
 }
 
 HEADS = [f"q{k}" for k in range(1, 16)]
@@ -805,6 +806,9 @@ class Rejected(Exception):
     def __init__(self, code, line):
         self.code, self.line = code, line
 
+    def said(self):
+        return f"rejected {self.code} {NAMES[self.code]} at line {self.line}\n"
+
 
 class Reading:
     """A document, read line by line."""
@@ -823,13 +827,38 @@ class Reading:
         line, self.at = self.text[self.at : end], end + 1
         return line
 
+    def words(self):
+        """The words of the document's version."""
+        return HEADS + ROWS + TREE[self.version] + (OF_VERSION_2 if self.version == 2 else [])
+
+    def opening(self, titles):
+        """The network: its lines and the two before them, of which the first is a title that gives the version."""
+        self.version = titles.get(self.due())
+        if not self.version:
+            raise Rejected(21, 1)
+        second = self.due().decode("latin-1")
+        if not re.fullmatch(r"network [1-9][0-9]{0,2}", second) or int(second[8:]) > MAX_REACTIONS:
+            raise Rejected(22, 2)
+        lines = b"".join([self.due() + b"\n" for _ in range(int(second[8:]))]).decode("latin-1")
+        net = read_network(lines)
+        if not net or net.canonical() != lines:
+            raise Rejected(22, self.number)
+        return net
+
+    def ending(self):
+        """The last line, after which nothing may follow."""
+        self.record([(["end"], none)])
+        rest = self.text[self.at :]
+        if rest:
+            end = rest.find(b"\n")
+            raise Rejected(30 if (end if end >= 0 else len(rest)) > MAX_LINE else 28, self.number + 1)
+
     def record(self, forms, misplaced=26):
         """The place of the form and the numbers of the next line. A form is a list of words and a test of numbers."""
         line, after_tree = self.due(43 if misplaced == 43 else 27), self.after_tree
         self.after_tree = False
         word = line.split(b" ")[0].decode("latin-1")
-        known = HEADS + ROWS + TREE[self.version] + (OF_VERSION_2 if self.version == 2 else [])
-        if word not in known:
+        if word not in self.words():
             raise Rejected(23, self.number)
         if all(form[0][0] != word for form in forms):
             raise Rejected(44 if after_tree and word in TREE[self.version] else misplaced, self.number)
@@ -1397,17 +1426,7 @@ def blocks_after(net, first):
 
 def check_document(text):
     at = Reading(text)
-    titles = {b"crn certificate 1": 1, b"crn certificate 2": 2}
-    at.version = titles.get(at.due())
-    if not at.version:
-        raise Rejected(21, 1)
-    second = at.due().decode("latin-1")
-    if not re.fullmatch(r"network [1-9][0-9]{0,2}", second) or int(second[8:]) > MAX_REACTIONS:
-        raise Rejected(22, 2)
-    lines = b"".join([at.due() + b"\n" for _ in range(int(second[8:]))]).decode("latin-1")
-    net = read_network(lines)
-    if not net or net.canonical() != lines:
-        raise Rejected(22, at.number)
+    net = at.opening({b"crn certificate 1": 1, b"crn certificate 2": 2})
     known, said = {}, {}
     if at.version == 2:
         _, (count,) = at.record([(["vectors"], small(1, 0, MAX_SHARED))])
@@ -1418,11 +1437,7 @@ def check_document(text):
         if at.version == 2 and question in SECTIONS:
             at.record([(["section", SECTIONS[question]], none)])
         said[question] = check(at, net, known)
-    at.record([(["end"], none)])
-    rest = at.text[at.at :]
-    if rest:
-        end = rest.find(b"\n")
-        raise Rejected(30 if (end if end >= 0 else len(rest)) > MAX_LINE else 28, at.number + 1)
+    at.ending()
     return net, said
 
 
@@ -1431,7 +1446,7 @@ def check(text):
     try:
         net, said = check_document(text)
     except Rejected as fault:
-        return 3, f"rejected {fault.code} {NAMES[fault.code]} at line {fault.line}\n".encode()
+        return 3, fault.said().encode()
     return 0, report_of(net, said).encode()
 
 
