@@ -51,9 +51,9 @@ def test_edits_of_formats():
     worked = re.search(r"^```\n( 1 crn certificate 2\n.*?)^```", CERTIFICATES, re.MULTILINE | re.DOTALL)[1]
     lines = [line[3:] for line in worked.splitlines()]
     yield "the worked certificate", answer(verify, text_of(lines)).startswith("crn report 1\n")
-    rows = re.findall(r"^\| line (\d+) is (?:`([^`]*)`(?:, [^|]*)?|removed) \| `(rejected [^`]*)` \|$", CERTIFICATES, re.MULTILINE)
-    for number, line, wanted in rows:
-        at = int(number)
+    rows = re.findall(r"^\| line (\d+) is (?:`([^`]*)`(?:, [^|]*)?|removed) \| `(\d+ \w+)` at (\d+) \|$", CERTIFICATES, re.MULTILINE)
+    for number, line, fault, place in rows:
+        at, wanted = int(number), f"rejected {fault} at line {place}"
         changed = [*lines[: at - 1], *([line] if line else []), *lines[at:]]
         yield f"line {at} is {line or 'removed'}", answer(verify, text_of(changed)) == f"{wanted}\n", wanted
     yield "all rows of the table", len(rows) > 50, len(rows)
