@@ -13,6 +13,8 @@ ROOT = Path(__file__).resolve().parent.parent
 DATA, DOCUMENT = ROOT / "docs" / "conclusions.json", ROOT / "docs" / "CONCLUSIONS.md"
 HEAD = "| if the report says | kinetics | what follows | what does not | theorem |\n|---|---|---|---|---|\n"
 FIELDS = ["id", "title", "requires", "kinetics", "concludes", "does_not_follow", "theorem", "source", "provided"]
+# in the rows on parts
+PART_FIELDS = ["verdict" if field == "requires" else field for field in FIELDS]
 
 
 def condition(it):
@@ -29,13 +31,17 @@ def table_row(row, sources):
         follows = f"If the definitions agree, see above: {follows[0].lower()}{follows[1:]}"
     cited = "; ".join(sources[key]["cite"] for key in row["source"])
     theorem = ": ".join(part for part in (row["theorem"], cited) if part)
-    cells = [" and ".join(map(condition, row["requires"])), row["kinetics"] if row["kinetics"] != "none" else "",
+    asked = f"`{row['verdict']}`" if "verdict" in row else " and ".join(map(condition, row["requires"]))
+    cells = [asked, row["kinetics"] if row["kinetics"] != "none" else "",
              follows, " ".join(row["does_not_follow"]), theorem]
     return "| " + " | ".join(cells) + " |\n"
 
 
 def table(data, heading):
-    """The table below a heading: the rows whose first condition is on one of its lines."""
+    """The table below a heading: the rows whose first condition is on one of its lines, or those on its part."""
+    part = re.fullmatch(r"### Part `(\w+)`", heading)
+    if part:
+        return HEAD + "".join(table_row(row, data["sources"]) for row in data["parts"] if row["verdict"].startswith(f"{part[1]}: "))
     lines = [int(number) for number in re.findall(r"Q(\d+)", heading)]
     rows = [row for row in data["rows"] if row["requires"][0]["question"] in lines]
     return HEAD + "".join(table_row(row, data["sources"]) for row in rows)
@@ -55,7 +61,7 @@ def written(data, document):
     parts = re.split(r"^(##+ .*\n)", document, flags=re.MULTILINE)
     for at in range(1, len(parts), 2):
         heading, body = parts[at].strip(), parts[at + 1]
-        if heading.startswith("### Q"):
+        if heading.startswith(("### Q", "### Part ")):
             body = re.sub(r"^\| if the report says .*\n(?:\|.*\n)*", lambda _: table(data, heading), body, flags=re.MULTILINE)
         own = "".join(line for of, line in bullets(data) if of == heading)
         parts[at + 1] = re.sub(r"^- (?:.*\n)(?:- .*\n)*", lambda _: own, body, count=1, flags=re.MULTILINE) if own else body
@@ -70,17 +76,21 @@ def claims(data, document):
     shown = re.findall(r"Q(\d+)", " ".join(re.findall(r"^### (Q.*)", document, re.MULTILINE)))
     first = {row["requires"][0]["question"] for row in data["rows"]}
     yield "each of the fifteen questions has its heading", sorted(map(int, shown)) == list(range(1, 16))
-    yield "each heading has a table", document.count(HEAD) == len(re.findall(r"^### Q", document, re.MULTILINE))
+    yield "each heading has a table", document.count(HEAD) == len(re.findall(r"^### (?:Q|Part )", document, re.MULTILINE))
     yield "each question has a row that begins with it", {k for k in range(1, 16)} <= first | {2}
-    for row in data["rows"]:
-        yield f"{row['id']} has the fields of the head", list(row) == FIELDS == list(data["fields"])
+    shown = re.findall(r"^### Part `(\w+)`$", document, re.MULTILINE)
+    yield "each part has its heading", shown == list(dict.fromkeys(row["verdict"].split(": ")[0] for row in data["parts"]))
+    rows = [*data["rows"], *data["parts"]]
+    yield "the head has the fields", list(data["fields"]) == [*FIELDS, "verdict"]
+    for row in rows:
+        yield f"{row['id']} has the fields of the head", list(row) == (PART_FIELDS if row in data["parts"] else FIELDS)
         yield f"{row['id']} has a kinetics of the head", row["kinetics"] in data["kinetics"]
         yield f"{row['id']} has sources that are there", all(key in data["sources"] for key in row["source"])
         yield f"{row['id']} names no theorem where nothing follows", bool(row["concludes"]) == bool(row["theorem"])
-        for it in row["requires"]:
+        for it in row.get("requires", []):
             yield f"{row['id']} asks for a line", set(it) in ({"question", "says"}, {"question", "says_not"}) \
                 and 1 <= it["question"] <= 15
-    yield "each row has an id of its own", len({row["id"] for row in data["rows"]}) == len(data["rows"])
+    yield "each row has an id of its own", len({row["id"] for row in rows}) == len(rows)
 
 
 def main():
