@@ -44,7 +44,7 @@ if [ "$1" = run ]; then mkdir -p out; cp "$PROGRAM" out/crnt; shift 2; exec out/
 
 PROGRAM = """#!/bin/sh
 if [ "$STATUS" = slow ]; then sleep 2; exit; fi
-if [ "$1" != report ]; then echo usage; exit 4; fi
+case $1 in report | check | verify) ;; *) echo usage; exit 4 ;; esac
 cat
 if [ "$STATUS" = killed ]; then kill -9 $$; fi
 if [ "$STATUS" = number ]; then echo $$; exit; fi
@@ -441,23 +441,25 @@ def terminals(repository):
         yield f"explains the status {status} at a terminal in one line", good, seen
         seen = repository.run(["report"], STATUS=str(status))
         yield f"says nothing of the status {status} if there is no terminal", seen == (status, b"text", "", []), seen
-    for status in ["1", "2", "3"]:
-        _, _, shown = repository.run_on_a_terminal(["report"], STATUS=status)
+    for words, status in [("report", "1"), ("report", "2"), ("check", "3"), ("verify persist", "3")]:
+        _, _, shown = repository.run_on_a_terminal(words.split(), STATUS=status)
         found = re.search(r'/(docs/.*), "(.*)"$', shown.strip())
         there = found and f"## {found[2]}\n" in (ROOT / found[1]).read_text("utf-8")
-        yield f"names a section that is there for the status {status}", there, shown
+        is_own = found and (found[2] == "Parts") == words.startswith("verify")
+        yield f"names a section that is there for the status {status} of {words}", there and is_own, shown
     seen = repository.run_on_a_terminal(["report"], STATUS="0")
     yield "says nothing of the status 0 at a terminal", seen == (0, b"text", ""), seen
     status, out, shown = repository.run_on_a_terminal([])
     yield "says at a terminal what to type instead of no words", (status, out) == (4, b"usage\n") and "report < FILE" in shown, \
         (status, out, shown)
 
-    for words in [["report"], ["report", "--budget", "5"], ["--budget=5", "report"]]:
+    for words in [["report"], ["report", "--budget", "5"], ["--budget=5", "report"], ["prove", "persist"], ["prove", "--budget", "5", "persist"],
+                  ["prove", "persist", "--budget=5"], ["--budget=5", "prove", "persist"], ["verify", "persist"]]:
         status, out, shown = repository.run_on_a_terminal(words, typed=b"A -> B\n\x04")
         yield f"says how to end what is typed: {words}", "Ctrl-D" in shown, shown
     status, out, shown = repository.run_on_a_terminal(["report"], typed=b"A -> B\n\x04")
     yield "hands on what is typed", (status, out) == (3, b"A -> B\n"), (status, out, shown)
-    for words in [[], ["report", "file"], ["--help"]]:
+    for words in [[], ["report", "file"], ["--help"], ["prove"], ["verify", "persist", "--budget", "5"], ["prove", "persist", "file"]]:
         _, _, shown = repository.run_on_a_terminal(words, typed=b"\x04")
         yield f"says nothing of typing if nothing is read: {words}", "Ctrl-D" not in shown, shown
 
@@ -478,11 +480,12 @@ def terminals(repository):
 def searches(repository):
     """What is said while a search goes on."""
     [default] = re.findall(r"DEFAULT_BUDGET: u32 = ([\d_]+);", LIMITS.read_text("utf-8"))
-    for words, budget in [(["report"], default.replace("_", "")), (["certify", "--budget", "7"], "7"), (["--budget=30", "report"], "30")]:
+    for words, budget in [(["report"], default.replace("_", "")), (["certify", "--budget", "7"], "7"), (["--budget=30", "report"], "30"),
+                          (["prove", "--budget", "8", "persist"], "8")]:
         status, out, shown = repository.run_on_a_terminal(words, STATUS="slow")
         err = f"crnt: still at work; each search makes at most {budget} visits (another number: --budget N)\n"
         yield f"says at a terminal that a search goes on: {words}", (status, out, shown) == (0, b"", err), shown
-    for words in [["check"], ["report", "file"]]:
+    for words in [["check"], ["verify", "persist"], ["report", "file"]]:
         _, _, shown = repository.run_on_a_terminal(words, STATUS="slow")
         yield f"says of no budget if there is none: {words}", "still at work" not in shown, shown
     _, _, shown = repository.run_on_a_terminal(["report"], typed=b"", STATUS="slow")

@@ -209,7 +209,9 @@ def refuses_to_install(folder, archive):
 def completes(file):
     """What bash completes after some words."""
     ask = 'source "$1"; shift; COMP_WORDS=("$@"); COMP_CWORD=$(($# - 1)); _crnt; echo "${COMPREPLY[*]}"'
-    for words, wanted in [(["crnt", ""], "report certify check sample --budget"), (["crnt", "c"], "certify check"),
+    for words, wanted in [(["crnt", ""], "report certify check sample prove verify --budget"), (["crnt", "c"], "certify check"),
+                          (["crnt", "prove", ""], "persist --budget"), (["crnt", "verify", ""], "persist"),
+                          (["crnt", "prove", "persist", ""], "--budget"), (["crnt", "verify", "persist", ""], ""),
                           (["crnt", "report", ""], "--budget"), (["crnt", "check", ""], ""), (["crnt", "report", "--budget", ""], "")]:
         seen = done(["bash", "-c", ask, "bash", str(file), *words], "/")
         yield f"bash completes {words}", seen == (0, f"{wanted}\n"), seen
@@ -249,7 +251,8 @@ def needs_the_c_library_alone(folder, program):
 def words_are_one_table(program):
     seen = done([ROOT / "release/words.py"], "/")
     yield "docs/crnt.1 is as release/words says", seen == (0, ""), seen
-    commands = [head.split()[:2] for head in (ROOT / "release/words").read_text().split("\n\n")[1:] if not head.startswith("--")]
+    heads = [block.split("\n")[0].split() for block in (ROOT / "release/words").read_text().split("\n\n")[1:]]
+    commands = [head[:2] for head in heads if len(head) == 4]
     named = " | ".join(name if operand == "-" else f"{name} {operand}" for name, operand in commands)
     seen = done([program], "/")
     yield "the program's usage line names the commands of release/words", seen[0] == 4 and f" {named}, with " in seen[1], (named, seen)

@@ -37,17 +37,27 @@ class Option(NamedTuple):
         return first[0].lower() + first[1:]
 
 
+class Word(NamedTuple):
+    """A word that stands for an operand."""
+
+    operand: str
+    name: str
+    sentences: list
+
+
 def read_table(text):
-    """The commands and the options of a table, in order."""
-    commands, options = [], []
+    """The commands, the options and the words of operands of a table, in order."""
+    commands, options, operands = [], [], []
     for block in re.split(r"\n\s*\n", re.sub(r"^#.*\n", "", text, flags=re.MULTILINE).strip()):
         head, *sentences = [line.strip() for line in block.splitlines()]
         words = ["" if word == "-" else word for word in head.split()]
         if head.startswith("--"):
             options.append(Option(*words, sentences))
+        elif len(words) == 2:
+            operands.append(Word(*words, sentences))
         else:
             commands.append(Command(*words, sentences))
-    return commands, options
+    return commands, options, operands
 
 
 def escaped(text):
@@ -70,11 +80,17 @@ def synopsis(commands, options):
             yield ".br"
 
 
-def explained(commands):
+def explained(commands, operands):
     for command in commands:
         yield ".TP"
         yield f'.BI {command.name} " {command.operand}"' if command.operand else f".B {command.name}"
         yield from map(escaped, command.sentences)
+    for word in operands:
+        yield ".PP"
+        yield f".I {word.operand}"
+        yield "is"
+        yield f".BR {word.name} ."
+        yield from map(escaped, word.sentences)
     yield ".PP"
     yield "Any other words give a usage line."
 
@@ -84,15 +100,17 @@ def options_explained(commands, options):
         yield ".TP"
         yield f'.BI {escaped(option.name)} " {option.value}" \\fR,\\ \\fB{escaped(option.name)}= {option.value}'
         yield from map(escaped, option.sentences)
-        for command in commands:
-            if command.option != option.name:
-                yield f".B {command.name}"
-                yield "takes none."
+        without = [command.name for command in commands if command.option != option.name]
+        yield f".B {without[0]}"
+        for name in without[1:]:
+            yield "and"
+            yield f".B {name}"
+        yield "takes none." if len(without) == 1 else "take none."
 
 
-def page_with(page, commands, options):
+def page_with(page, commands, options, operands):
     """The manual page with the parts that the table says."""
-    parts = {"SYNOPSIS": synopsis(commands, options), "COMMANDS": explained(commands), "OPTIONS": options_explained(commands, options)}
+    parts = {"SYNOPSIS": synopsis(commands, options), "COMMANDS": explained(commands, operands), "OPTIONS": options_explained(commands, options)}
     for name, lines in parts.items():
         before, head, rest = page.partition(f".SH {name}\n")
         assert head, f"docs/crnt.1 has no part {name}"
@@ -101,9 +119,15 @@ def page_with(page, commands, options):
     return page
 
 
-def bash(commands, options):
+def bash(commands, options, operands):
     names = " ".join(command.name for command in commands)
-    without = "|".join(command.name for command in commands if not command.option)
+    cases = ""
+    for command in commands:
+        words = " ".join(word.name for word in operands if word.operand == command.operand)
+        no_options = "" if command.option else ' options=""'
+        cases += f'            {command.name}) words="{words}"{no_options} ;;\n'
+    for word in operands:
+        cases += f'            {word.name}) words="" ;;\n'
     return f"""\
 # Completes the words of crnt in bash.
 _crnt() {{
@@ -111,9 +135,7 @@ _crnt() {{
     [ "${{COMP_WORDS[COMP_CWORD - 1]}}" != {options[0].name} ] || return
     for ((at = 1; at < COMP_CWORD; at++)); do
         case ${{COMP_WORDS[at]}} in
-            {without}) words="" options="" ;;
-            {'|'.join(command.name for command in commands if command.option)}) words="" ;;
-        esac
+{cases}        esac
     done
     mapfile -t COMPREPLY < <(compgen -W "$words $options" -- "$word")
 }}
@@ -121,21 +143,25 @@ complete -o default -F _crnt crnt
 """
 
 
-def zsh(commands, options):
+def zsh(commands, options, operands):
     summaries = {command.name: command.summary().replace(":", r"\:") for command in commands}
     rows = " ".join(rf'{name}\:"{summary}"' for name, summary in summaries.items())
+    words = " ".join(rf'{word.name}\:"{word.sentences[0].rstrip(".")}"' for word in operands)
     flags = " ".join(f"'{option.name}=[{option.summary()}]:{option.value}:'" for option in options)
     return f"""\
 #compdef crnt
 # Completes the words of crnt in zsh.
-_arguments {flags} '1:command:(({rows}))' '2:number:'
+_arguments {flags} '1:command:(({rows}))' '2:number or part:(({words}))'
 """
 
 
-def fish(commands, options):
+def fish(commands, options, operands):
     lines = ["# Completes the words of crnt in fish.", "complete -c crnt -f"]
     for command in commands:
         lines.append(f"complete -c crnt -n __fish_use_subcommand -a {command.name} -d '{command.summary()}'")
+    for word in operands:
+        takers = " ".join(command.name for command in commands if command.operand == word.operand)
+        lines.append(f"complete -c crnt -n '__fish_seen_subcommand_from {takers}' -a {word.name} -d '{word.sentences[0].rstrip('.')}'")
     for option in options:
         without = " ".join(command.name for command in commands if command.option != option.name)
         lines.append(f"complete -c crnt -n 'not __fish_seen_subcommand_from {without}' -l {option.name[2:]} -x -d '{option.summary()}'")
@@ -147,15 +173,15 @@ COMPLETIONS = {"share/bash-completion/completions/crnt": bash, "share/zsh/site-f
 
 
 def main(words):
-    commands, options = read_table(TABLE.read_text("utf-8"))
+    table = read_table(TABLE.read_text("utf-8"))
     if words[:1] == ["--completions"]:
         for name, written in COMPLETIONS.items():
             path = Path(words[1]) / name
             path.parent.mkdir(parents=True, exist_ok=True)
-            path.write_text(written(commands, options), "utf-8")
+            path.write_text(written(*table), "utf-8")
         return 0
     page = PAGE.read_text("utf-8")
-    wanted = page_with(page, commands, options)
+    wanted = page_with(page, *table)
     if words == ["--write"]:
         PAGE.write_text(wanted, "utf-8")
     elif page != wanted:
