@@ -51,7 +51,8 @@ const knownAs = bytes => (KNOWN.find(([mark]) => mark.test(isWide(bytes) ? decod
 // What to do with a text that is refused, at this line if at one, as a sentence and what a button does; nothing if it may well
 // be a network text.
 export function remedyOfText(bytes, fault, line) {
-    if (/^\s*crn certificate \d/.test(plain(bytes.subarray(0, 200)))) return { says: 'This is a certificate, and not the text of a network.', does: 'check', label: 'Check it' };
+    const document_ = /^\s*crn (certificate \d|part )/.exec(plain(bytes.subarray(0, 200)));
+    if (document_) return { says: `This is a ${document_[1] === 'part ' ? 'part document' : 'certificate'}, and not the text of a network.`, does: 'check', label: 'Check it' };
     // In a file of an old Macintosh all may be one comment.
     const odd = fault.code === 11 ? oddities(bytes, line.replace(/#.*/, '')) : fault.code === 5 ? oddities(bytes, decoded(bytes)) : [];
     if (odd.length) return { says: `The text has ${odd.join(' and ')}, which the program does not read.`, does: 'convert', label: 'Convert it' };
@@ -61,7 +62,7 @@ export function remedyOfText(bytes, fault, line) {
 
 // What to do with a certificate that is rejected for its form.
 export function remedyOfCertificate(bytes, fault) {
-    const text = plain(bytes), isOne = text.startsWith('crn certificate ');
+    const text = plain(bytes), isPart = text.startsWith('crn part '), isOne = isPart || text.startsWith('crn certificate '), what = isPart ? 'document' : 'certificate';
     if (!text.trim()) return { says: 'The file is empty: it was not saved, or it is another one. Make the certificate again, from its network.' };
     if (!isOne) {
         const known = knownAs(bytes);
@@ -69,7 +70,8 @@ export function remedyOfCertificate(bytes, fault) {
     }
     const odd = fault.code <= 30 || fault.code === 43 ? strictly(bytes, decoded(bytes)) : [];
     const isWhole = /\nend\n$/.test(text);
-    if (odd.length && (isWhole || fault.line === 1)) return { says: `The certificate has ${odd.join(' and ')}, which is not how certificates are written.`, does: 'recheck', label: 'Convert and check it' };
+    if (isPart && fault.code === 21 && !odd.length) return { says: 'The one part that is known here is `persist`: its documents begin with the line `crn part persist 1`.' };
+    if (odd.length && (isWhole || fault.line === 1)) return { says: `The ${what} has ${odd.join(' and ')}, which is not how ${what}s are written.`, does: 'recheck', label: 'Convert and check it' };
     if (isWhole || ![27, 43].includes(fault.code)) return null;
-    return { says: 'The certificate ends before its last line, `end`: only a part of it was saved or copied. Make it again from its network.', does: 'network', label: 'Open its network' };
+    return { says: `The ${what} ends before its last line, \`end\`: only a part of it was saved or copied. Make it again from its network.`, does: 'network', label: 'Open its network' };
 }

@@ -5,7 +5,8 @@ import { proposal } from './cures.js';
 import { reordered } from './order.js';
 import { PRINTED, complexPicture, escaped, speciesPicture } from './picture.js';
 import { Pointer } from './pointer.js';
-import { conclusionsView, divided, linesView, summary } from './view.js';
+import { conclusionsView, divided, linesView, proofView, summary } from './view.js';
+import { proofVerdict, readProof } from './persist.js';
 import { treeWords, treesIn } from './evidence.js';
 import { plain, remedyOfCertificate, remedyOfText } from './files.js';
 import { readFault, refusalView, rejectionView } from './faults.js';
@@ -30,6 +31,7 @@ let now = null; // what is shown: the report and the reactions
 let turn = 0; // of the run that may still say something
 let proposed = null; // a line that the program accepts in the place of the refused one
 let made = null; // the certificate that was made
+let proof = null; // the document on persistence that was written
 
 // ---- the text
 
@@ -141,6 +143,7 @@ function changed(pause = 180) {
     show('save-certificate', false);
     $('certified').textContent = '';
     show('rejection', false);
+    forgetProof();
     waiting = setTimeout(read, pause);
 }
 
@@ -375,18 +378,24 @@ async function certify() {
 async function check(bytes) {
     show('rejection', false);
     show('save-certificate', false);
-    const done = await aside('certified', 'stop-certificate', ['check'], bytes);
+    const isPart = textOf(bytes.subarray(0, 9)) === 'crn part ';
+    const done = await aside('certified', 'stop-certificate', isPart ? ['verify', 'persist'] : ['check'], bytes);
     if (!done) return;
     const out = textOf(done.out), fault = done.status === 3 && readFault(out);
     if (fault) {
         rejected = bytes;
-        sayCertified(`line ${fault.line.toLocaleString('en')} of the certificate is rejected`, 'bad');
+        sayCertified(`line ${fault.line.toLocaleString('en')} of the ${isPart ? 'document' : 'certificate'} is rejected`, 'bad');
         $('rejection').innerHTML = rejectionView(fault, textOf(bytes).split('\n')[fault.line - 1] || '', remedyOfCertificate(bytes, fault), data.rejections);
         show('rejection', true);
         return $('certified').scrollIntoView({ block: 'nearest' });
     }
     if (done.status !== 0) return sayCertified(STATUS[done.status] || `the program ended with status ${done.status}`, 'bad');
     const document_ = textOf(bytes);
+    if (isPart) {
+        setText(networkIn(document_));
+        showProof(bytes);
+        return sayCertified(`the document is good: ${out.trim()}`, 'good');
+    }
     clearTimeout(waiting);
     program.stop();
     turn++;
@@ -395,6 +404,41 @@ async function check(bytes) {
     showReport(out, document_, treesIn(document_));
     say('as the certificate says', 'good');
     sayCertified('the certificate is good; its network and its report are shown', 'good');
+}
+
+const MOODS = { 'persist: yes': 'good', 'persist: open': 'open' };
+
+function sayProved(text, mood = '') {
+    $('proved').className = mood;
+    $('proved').textContent = text;
+}
+
+function forgetProof() {
+    for (const id of ['proof', 'verify', 'save-proof']) show(id, false);
+    sayProved('');
+}
+
+function showProof(bytes) {
+    const read = readProof(textOf(bytes)), verdict = proofVerdict(read);
+    proof = bytes;
+    $('proof').innerHTML = proofView(read, data.conclusions);
+    for (const id of ['proof', 'verify', 'save-proof']) show(id, true);
+    sayProved(verdict, MOODS[verdict]);
+}
+
+async function prove() {
+    forgetProof();
+    const done = await aside('proved', 'stop-proof', ['prove', 'persist', '--budget', $('budget').value], typed());
+    if (!done) return;
+    if (done.status > 1) return sayProved(done.status === 2 ? 'the text is refused, so there is nothing to ask' : STATUS[done.status], 'bad');
+    showProof(done.out);
+}
+
+async function verifyProof() {
+    const done = await aside('proved', 'stop-proof', ['verify', 'persist'], proof);
+    if (!done) return;
+    const out = textOf(done.out).trim();
+    sayProved(done.status === 0 ? `checked again: ${out}` : out || STATUS[done.status], done.status === 0 ? MOODS[out] : 'bad');
 }
 
 async function trySample() {
@@ -527,8 +571,11 @@ function wire() {
     for (const id of ['refusal', 'rejection']) on(id, 'click', press);
     on('certify', 'click', certify);
     on('save-certificate', 'click', () => save(`${name}.cert`, made));
+    on('prove', 'click', prove);
+    on('verify', 'click', verifyProof);
+    on('save-proof', 'click', () => save(`${name}.persist`, proof));
     on('sample', 'click', trySample);
-    for (const id of ['stop-certificate', 'stop-sample']) on(id, 'click', () => helper.stop());
+    for (const id of ['stop-certificate', 'stop-proof', 'stop-sample']) on(id, 'click', () => helper.stop());
     on('lines', 'click', event => {
         const { budget, reorder, divide } = event.target.dataset;
         if (budget) { $('budget').value = budget; read(); }

@@ -1,6 +1,7 @@
 // What the page says of a report, as HTML: the conclusions in words, and each verdict with its evidence.
 import { concluding, rowsAbout, rowsOf } from './conclusions.js';
 import { explained, treeWords } from './evidence.js';
+import { proofEvidence, proofVerdict } from './persist.js';
 import { escaped } from './picture.js';
 import { terms } from './report.js';
 
@@ -15,7 +16,7 @@ function source(row, data) {
     return row.theorem ? `${escaped(row.theorem)} (${escaped(cites)})` : escaped(cites);
 }
 
-const questionsOf = row => [...new Set(row.requires.map(condition => `Q${condition.question}`))].join(' and ');
+const questionsOf = row => row.verdict || [...new Set(row.requires.map(condition => `Q${condition.question}`))].join(' and ');
 
 const KINETICS = { 'mass action': 'for mass action kinetics', 'weakly monotonic': 'for weakly monotonic kinetics', 'some weakly monotonic': 'for some weakly monotonic kinetics', any: 'for any kinetics', none: 'about the structure alone' };
 
@@ -61,6 +62,15 @@ function evidenceView(item, trees) {
     if (!table) return `<p>${escaped(item.text)}</p>`;
     return `<p>${escaped(item.text)}</p><div class="evidence-scroll" tabindex="0" role="group" aria-label="${escaped(item.text)}"><table class="${kind}">`
         + table.map(row => `<tr>${row.map(cell => `<td${/^(holds|fails|open)$/.test(cell) ? ` class="${MOOD[cell]}"` : ''}>${escaped(cell)}</td>`).join('')}</tr>`).join('') + '</table></div>';
+}
+
+// A document on persistence: the evidence, what follows from its verdict, and what does not.
+export function proofView(proof, data) {
+    const verdict = proofVerdict(proof), rows = data.parts.filter(row => row.verdict === verdict);
+    const not = rows.length ? rows.flatMap(row => row.does_not_follow) : data.open.does_not_follow;
+    return `<div class="evidence">${proofEvidence(proof).map(item => evidenceView(item)).join('')}</div>`
+        + rows.filter(row => row.concludes).map(row => conclusion({ ...row, does_not_follow: [] }, data)).join('')
+        + `<div class="not"><b>What does not follow</b>${list(not)}</div>`;
 }
 
 // The species whose amounts have a common divisor above 1, with that.
