@@ -14,6 +14,7 @@ from .errors import (
     ToolMissing,
 )
 from .network import Complex, Network, Reaction, Term
+from .parts import Proof, prove, verified
 from .program import certify, check, find, report
 from .report import Report, schema
 from .verdicts import Failure, Open, Signal, Verdict
@@ -22,6 +23,6 @@ __version__ = "1.0.0"
 
 __all__ = [
     "Complex", "CrntError", "Failure", "Network", "NetworkNeeded", "NotANetwork", "NotAReport", "NotImported", "Open", "ProgramFault",
-    "ProgramMissing", "Reaction", "Refused", "Rejected", "Report", "Signal", "Term", "ToolMissing", "Verdict", "certify",
-    "check", "find", "report", "schema",
+    "ProgramMissing", "Proof", "Reaction", "Refused", "Rejected", "Report", "Signal", "Term", "ToolMissing", "Verdict", "certify",
+    "check", "find", "prove", "report", "schema", "verified",
 ]

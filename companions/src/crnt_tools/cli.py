@@ -11,7 +11,8 @@ from typing import Any, Callable, NoReturn, Sequence
 
 from . import __version__, draw, explain, importing, order, table
 from .errors import CrntError, Refused
-from .loading import load
+from .loading import load, proofs_in
+from .parts import PARTS
 from .verify import verify
 
 DONE, OPEN_LEFT, USAGE, READ_FAULT, WRITE_FAULT, INTERRUPTED = 0, 1, 4, 5, 6, 130
@@ -128,9 +129,10 @@ def error_data(fault: CrntError) -> dict[str, Any]:
 
 def do_explain(given: argparse.Namespace) -> int:
     def work(file: str) -> int:
-        report = load(read(file), given.budget)
-        write(given.output, given.form(report, name_of(file)))
-        return OPEN_LEFT if report.open_count else DONE
+        text = read(file)
+        report, proofs = load(text, given.budget), proofs_in(text)
+        write(given.output, given.form(report, name_of(file), proofs))
+        return OPEN_LEFT if report.open_count or any(proof.is_open for proof in proofs) else DONE
 
     return for_each([given.file], work)
 
@@ -194,7 +196,7 @@ def do_table(given: argparse.Namespace) -> int:
     separator = "\t" if given.tsv or (given.output or "").endswith(".tsv") else ","
     try:
         return table.make_table([file for file in files if file], given.output, given.budget, given.processes,
-                                given.resume, given.reports, separator)
+                                given.resume, given.reports, separator, tuple(dict.fromkeys(given.prove)))
     except OSError as fault:
         raise Unwritable(f"{fault.filename or 'standard output'}: {fault.strerror}") from None
 
@@ -241,7 +243,7 @@ def parser() -> Parser:
         if searches:
             of.add_argument("--budget", type=number(1, MOST_BUDGET), metavar="N", help=BUDGET)
 
-    network = "a network text, a report or a certificate"
+    network = "a network text, a report, a certificate or a part document"
     it = verb("json", do_json, "The report as JSON, one object a line.", """\
   crnt-tools json two_site.crn > two_site.json
   crnt-tools json *.crn | jq -r 'select(.q14.concordant) | .file'
@@ -252,7 +254,8 @@ def parser() -> Parser:
     it = verb("explain", do_explain, "What theory concludes from the report, and what does not follow.", """\
   crnt-tools explain edelstein.crn
   crnt-tools explain edelstein.crn --html -o edelstein.html
-  crnt report < edelstein.crn | crnt-tools explain --markdown""")
+  crnt report < edelstein.crn | crnt-tools explain --markdown
+  crnt prove persist < edelstein.crn | crnt-tools explain""")
     options(it, False, network)
     forms = it.add_mutually_exclusive_group()
     forms.add_argument("--markdown", dest="form", action="store_const", const=explain.as_markdown, help="as Markdown")
@@ -305,6 +308,8 @@ def parser() -> Parser:
     it.add_argument("-o", "--output", metavar="FILE", help="where to write, instead of standard output")
     it.add_argument("--resume", action="store_true", help="go on with the table that is there: its rows stay as they are")
     it.add_argument("--tsv", action="store_true", help="tabs between the cells; so for an output FILE.tsv, too")
+    it.add_argument("--prove", metavar="PART", action="append", default=[], choices=PARTS,
+                    help="a column more, with the verified answer of crnt prove PART; PART is persist")
     it.add_argument("--reports", metavar="FOLDER", help="keep the report of each network there, as FILE.report")
     it.add_argument("--processes", type=number(1), metavar="N",
                     help="how many at a time, one for each processor if nothing is said")

@@ -8,6 +8,7 @@ from functools import lru_cache
 from pathlib import Path
 from typing import Any, NamedTuple
 
+from .parts import Proof
 from .report import Report
 
 FILE = "conclusions.json"
@@ -73,11 +74,21 @@ def line_of(report: Report, question: int) -> str:
 
 def conclude(report: Report) -> list[Conclusion]:
     """The rows that apply to a report, those from which nothing follows among them, in the order of the questions."""
-    sources, found = data()["sources"], []
+    found = []
     for row in data()["rows"]:
         if all(holds(report, condition) for condition in row["requires"]):
             lines = tuple(dict.fromkeys(line_of(report, condition["question"]) for condition in row["requires"]))
-            found.append(Conclusion(row["id"], row["title"], row["kinetics"], row["concludes"], tuple(row["does_not_follow"]),
-                                    row["theorem"], tuple(Source(**sources[key]) for key in row["source"]), row["provided"],
-                                    lines))
+            found.append(conclusion(row, lines))
     return found
+
+
+def conclude_part(proof: Proof) -> list[Conclusion]:
+    """The rows that apply to the verdict of a part document."""
+    return [conclusion(row, (proof.verdict,)) for row in data()["parts"] if row["verdict"] == proof.verdict]
+
+
+def conclusion(row: dict[str, Any], lines: tuple[str, ...]) -> Conclusion:
+    """A row that applies, with the lines on which it rests."""
+    sources = tuple(Source(**data()["sources"][key]) for key in row["source"])
+    return Conclusion(row["id"], row["title"], row["kinetics"], row["concludes"], tuple(row["does_not_follow"]), row["theorem"],
+                      sources, row["provided"], lines)

@@ -8,15 +8,18 @@ import html
 import re
 import textwrap
 from dataclasses import dataclass, field
+from typing import Sequence
 
 from . import draw
-from .conclusions import Conclusion, conclude, data, line_of
+from .conclusions import Conclusion, conclude, conclude_part, data, line_of
 from .errors import ToolMissing
+from .parts import Proof
 from .report import Report
 
-PREAMBLE = ("crnt proves the lines of the report at the end of this page, and nothing else. Conclusions are theorems of the "
-            "literature, quoted from the sources named; whether their conditions on kinetics hold is for you to judge. "
-            "Whatever is said about steady states is said within one stoichiometric compatibility class.")
+PREAMBLE = ("crnt proves the lines of the report at the end of this page, and the verdict of a part document, and nothing "
+            "else. Conclusions are theorems of the literature, quoted from the sources named; whether their conditions on "
+            "kinetics hold is for you to judge. Whatever is said about steady states is said within one stoichiometric "
+            "compatibility class.")
 #: The kinetics of conclusions, from the widest, and what is said above them.
 HEADINGS = {
     "any": "Whatever the kinetics",
@@ -44,16 +47,17 @@ class Section:
     items: list[Item] = field(default_factory=list)
 
 
-def sections_of(report: Report) -> list[Section]:
-    """The explanation of a report."""
-    found = conclude(report)
+def sections_of(report: Report, proofs: Sequence[Proof] = ()) -> list[Section]:
+    """The explanation of a report, and of part documents on the same network."""
+    found = [*conclude(report), *(it for proof in proofs for it in conclude_part(proof))]
     sections = []
     for kinetics, heading in HEADINGS.items():
         items = [item_of(it) for it in found if it.concludes and it.kinetics == kinetics]
         if items:
             sections.append(Section(heading, data()["kinetics"][kinetics] if kinetics != "none" else "", items))
-    if report.open_count:
-        sections.append(Section("What is open", "", [open_item(report, k) for k in report.open_questions]))
+    opened = [line_of(report, k) for k in report.open_questions] + [proof.verdict for proof in proofs if proof.is_open]
+    if opened:
+        sections.append(Section("What is open", "", [open_item(line) for line in opened]))
     silent = [Item("; ".join(it.rests_on), (("what does not follow", it.does_not_follow),)) for it in found if not it.concludes]
     sections.append(Section("Lines from which nothing follows by themselves", "", silent))
     sections.append(Section("What no line is about", "", [
@@ -74,8 +78,8 @@ def item_of(it: Conclusion) -> Item:
     return Item(it.sentence, tuple(rows))
 
 
-def open_item(report: Report, question: int) -> Item:
-    return Item(line_of(report, question), (("what does not follow", tuple(data()["open"]["does_not_follow"])),))
+def open_item(line: str) -> Item:
+    return Item(line, (("what does not follow", tuple(data()["open"]["does_not_follow"])),))
 
 
 def title_of(report: Report, name: str) -> str:
@@ -83,10 +87,10 @@ def title_of(report: Report, name: str) -> str:
     return f"{name}: {sizes}" if name else sizes
 
 
-def as_text(report: Report, name: str = "") -> str:
+def as_text(report: Report, name: str = "", proofs: Sequence[Proof] = ()) -> str:
     """The explanation as plain text."""
     lines = [title_of(report, name), "", *wrapped(PREAMBLE, "", "")]
-    for section in sections_of(report):
+    for section in sections_of(report, proofs):
         lines += ["", section.heading.upper()]
         lines += wrapped(section.text, "", "") if section.text else []
         for item in section.items:
@@ -102,10 +106,10 @@ def wrapped(text: str, first: str, other: str) -> list[str]:
                          break_on_hyphens=False)
 
 
-def as_markdown(report: Report, name: str = "") -> str:
+def as_markdown(report: Report, name: str = "", proofs: Sequence[Proof] = ()) -> str:
     """The explanation as Markdown."""
     lines = [f"# {title_of(report, name)}", "", PREAMBLE]
-    for section in sections_of(report):
+    for section in sections_of(report, proofs):
         lines += ["", f"## {section.heading}", ""]
         lines += [section.text, ""] if section.text else []
         for item in section.items:
@@ -127,11 +131,11 @@ li > p { margin: .2rem 0; } .note { color: #4a5568; }
 """
 
 
-def as_html(report: Report, name: str = "") -> str:
+def as_html(report: Report, name: str = "", proofs: Sequence[Proof] = ()) -> str:
     """The explanation as one HTML page that needs no other file, with the pictures where Graphviz can make them."""
     title = html.escape(title_of(report, name))
     parts = [f"<h1>{title}</h1>", f'<p class="note">{html.escape(PREAMBLE)}</p>', *pictures(report)]
-    for section in sections_of(report):
+    for section in sections_of(report, proofs):
         parts.append(f"<h2>{html.escape(section.heading)}</h2>")
         parts += [f'<p class="note">{marked(section.text)}</p>'] if section.text else []
         parts.append("<ul>" + "".join(f"<li><p>{marked(item.sentence)}</p>{rows_html(item)}</li>\n" for item in section.items)

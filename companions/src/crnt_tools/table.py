@@ -13,6 +13,7 @@ from pathlib import Path
 from typing import Iterator, TextIO
 
 from .errors import CrntError
+from .parts import prove, verified
 from .program import find
 from .program import report as report_of
 from .report import Report
@@ -28,13 +29,19 @@ OF_REPORT = (
 COLUMNS = (*OF_FILE, *OF_REPORT)
 
 
+def columns(parts: tuple[str, ...]) -> tuple[str, ...]:
+    """The columns of a table with a column more for each part."""
+    return (*COLUMNS, *parts)
+
+
 @dataclass(frozen=True)
 class Job:
-    """A file to report on, and where its report is kept, if anywhere."""
+    """A file to report on, where its report is kept, if anywhere, and the parts that are proved of it."""
 
     file: str
     budget: int | None
     reports: str | None
+    parts: tuple[str, ...] = ()
 
 
 def row_of(report: Report) -> list[str]:
@@ -50,21 +57,24 @@ def row_of(report: Report) -> list[str]:
 def row(job: Job) -> list[str]:
     """The row of a file. Whatever is wrong with it is said in the row."""
     try:
-        report = report_of(Path(job.file).read_bytes(), job.budget)
+        text = Path(job.file).read_bytes()
+        report = report_of(text, job.budget)
+        answers = [verified(prove(part, text, job.budget)) for part in job.parts]
         if job.reports:
             kept = Path(job.reports) / (job.file.replace(os.sep, "_") + ".report")
             kept.write_text(str(report), "ascii")
     except CrntError as fault:
-        return failed(job.file, fault.status, str(fault))
+        return failed(job, fault.status, str(fault))
     except OSError as fault:
-        return failed(job.file, 5, fault.strerror or str(fault))
+        return failed(job, 5, fault.strerror or str(fault))
     except Exception as fault:  # whatever it is, the other rows go on
-        return failed(job.file, 70, f"{type(fault).__name__}: {fault}")
-    return [job.file, str(int(report.open_count > 0)), "", *row_of(report)]
+        return failed(job, 70, f"{type(fault).__name__}: {fault}")
+    is_open = report.open_count > 0 or any(proof.is_open for proof in answers)
+    return [job.file, str(int(is_open)), "", *row_of(report), *(proof.said for proof in answers)]
 
 
-def failed(file: str, status: int, message: str) -> list[str]:
-    return [file, str(status), message, *[""] * len(OF_REPORT)]
+def failed(job: Job, status: int, message: str) -> list[str]:
+    return [job.file, str(status), message, *[""] * (len(OF_REPORT) + len(job.parts))]
 
 
 def rows_in_order(jobs: list[Job], at_once: int) -> Iterator[list[str]]:
@@ -76,12 +86,12 @@ def rows_in_order(jobs: list[Job], at_once: int) -> Iterator[list[str]]:
         pool.shutdown(cancel_futures=True)
 
 
-def begun(path: Path, separator: str) -> set[str]:
+def begun(path: Path, separator: str, parts: tuple[str, ...]) -> set[str]:
     """The files whose rows a table has already. A last row that is cut off is taken away."""
     text = path.read_bytes()
     kept = text[: text.rfind(b"\n") + 1]
     rows = list(csv.reader(io.StringIO(kept.decode("utf-8", "surrogateescape"), newline=""), delimiter=separator))
-    if kept and tuple(rows[0]) != COLUMNS:
+    if kept and tuple(rows[0]) != columns(parts):
         raise CrntError(f"{path} is no table of this version: name another file")
     if kept != text:
         path.write_bytes(kept)
@@ -117,22 +127,23 @@ class Progress:
 
 
 def make_table(files: list[str], target: str | None, budget: int | None = None, processes: int | None = None,
-               resume: bool = False, reports: str | None = None, separator: str = ",") -> int:
+               resume: bool = False, reports: str | None = None, separator: str = ",", parts: tuple[str, ...] = ()) -> int:
     """Writes the table of these files to a file, or to standard output, and gives the greatest status of its new rows.
-    With `resume` the rows that the file has already stay, and the others are added. Raises CrntError."""
+    With `resume` the rows that the file has already stay, and the others are added. Each of `parts` has a column more.
+    Raises CrntError."""
     find()  # without a program no row would say more than that
     seen: set[str] = set()
     if target and os.path.exists(target) and os.path.getsize(target):
         if not resume:
             raise CrntError(f"{target} is there already: --resume goes on with it")
-        seen = begun(Path(target), separator)
+        seen = begun(Path(target), separator, parts)
     if reports:
         Path(reports).mkdir(parents=True, exist_ok=True)
-    jobs = [Job(file, budget, reports) for file in dict.fromkeys(files) if file not in seen]
+    jobs = [Job(file, budget, reports, parts) for file in dict.fromkeys(files) if file not in seen]
     with opened(target) as out:
         writer, progress, worst = csv.writer(out, delimiter=separator, lineterminator="\n"), Progress(len(jobs), sys.stderr), 0
         if not target or not os.path.getsize(target):
-            writer.writerow(COLUMNS)
+            writer.writerow(columns(parts))
         for cells in rows_in_order(jobs, processes or os.cpu_count() or 1):
             writer.writerow(cells)
             out.flush()
