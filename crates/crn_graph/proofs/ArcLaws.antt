@@ -8,7 +8,8 @@ use Rattle.crn_cert.specs.Says.{IsReactionNumber}
 use Rattle.crn_graph.specs.declared.arcs.Arc.{Arc}
 use Rattle.crn_graph.specs.declared.arcs.Way.{Way}
 use Rattle.crn_graph.specs.declared.arcs.Way.TheVariants.{Along, Against, Links, Round}
-use Rattle.crn_graph.specs.Inner.Arcs.{Allows, no_arc, arc_at, HasArc, Adds, AreArcsTo, AreArcsOf, AreInside}
+use Rattle.crn_graph.specs.Arcs.{no_arc, arc_at, HasArc, AreInside}
+use Rattle.crn_graph.specs.Inner.Arcs.{Allows, Adds, AreArcsTo, AreArcsOf}
 
 -- ---- one arc more
 

@@ -3,7 +3,7 @@ use Rattle.std.proofs.Common.{◌≡◌, ℕ, ◌+◌, ◌<◌, List, length, ge
 use Rattle.std.proofs.lemmas.List.{get_or-set_other, get_or-set_same, length-set}
 use Rattle.std.proofs.lemmas.Bool.{cases_eq}
 use Rattle.crn_graph.specs.declared.arcs.Arc.{Arc}
-use Rattle.crn_graph.specs.Inner.Arcs.{arc_at, AreInside}
+use Rattle.crn_graph.specs.Arcs.{arc_at, AreInside}
 use Rattle.crn_graph.specs.Inner.Graph.{IsNext, IsChained}
 
 pub chained_none : (arcs : List Arc) (first next : List ℕ) → length next ≡ length arcs → ((y : ℕ) → get_or first y 0 ≡ 0) → IsChained arcs 0 first next

@@ -5,7 +5,7 @@ use Rattle.crn_vec.specs.Walks.{LeadsTo}
 use Rattle.crn_vec.proofs.CallerLemmas.{leads_then, leads_here, leads_keeps}
 use Rattle.crn_graph.specs.declared.arcs.Arc.{Arc}
 use Rattle.crn_graph.specs.declared.search.Search.{Search}
-use Rattle.crn_graph.specs.Inner.Arcs.{HasArc}
+use Rattle.crn_graph.specs.Arcs.{HasArc}
 use Rattle.crn_graph.specs.Inner.Search.{Steps, label_at, up_at, first_found, IsBlank, IsReady, IsFollowed, IsSpreading, KeepsLabels}
 use Rattle.crn_graph.specs.Inner.Linkage.{IsReturning, IsPlaced, AreClassesTo}
 

@@ -1,3 +1,4 @@
+mod Joined
 pub mod CallerLemmas
 mod LabelLaws
 mod ArcLaws

@@ -12,7 +12,8 @@ use Rattle.crn_cert.specs.ClassTests.{AreNumbered, AreEven, AreLinkTrees}
 use Rattle.crn_graph.specs.declared.arcs.Arc.{Arc}
 use Rattle.crn_graph.specs.declared.arcs.Way.TheVariants.{Links}
 use Rattle.crn_graph.specs.declared.search.Search.{Search}
-use Rattle.crn_graph.specs.Inner.Arcs.{HasArc, AreArcsOf}
+use Rattle.crn_graph.specs.Arcs.{HasArc}
+use Rattle.crn_graph.specs.Inner.Arcs.{AreArcsOf}
 use Rattle.crn_graph.specs.Inner.Search.{Steps, label_at, up_at}
 use Rattle.crn_graph.specs.Inner.Linkage.{IsReturning, AreClassesTo}
 

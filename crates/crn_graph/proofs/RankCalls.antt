@@ -5,7 +5,7 @@ use Rattle.crn_vec.specs.Walks.{LeadsTo}
 use Rattle.crn_vec.proofs.CallerLemmas.{leads_then, leads_step}
 use Rattle.crn_graph.specs.declared.arcs.Arc.{Arc}
 use Rattle.crn_graph.specs.declared.ranks.Ranking.{Ranking}
-use Rattle.crn_graph.specs.Inner.Arcs.{arc_at, AreInside}
+use Rattle.crn_graph.specs.Arcs.{arc_at, AreInside}
 use Rattle.crn_graph.specs.Inner.Search.{Steps, zeros}
 use Rattle.crn_graph.specs.Inner.Ranks.{rank_at, place_at, path_at, start_at, open_at, rest_at, IsOnPath, IsPath, IsRanking, KeepsPlaces, HasEntered, HasCome, HasMerged, HasClosed, IsOpenEnd, IsUnranked, AreRanks}
 use Rattle.crn_graph.proofs.SearchLaws.{IsWritten, written, zeros-set, zeros_few}

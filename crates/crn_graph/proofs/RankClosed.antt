@@ -3,7 +3,7 @@ use Rattle.std.proofs.Common.{◌≡◌, ℕ, ◌+◌, ◌-◌, ◌<◌, ◌≤�
 use Rattle.std.proofs.lemmas.Bool.{cases_eq, cases_lt}
 use Rattle.crn_graph.specs.declared.arcs.Arc.{Arc}
 use Rattle.crn_graph.specs.declared.ranks.Ranking.{Ranking}
-use Rattle.crn_graph.specs.Inner.Arcs.{arc_at, HasArc}
+use Rattle.crn_graph.specs.Arcs.{arc_at, HasArc}
 use Rattle.crn_graph.specs.Inner.Search.{zeros}
 use Rattle.crn_graph.specs.Inner.Strong.{AreStrong}
 use Rattle.crn_graph.specs.Inner.Ranks.{rank_at, place_at, path_at, start_at, open_at, rest_at, IsOnPath, IsSettled, IsPath, AreParts, IsRanking, HasClosed, IsOpenEnd}

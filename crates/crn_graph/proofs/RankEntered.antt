@@ -5,7 +5,7 @@ use Rattle.crn_vec.specs.Walks.{LeadsTo}
 use Rattle.crn_vec.proofs.CallerLemmas.{leads_here}
 use Rattle.crn_graph.specs.declared.arcs.Arc.{Arc}
 use Rattle.crn_graph.specs.declared.ranks.Ranking.{Ranking}
-use Rattle.crn_graph.specs.Inner.Arcs.{arc_at}
+use Rattle.crn_graph.specs.Arcs.{arc_at}
 use Rattle.crn_graph.specs.Inner.Search.{Steps, zeros}
 use Rattle.crn_graph.specs.Inner.Ranks.{rank_at, place_at, path_at, start_at, open_at, rest_at, IsRest, IsOnPath, IsSettled, IsPath, AreParts, AreFollowed, AreOpen, IsRanking, KeepsPlaces, HasEntered}
 use Rattle.crn_graph.proofs.SearchLaws.{IsWritten, written, zeros-set}

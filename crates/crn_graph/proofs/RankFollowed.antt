@@ -8,7 +8,7 @@ use Rattle.crn_vec.specs.Walks.{LeadsTo}
 use Rattle.crn_vec.proofs.CallerLemmas.{leads_then, leads_step}
 use Rattle.crn_graph.specs.declared.arcs.Arc.{Arc}
 use Rattle.crn_graph.specs.declared.ranks.Ranking.{Ranking}
-use Rattle.crn_graph.specs.Inner.Arcs.{arc_at}
+use Rattle.crn_graph.specs.Arcs.{arc_at}
 use Rattle.crn_graph.specs.Inner.Graph.{IsNext}
 use Rattle.crn_graph.specs.Inner.Search.{Steps}
 use Rattle.crn_graph.specs.Inner.Ranks.{place_at, path_at, start_at, open_at, rest_at, IsRest, IsOnPath, IsSettled, IsRanking, HasMerged}

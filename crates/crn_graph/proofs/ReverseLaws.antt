@@ -11,7 +11,8 @@ use Rattle.crn_cert.specs.Ranges.{IsFrom, AreFrom}
 use Rattle.crn_cert.specs.ClassTests.{IsReverse, AreReverses}
 use Rattle.crn_graph.specs.declared.arcs.Arc.{Arc}
 use Rattle.crn_graph.specs.declared.arcs.Way.TheVariants.{Along}
-use Rattle.crn_graph.specs.Inner.Arcs.{HasArc, AreArcsOf}
+use Rattle.crn_graph.specs.Arcs.{HasArc}
+use Rattle.crn_graph.specs.Inner.Arcs.{AreArcsOf}
 use Rattle.crn_graph.proofs.LinkTests.{in_numbered, are_from}
 
 -- an arc along a reaction is that reaction

@@ -6,7 +6,7 @@ use Rattle.crn_vec.specs.Walks.{LeadsTo}
 use Rattle.crn_vec.proofs.CallerLemmas.{leads_then, leads_step, leads_keeps}
 use Rattle.crn_graph.specs.declared.arcs.Arc.{Arc}
 use Rattle.crn_graph.specs.declared.search.Search.{Search}
-use Rattle.crn_graph.specs.Inner.Arcs.{arc_at, HasArc}
+use Rattle.crn_graph.specs.Arcs.{arc_at, HasArc}
 use Rattle.crn_graph.specs.Inner.Graph.{IsNext}
 use Rattle.crn_graph.specs.Inner.Search.{Steps, zeros, label_at, up_at, depth_at, found_at, first_found, AreLong, IsBlank, IsReady, IsReach, IsSpreading, KeepsLabels, GoesOn}
 

@@ -7,7 +7,8 @@ use Rattle.crn_vec.proofs.CallerLemmas.{leads_then, leads_here, leads_step, lead
 use Rattle.crn_graph.specs.declared.arcs.Arc.{Arc}
 use Rattle.crn_graph.specs.declared.arcs.Way.{Way}
 use Rattle.crn_graph.specs.declared.arcs.Way.TheVariants.{Along, Against}
-use Rattle.crn_graph.specs.Inner.Arcs.{arc_at, HasArc, AreArcsOf, AreArcsWithin, AreInside}
+use Rattle.crn_graph.specs.Arcs.{arc_at, HasArc, AreInside}
+use Rattle.crn_graph.specs.Inner.Arcs.{AreArcsOf, AreArcsWithin}
 use Rattle.crn_graph.specs.Inner.Search.{Steps}
 use Rattle.crn_graph.specs.Inner.Linkage.{IsReturning}
 use Rattle.crn_graph.specs.Inner.Strong.{AreStrong}

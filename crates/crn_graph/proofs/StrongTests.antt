@@ -13,7 +13,8 @@ use Rattle.crn_cert.specs.ClassTests.{AreNumbered, AreFromTrees, AreToTrees, of_
 use Rattle.crn_graph.specs.declared.arcs.Arc.{Arc}
 use Rattle.crn_graph.specs.declared.arcs.Way.TheVariants.{Along, Against}
 use Rattle.crn_graph.specs.declared.search.Search.{Search}
-use Rattle.crn_graph.specs.Inner.Arcs.{HasArc, AreArcsOf, AreArcsWithin}
+use Rattle.crn_graph.specs.Arcs.{HasArc}
+use Rattle.crn_graph.specs.Inner.Arcs.{AreArcsOf, AreArcsWithin}
 use Rattle.crn_graph.specs.Inner.Search.{Steps, label_at, up_at}
 use Rattle.crn_graph.specs.Inner.Linkage.{AreClassesTo}
 use Rattle.crn_graph.proofs.LinkTests.{in_numbered, are_from}

@@ -1,6 +1,7 @@
 ghost use Rattle.std.specs.Prelude.{◌↔◌, ◌≤◌, length, IfOk, OnOk, IsTrue};
 ghost use Rattle.crn_vec.specs.CutPairs.{IsBetween};
-ghost use Rattle.crn_graph.specs.Inner.Arcs.{Adds, AreArcsOf, AreInside};
+ghost use Rattle.crn_graph.specs.Arcs.{AreInside};
+ghost use Rattle.crn_graph.specs.Inner.Arcs.{Adds, AreArcsOf};
 
 use crn_net::Network;
 use crn_vec::NoMemory;
@@ -19,12 +20,13 @@ pub(crate) enum Way {
     Round(usize, usize),
 }
 
-// A step from a complex to another, by a reaction, which is counted from 1.
+/// A step from a node to another, under a name. The nodes of a network are its complexes, and the name is the reaction, counted
+/// from 1, by which the step goes.
 #[derive(Clone, Copy, Drop)]
-pub(crate) struct Arc {
-    pub(crate) from: usize,
-    pub(crate) to: usize,
-    pub(crate) reaction: u32,
+pub struct Arc {
+    pub from: usize,
+    pub to: usize,
+    pub reaction: u32,
 }
 
 // Whether y and z are the complexes a and b, in either order.

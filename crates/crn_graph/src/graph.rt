@@ -1,5 +1,6 @@
 ghost use Rattle.std.specs.Prelude.{◌≡◌, ◌≤◌, ◌<◌, length, IfOk};
-ghost use Rattle.crn_graph.specs.Inner.Arcs.{arc_at, AreArcsOf, AreArcsWithin, AreInside};
+ghost use Rattle.crn_graph.specs.Arcs.{arc_at, AreInside};
+ghost use Rattle.crn_graph.specs.Inner.Arcs.{AreArcsOf, AreArcsWithin};
 ghost use Rattle.crn_graph.specs.Inner.Graph.{IsNext};
 
 use crate::arcs::{Arc, Way, arcs_of};
@@ -21,7 +22,7 @@ pub(crate) struct Graph {
 impl Model for Graph {
     ghost use Rattle.std.specs.Prelude.{length};
     ghost use Rattle.crn_graph.specs.Inner.Graph.{KeptGraph, IsChained};
-    ghost use Rattle.crn_graph.specs.Inner.Arcs.{AreInside};
+    ghost use Rattle.crn_graph.specs.Arcs.{AreInside};
 
     ghost Value = { KeptGraph };
 
@@ -35,7 +36,7 @@ impl Model for Graph {
 
 impl Graph {
     // The graph of these arcs.
-    fn of(alloc: Global, arcs: Vec<Arc>, complexes: usize) -> Result<Graph, NoMemory>
+    pub(crate) fn of(alloc: Global, arcs: Vec<Arc>, complexes: usize) -> Result<Graph, NoMemory>
         requires { AreInside complexes arcs.items }
         ensures complexes { IfOk result (λ made. made.complexes ≡ complexes) }
         ensures arcs { IfOk result (λ made. made.arcs ≡ arcs.items) }

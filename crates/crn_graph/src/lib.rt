@@ -2,6 +2,7 @@
 #![tactic(auto)]
 
 mod arcs;
+mod forests;
 mod graph;
 mod laws;
 mod linkage_data;
@@ -11,6 +12,8 @@ mod reverses;
 mod search;
 mod strong_data;
 
+pub use arcs::Arc;
+pub use forests::forest;
 pub use laws::right_labels_are_one;
 pub use linkage_data::{LinkageData, linkage};
 pub use pair::{CutPair, cut_pair};

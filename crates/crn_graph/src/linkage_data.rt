@@ -1,5 +1,5 @@
 ghost use Rattle.std.specs.Prelude.{◌≡◌, ◌≤◌, ◌<◌, ◌+◌, length, IfOk};
-ghost use Rattle.crn_vec.specs.declared.limits.TheConstants.{MAX_COMPLEXES};
+ghost use Rattle.crn_vec.specs.declared.limits.TheConstants.{MAX_REACTIONS};
 ghost use Rattle.crn_vec.specs.Linkage.{AreRightLabels};
 ghost use Rattle.crn_cert.specs.Ranges.{IsFrom, AreFrom};
 ghost use Rattle.crn_cert.specs.Parts.{IsForest};
@@ -32,7 +32,7 @@ fn label_from(search: &mut Search, graph: &Graph, count: u32, c: usize) -> u32
     requires returning { IsReturning graph.now.arcs }
     requires classes { AreClassesTo graph.now.arcs search.old count c }
     requires long { length search.old.label.items ≡ graph.now.complexes }
-    requires small { graph.now.complexes ≤ MAX_COMPLEXES }
+    requires small { graph.now.complexes ≤ MAX_REACTIONS }
     requires inside { c < graph.now.complexes }
     ensures classes { AreClassesTo graph.now.arcs search.new result (c + 1) }
     ensures long { length search.new.label.items ≡ graph.now.complexes }
@@ -49,7 +49,7 @@ pub(crate) fn label_all(search: &mut Search, graph: &Graph, complexes: usize) ->
     requires returning { IsReturning graph.now.arcs }
     requires blank { IsBlank complexes search.old }
     requires long { complexes ≡ graph.now.complexes }
-    requires small { graph.now.complexes ≤ MAX_COMPLEXES }
+    requires small { graph.now.complexes ≤ MAX_REACTIONS }
     ensures classes { AreClassesTo graph.now.arcs search.new result complexes }
     ensures long { length search.new.label.items ≡ complexes }
 {

@@ -1,6 +1,6 @@
 ghost use Rattle.std.specs.Prelude.{◌≡◌, ◌≤◌, ◌<◌, ◌+◌, ◌-◌, ◌↔◌, ℕ, length, slice_index, IfOk, IsTrue};
 ghost use Rattle.crn_vec.specs.declared.limits.TheConstants.{MAX_COMPLEXES};
-ghost use Rattle.crn_graph.specs.Inner.Arcs.{arc_at, AreInside};
+ghost use Rattle.crn_graph.specs.Arcs.{arc_at, AreInside};
 ghost use Rattle.crn_graph.specs.Inner.Graph.{IsNext};
 ghost use Rattle.crn_graph.specs.Inner.Ranks.{AreLongRanks, IsPath, IsRanking, HasEntered, HasCome, HasMerged, HasClosed, IsOpenEnd, KeepsPlaces, IsUnranked, AreRanks, weight, rank_at, place_at, path_at, start_at, open_at, rest_at};
 

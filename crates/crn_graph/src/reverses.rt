@@ -1,6 +1,6 @@
 ghost use Rattle.std.specs.Prelude.{◌<◌, ℕ, IfOk, IfSome, IfNone};
 ghost use Rattle.crn_graph.specs.Reverses.{GivesReverses};
-ghost use Rattle.crn_graph.specs.Inner.Arcs.{HasArc};
+ghost use Rattle.crn_graph.specs.Arcs.{HasArc};
 
 use crate::arcs::Way;
 use crate::graph::Graph;

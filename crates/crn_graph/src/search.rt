@@ -1,6 +1,6 @@
 ghost use Rattle.std.specs.Prelude.{◌≡◌, ◌≤◌, ◌<◌, ◌+◌, length, IfOk};
-ghost use Rattle.crn_vec.specs.declared.limits.TheConstants.{MAX_COMPLEXES};
-ghost use Rattle.crn_graph.specs.Inner.Arcs.{arc_at};
+ghost use Rattle.crn_vec.specs.declared.limits.TheConstants.{MAX_REACTIONS};
+ghost use Rattle.crn_graph.specs.Arcs.{arc_at};
 ghost use Rattle.crn_graph.specs.Inner.Search.{AreLong, IsReady, IsBlank, IsSpreading, IsReach, GoesOn, KeepsLabels, first_found, label_at, zeros};
 
 use crate::graph::Graph;
@@ -43,7 +43,7 @@ impl Search {
     fn find(&mut self, graph: &Graph, place: usize)
         requires spreading { IsSpreading graph.now.arcs self.old }
         requires long { length self.old.label.items ≡ graph.now.complexes }
-        requires small { graph.now.complexes ≤ MAX_COMPLEXES }
+        requires small { graph.now.complexes ≤ MAX_REACTIONS }
         requires inside { place < length graph.now.arcs }
         requires from { label_at self.old (arc_at graph.now.arcs place).from ≡ self.old.newest }
         ensures spreading { IsSpreading graph.now.arcs self.new }
@@ -66,7 +66,7 @@ impl Search {
     fn follow(&mut self, graph: &Graph)
         requires spreading { IsSpreading graph.now.arcs self.old }
         requires long { length self.old.label.items ≡ graph.now.complexes }
-        requires small { graph.now.complexes ≤ MAX_COMPLEXES }
+        requires small { graph.now.complexes ≤ MAX_REACTIONS }
         requires waits { self.old.done < self.old.found }
         ensures spreading { IsSpreading graph.now.arcs self.new }
         ensures on { GoesOn self.old self.new }
@@ -84,7 +84,7 @@ impl Search {
     pub(crate) fn spread(&mut self, graph: &Graph, start: usize, label: u32)
         requires ready { IsReady label self.old }
         requires long { length self.old.label.items ≡ graph.now.complexes }
-        requires small { graph.now.complexes ≤ MAX_COMPLEXES }
+        requires small { graph.now.complexes ≤ MAX_REACTIONS }
         requires inside { start < graph.now.complexes }
         requires free { label_at self.old start ≡ 0 }
         ensures spreading { IsSpreading graph.now.arcs self.new }
@@ -120,7 +120,7 @@ impl Search {
     pub(crate) fn reach(&mut self, graph: &Graph, start: usize)
         requires lists { AreLong self.old }
         requires long { length self.old.label.items ≡ graph.now.complexes }
-        requires small { graph.now.complexes ≤ MAX_COMPLEXES }
+        requires small { graph.now.complexes ≤ MAX_REACTIONS }
         requires inside { start < graph.now.complexes }
         ensures reach { IsReach graph.now.arcs self.new start }
         ensures long { length self.new.label.items ≡ graph.now.complexes }

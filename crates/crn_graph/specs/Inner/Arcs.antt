@@ -1,11 +1,12 @@
 -- For the contracts of private functions alone.
 -- The steps of a network that a search may take, as a list of arcs.
 -- Shapes: complexes and places of arcs are counted from 0, reactions from 1.
-use Rattle.std.specs.Prelude.{◌≡◌, ◌≤◌, ◌<◌, ◌⊎◌, ℕ, List, length, slice_index, slice_index_or}
+use Rattle.std.specs.Prelude.{◌≡◌, ◌≤◌, ◌⊎◌, ℕ, List, slice_index}
 use Rattle.crn_vec.specs.Network.{Net}
 use Rattle.crn_vec.specs.CutPairs.{IsBetween}
 use Rattle.crn_cert.specs.Says.{IsReactionNumber}
 use Rattle.crn_graph.specs.declared.arcs.Arc.{Arc}
+use Rattle.crn_graph.specs.Arcs.{HasArc}
 use Rattle.crn_graph.specs.declared.arcs.Way.{Way}
 use Rattle.crn_graph.specs.declared.arcs.Way.TheVariants.{Along, Against, Links, Round}
 
@@ -22,22 +23,6 @@ pub record Goes (net : Net) (way : Way) (r y z : ℕ) : Type 0 where
   pub b : ℕ
   pub is : IsReactionNumber net r a b
   pub allows : Allows way a b y z
-
--- what is read past the end of a list of arcs
-abbrev pub no_arc : Arc
-no_arc = record { from = 0; to = 0; reaction = 0 }
-
--- the arc at a place
-abbrev pub arc_at : List Arc → ℕ → Arc
-arc_at arcs p = slice_index_or arcs p no_arc
-
--- some arc is a step from y to z by reaction r
-pub record HasArc (arcs : List Arc) (r y z : ℕ) : Type 0 where
-  pub place : ℕ
-  pub inside : place < length arcs
-  pub from_is : (arc_at arcs place).from ≡ y
-  pub to_is : (arc_at arcs place).to ≡ z
-  pub reaction_is : (arc_at arcs place).reaction ≡ r
 
 -- the new list has the arcs of the old one, and those of a reaction from a to b
 pub record Adds (way : Way) (a b reaction : ℕ) (old new : List Arc) : Type 0 where
@@ -59,8 +44,3 @@ pub record AreArcsOf (net : Net) (way : Way) (arcs : List Arc) : Type 0 where
 pub record AreArcsWithin (net : Net) (way : Way) (ranks : List ℕ) (arcs : List Arc) : Type 0 where
   pub sound : (r y z : ℕ) → HasArc arcs r y z → Goes net way r y z × (slice_index ranks y ≡ slice_index ranks z)
   pub whole : (r y z : ℕ) → Goes net way r y z → slice_index ranks y ≡ slice_index ranks z → HasArc arcs r y z
-
--- every arc stays among this many complexes
-pub record AreInside (complexes : ℕ) (arcs : List Arc) : Type 0 where
-  pub from : (p : ℕ) → p < length arcs → (arc_at arcs p).from < complexes
-  pub to : (p : ℕ) → p < length arcs → (arc_at arcs p).to < complexes

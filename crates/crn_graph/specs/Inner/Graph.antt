@@ -3,7 +3,7 @@
 -- Shapes: complexes and places of arcs are counted from 0. A chain is one more than the place of its first arc, or 0.
 use Rattle.std.specs.Prelude.{◌≡◌, ◌≤◌, ◌<◌, ◌+◌, ℕ, List, length, slice_index}
 use Rattle.crn_graph.specs.declared.arcs.Arc.{Arc}
-use Rattle.crn_graph.specs.Inner.Arcs.{arc_at}
+use Rattle.crn_graph.specs.Arcs.{arc_at}
 
 -- what contracts see of a graph
 pub record KeptGraph : Type 0 where

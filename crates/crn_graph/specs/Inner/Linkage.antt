@@ -6,7 +6,7 @@ use Rattle.crn_vec.specs.Walks.{LeadsTo}
 use Rattle.crn_cert.specs.ClassTests.{IsFirst}
 use Rattle.crn_graph.specs.declared.arcs.Arc.{Arc}
 use Rattle.crn_graph.specs.declared.search.Search.{Search}
-use Rattle.crn_graph.specs.Inner.Arcs.{HasArc}
+use Rattle.crn_graph.specs.Arcs.{HasArc}
 use Rattle.crn_graph.specs.Inner.Search.{Steps, AreLong, label_at, up_at, depth_at}
 
 -- from the end of each arc other arcs lead back to its beginning

@@ -5,7 +5,7 @@ use Rattle.std.specs.Prelude.{◌≡◌, ◌≤◌, ◌<◌, ◌+◌, ◌-◌, �
 use Rattle.crn_vec.specs.Walks.{LeadsTo}
 use Rattle.crn_graph.specs.declared.arcs.Arc.{Arc}
 use Rattle.crn_graph.specs.declared.ranks.Ranking.{Ranking}
-use Rattle.crn_graph.specs.Inner.Arcs.{arc_at, HasArc}
+use Rattle.crn_graph.specs.Arcs.{arc_at, HasArc}
 use Rattle.crn_graph.specs.Inner.Graph.{IsNext}
 use Rattle.crn_graph.specs.Inner.Search.{Steps, zeros}
 use Rattle.crn_graph.specs.Inner.Strong.{AreStrong}

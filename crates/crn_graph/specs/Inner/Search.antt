@@ -5,7 +5,7 @@ use Rattle.std.specs.Prelude.{◌≡◌, ◌≢◌, ◌≤◌, ◌<◌, ◌+◌,
 use Rattle.crn_vec.specs.Walks.{LeadsTo}
 use Rattle.crn_graph.specs.declared.arcs.Arc.{Arc}
 use Rattle.crn_graph.specs.declared.search.Search.{Search}
-use Rattle.crn_graph.specs.Inner.Arcs.{HasArc}
+use Rattle.crn_graph.specs.Arcs.{HasArc}
 
 -- some arc leads from y to z
 abbrev pub Steps : List Arc → ℕ → ℕ → Type 0

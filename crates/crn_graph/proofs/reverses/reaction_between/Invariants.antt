@@ -1,5 +1,5 @@
 use Rattle.std.proofs.Common.{◌≡◌, ◌+◌, ◌<◌, ◌≤◌, ℕ, length}
-use Rattle.crn_graph.specs.Inner.Arcs.{arc_at}
+use Rattle.crn_graph.specs.Arcs.{arc_at}
 use Rattle.crn_graph.proofs.reverses.reaction_between.Given as goal
 
 -- no arc at the chain or after it goes between the two

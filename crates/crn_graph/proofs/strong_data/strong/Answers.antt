@@ -2,7 +2,8 @@ use Rattle.std.proofs.Common.{◌≡◌, ◌<◌, ◌∙◌, ◌-◌, ℕ, suc, 
 use Rattle.crn_cert.specs.Ranges.{IsFrom}
 use Rattle.crn_cert.specs.ClassTests.{AreAllExits, GoesOut, zeros_in, of_class}
 use Rattle.crn_graph.specs.declared.arcs.Way.TheVariants.{Along, Against}
-use Rattle.crn_graph.specs.Inner.Arcs.{AreInside, AreArcsWithin}
+use Rattle.crn_graph.specs.Arcs.{AreInside}
+use Rattle.crn_graph.specs.Inner.Arcs.{AreArcsWithin}
 use Rattle.crn_graph.specs.Inner.Linkage.{AreClassesTo}
 use Rattle.crn_graph.proofs.ExitLaws.{exits_from, terminal_from}
 use Rattle.crn_graph.proofs.StrongLaws.{AreWithin, inner_returns, back_returns}

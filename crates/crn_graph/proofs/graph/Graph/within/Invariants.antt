@@ -1,5 +1,5 @@
 use Rattle.std.proofs.Common.{length}
-use Rattle.crn_graph.specs.Inner.Arcs.{AreInside}
+use Rattle.crn_graph.specs.Arcs.{AreInside}
 use Rattle.crn_graph.proofs.StrongLaws.{AreEqualTo}
 use Rattle.crn_graph.proofs.graph.Graph.within.Given as goal
 
