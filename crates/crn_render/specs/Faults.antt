@@ -27,7 +27,8 @@ name_among number (c ∷ cs) =
 abbrev pub text_name : ℕ → List ℕ
 text_name number = name_among number text_codes
 
--- the numbers of the refusals of a document, with their names
+-- the numbers of the refusals of a document, those of documents of parts after the others, with their
+-- names
 abbrev pub document_codes : List (ℕ × List ℕ)
 document_codes = (21, codes "BadHeader") ∷ (22, codes "BadNetwork") ∷ (23, codes "UnknownWord")
     ∷ (24, codes "BadField") ∷ (25, codes "NumberWide") ∷ (26, codes "WrongOrder")
@@ -36,7 +37,11 @@ document_codes = (21, codes "BadHeader") ∷ (22, codes "BadNetwork") ∷ (23, c
     ∷ (33, codes "NotIndependent") ∷ (34, codes "NotSpanned") ∷ (35, codes "BadVector")
     ∷ (36, codes "WrongNumber") ∷ (37, codes "WrongVerdict") ∷ (41, codes "BadLeaf")
     ∷ (42, codes "NodeNotAllowed") ∷ (43, codes "TreeEndsEarly") ∷ (44, codes "TreeGoesOn")
-    ∷ (45, codes "BadEvidence") ∷ (46, codes "WrongShape") ∷ []
+    ∷ (45, codes "BadEvidence") ∷ (46, codes "WrongShape") ∷ (51, codes "NotSiphon")
+    ∷ (52, codes "NotCovered") ∷ (53, codes "BadLaw") ∷ (54, codes "BadNode")
+    ∷ (55, codes "WrongLine") ∷ (56, codes "WrongCase") ∷ (61, codes "NotIndependent")
+    ∷ (62, codes "NotSpanned") ∷ (63, codes "WrongParts") ∷ (64, codes "BadLink")
+    ∷ (71, codes "BadNode") ∷ (72, codes "BadLeaf") ∷ (73, codes "BadSlope") ∷ []
 
 -- the name beside the first such number of a list
 abbrev pub name_beside : ℕ → List (ℕ × List ℕ) → List ℕ
@@ -52,7 +57,7 @@ document_name number = name_beside number document_codes
 -- how the program is used
 unfoldable pub usage_line : List ℕ
 usage_line =
-    codes "usage: crnt report | certify | check | sample K, with --budget N except for check\n"
+    codes "usage: crnt report | certify | check | sample K | prove PART | verify PART, with --budget N except for check and verify\n"
 
 -- the number and the name of a fault after what became of the text, and its line
 unfoldable pub fault_line : (verb : List ℕ) (number : ℕ) (name : List ℕ) (line : ℕ) → List ℕ
@@ -71,9 +76,12 @@ printed Usage = usage_line
 abbrev pub IsTextCode : ℕ → Type 0
 IsTextCode number = (c : TextCode) × (code_number c ≡ number)
 
--- the number of a refusal of a document
+-- the number of a refusal of a document, or of one of a part: of `persist` and `robust`, of `parts`, of
+-- `endo`
 abbrev pub IsDocumentCode : ℕ → Type 0
 IsDocumentCode number = ((21 ≤ number) × (number ≤ 37)) ⊎ ((41 ≤ number) × (number ≤ 46))
+    ⊎ ((51 ≤ number) × (number ≤ 56)) ⊎ ((61 ≤ number) × (number ≤ 64))
+    ⊎ ((71 ≤ number) × (number ≤ 73))
 
 -- the code has a name
 abbrev pub HasName : Printed → Type 0

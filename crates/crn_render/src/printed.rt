@@ -42,7 +42,7 @@ fn text_code(number: u32) -> TextCode
     }
 }
 
-// The name of the refusal of a document that has this number.
+// The name of the refusal of a document, also one of a part, that has this number.
 fn document_name(number: u32) -> &'static [u8]
     requires { IsDocumentCode number }
     ensures { result.now ≡ name_of_document number }
@@ -70,7 +70,20 @@ fn document_name(number: u32) -> &'static [u8]
         43 => b"TreeEndsEarly",
         44 => b"TreeGoesOn",
         45 => b"BadEvidence",
-        _ => b"WrongShape",
+        46 => b"WrongShape",
+        51 => b"NotSiphon",
+        52 => b"NotCovered",
+        53 => b"BadLaw",
+        54 => b"BadNode",
+        55 => b"WrongLine",
+        56 => b"WrongCase",
+        61 => b"NotIndependent",
+        62 => b"NotSpanned",
+        63 => b"WrongParts",
+        64 => b"BadLink",
+        71 => b"BadNode",
+        72 => b"BadLeaf",
+        _ => b"BadSlope",
     }
 }
 
@@ -102,7 +115,7 @@ fn put_usage<K: Sink>(sink: &mut K) -> Result<(), WriteFault>
 {
     put_all(
         sink,
-        b"usage: crnt report | certify | check | sample K, with --budget N except for check\n",
+        b"usage: crnt report | certify | check | sample K | prove PART | verify PART, with --budget N except for check and verify\n",
     )
 }
 
