@@ -1,0 +1,12 @@
+mod Spread
+mod Filled
+mod Stays
+mod PartRanks
+mod Combs
+mod Outside
+mod Rooted
+mod Judged
+mod Finest
+pub mod CallerLemmas
+mod Greatest
+mod Records

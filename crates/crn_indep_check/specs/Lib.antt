@@ -1,0 +1,5 @@
+pub mod Finest
+pub mod Shown
+pub mod Law
+pub mod Parts
+pub mod Inner

@@ -1,0 +1,127 @@
+ghost use Rattle.std.specs.Prelude.{◌≡◌, ◌≤◌, ◌↔◌, ◌-◌, ℕ, IsTrue, length};
+ghost use Rattle.std.specs.List.{range_with_len};
+ghost use Rattle.crn_vec.specs.Lists.{IsIn};
+ghost use Rattle.crn_cert.specs.Ranges.{IsFrom};
+ghost use Rattle.crn_cert.specs.RankTests.{outside};
+ghost use Rattle.crn_indep_check.specs.Shown.{AreTied, DrawsOn, GivesRow, IsProofForm};
+ghost use Rattle.crn_indep_check.specs.Inner.Ties.{GivesPlace, IsEvenAt};
+
+use crn_cert::RankProof;
+use crn_net::Network;
+use crn_vec::is_nought;
+
+// A place of a number in a list, or none.
+fn place_in(xs: &[u32], q: u32) -> Option<usize>
+    ensures { GivesPlace xs.now q result }
+{
+    for (i, x) in xs.iter().enumerate() {
+        if *x == q {
+            return Some(i);
+        }
+    }
+    None
+}
+
+// Whether a number is in a list.
+fn is_in(xs: &[u32], q: u32) -> bool
+    ensures { IsTrue result ↔ IsIn q xs.now }
+{
+    match place_in(xs, q) {
+        Some(_) => true,
+        None => false,
+    }
+}
+
+// How many reactions before this one are outside the base.
+fn outside_before(base: &[u32], r: u32) -> usize
+    requires { 1 ≤ r }
+    ensures { result ≡ length (outside base.now (range_with_len 1 (r - 1))) }
+{
+    let mut row = 0;
+    for k in 0..r - 1 {
+        if !is_in(base, k + 1) {
+            row += 1;
+        }
+    }
+    row
+}
+
+/// The row of the combination of reaction r in a rank proof, or none if it draws on nothing. Reactions count from 1, rows from
+/// 0.
+pub fn row_for(net: &Network, proof: &RankProof, r: u32) -> Option<usize>
+    requires inside { IsFrom 1 (length net.now.reactions) r }
+    ensures { GivesRow net.now proof.now r result }
+{
+    let _ = net;
+    let base = proof.base.as_slice();
+    if is_in(base, r) {
+        return None;
+    }
+    let row = outside_before(base, r);
+    if row < proof.combs.len() {
+        return Some(row);
+    }
+    None
+}
+
+/// Whether reaction r is outside the base of a rank proof and draws on q, which is in it: its combination, which has this row,
+/// has a number there that is not zero. Reactions count from 1.
+pub fn draws_on(net: &Network, proof: &RankProof, r: u32, row: Option<usize>, q: u32) -> bool
+    requires form { IsProofForm net.now proof.now }
+    requires row { GivesRow net.now proof.now r row }
+    ensures { IsTrue result ↔ DrawsOn net.now proof.now r q }
+{
+    let _ = net;
+    let _ = r;
+    match row {
+        None => false,
+        Some(row) => match place_in(proof.base.as_slice(), q) {
+            None => false,
+            Some(place) => !is_nought(&proof.combs.row(row)[place + 1]),
+        },
+    }
+}
+
+// Whether one of two reactions draws on the other.
+pub(crate) fn are_tied(net: &Network, proof: &RankProof, r: u32, q: u32) -> bool
+    requires form { IsProofForm net.now proof.now }
+    requires first { IsFrom 1 (length net.now.reactions) r }
+    requires second { IsFrom 1 (length net.now.reactions) q }
+    ensures { IsTrue result ↔ AreTied net.now proof.now r q }
+{
+    draws_on(net, proof, r, row_for(net, proof, r), q)
+        || draws_on(net, proof, q, row_for(net, proof, q), r)
+}
+
+// Whether a reaction has the label of whatever it draws on.
+fn is_even_at(net: &Network, proof: &RankProof, labels: &[u32], r: u32) -> bool
+    requires form { IsProofForm net.now proof.now }
+    requires long { length labels.now ≡ length net.now.reactions }
+    requires inside { IsFrom 1 (length net.now.reactions) r }
+    ensures { IsTrue result ↔ IsEvenAt net.now proof.now labels.now r }
+{
+    let row = row_for(net, proof, r);
+    let base = proof.base.as_slice();
+    for b in base {
+        if labels[*b as usize - 1] != labels[r as usize - 1] {
+            if draws_on(net, proof, r, row, *b) {
+                return false;
+            }
+        }
+    }
+    true
+}
+
+// Whether tied reactions have equal labels.
+pub(crate) fn are_even(net: &Network, proof: &RankProof, labels: &[u32]) -> bool
+    requires form { IsProofForm net.now proof.now }
+    requires long { length labels.now ≡ length net.now.reactions }
+    ensures { IsTrue result ↔ ((r : ℕ) → IsEvenAt net.now proof.now labels.now r) }
+{
+    for k in 0..net.reactions() {
+        if !is_even_at(net, proof, labels, k as u32 + 1) {
+            return false;
+        }
+    }
+    true
+}
