@@ -1,0 +1,74 @@
+-- What accepted verdicts say of linkage classes, strong classes and the rank.
+use Rattle.std.proofs.Common.{◌≡◌, ◌⊎◌, ℕ, ◌+◌, ◌≤◌, inl, inr, length, refl, arith}
+use Rattle.crn_vec.specs.Kept.{KeptNums}
+use Rattle.crn_vec.specs.Network.{Net, IsNetwork}
+use Rattle.crn_vec.specs.Rank.{IsRank}
+use Rattle.crn_vec.specs.Deficiency.{vectors, IsDeficiency}
+use Rattle.crn_cert.specs.declared.answer.Verdict.{Verdict}
+use Rattle.crn_cert.specs.declared.answer.Verdict.TheVariants.{Classes, Strong, Rank, Unknown}
+use Rattle.crn_cert.specs.Questions.{Q1, Q2, Q5, on, IsOpen, count_of, labels_of, exits_of}
+use Rattle.crn_cert.specs.Says.{IsTrueOf, AreLinkageClasses}
+use Rattle.crn_cert.specs.Law.{IsTrueOrOpen}
+use Rattle.crn_check.specs.Facts.{KeptFacts, AreFactsOf}
+use Rattle.crn_check.proofs.CallerLemmas.{sound_on, linkage_true, strong_true}
+use Rattle.crn_space.proofs.CallerLemmas.{number_of_classes, rank_leaves}
+use Rattle.crn_robust.specs.Inner.Pairs.{HasStrong}
+use Rattle.crn_robust.specs.Pick.{HoldsBlocks}
+
+linkage_known : (net : Net) (v : Verdict) → IsTrueOf net Q1 v → AreLinkageClasses net (count_of v) (labels_of v)
+linkage_known net (Classes count label) h = h
+linkage_known net v h = absurd h
+
+-- how many linkage classes there are leaves room for the rank
+pub classes_leave : (net : Net) (v : Verdict) (s : ℕ) → IsNetwork net → IsTrueOf net Q1 v → IsRank (vectors net) s → count_of v + s ≤ length net.complexes
+classes_leave net v s n t r =
+    let h = linkage_known net v t in
+    rank_leaves net (count_of v) s (labels_of v) n h.labelled h.count_is r
+
+pub deficiency_by : (net : Net) (v : Verdict) (s d : ℕ) → IsTrueOf net Q1 v → IsRank (vectors net) s → d + count_of v + s ≡ length net.complexes → IsDeficiency net d
+deficiency_by net v s d t r e =
+    let h = linkage_known net v t in
+    record {
+      classes = count_of v;
+      rank = s;
+      classes_are = number_of_classes net (count_of v) (labels_of v) h.labelled h.count_is;
+      rank_is = r;
+      is = e;
+    }
+
+pub classes_known : (net : Net) (facts : KeptFacts) → AreFactsOf net facts → HoldsBlocks facts.earlier → IsTrueOf net Q1 (on facts.earlier Q1)
+classes_known net facts f holds = linkage_true net facts f holds.linkage
+
+-- ---- strong classes
+
+strong_by : (net : Net) (v : Verdict) → IsTrueOf net Q2 v → HasStrong net (labels_of v) (exits_of v)
+strong_by net (Strong count terminal label exit) h = record {
+  long = h.places;
+  classes = λ y lt. (h.right.positive y lt, omega (arith, h.count_is.most y lt, h.classes));
+  exits_are = h.exits_are;
+}
+strong_by net v h = absurd h
+
+pub strong_known : (net : Net) (facts : KeptFacts) → AreFactsOf net facts → HoldsBlocks facts.earlier → HasStrong net (labels_of (on facts.earlier Q2)) (exits_of (on facts.earlier Q2))
+strong_known net facts f holds = strong_by net (on facts.earlier Q2) (strong_true net facts f holds.strong)
+
+-- ---- the rank
+
+rank_or_open : (net : Net) (v : Verdict) → IsTrueOrOpen net Q5 v → IsOpen v ⊎ ((rank : ℕ) × (base : KeptNums) × (v ≡ Rank rank base) × IsRank (vectors net) rank)
+rank_or_open net (Unknown gap) h = inl tt
+rank_or_open net (Rank rank base) h = inr (rank, base, refl, h.rank_is)
+rank_or_open net v h = absurd h
+
+pub rank_known : (net : Net) (facts : KeptFacts) → AreFactsOf net facts → HoldsBlocks facts.earlier → IsTrueOrOpen net Q5 (on facts.earlier Q5)
+rank_known net facts f holds = sound_on net facts.earlier Q5 f.sound holds.rank
+
+-- a verdict that is a rank gives the rank
+pub rank_in : (net : Net) (rank : ℕ) (base : KeptNums) → IsTrueOrOpen net Q5 (Rank rank base) → IsRank (vectors net) rank
+rank_in net rank base h = h.rank_is
+
+-- and one that is none is open
+pub open_if_other : (net : Net) (v : Verdict) → ((rank : ℕ) (base : KeptNums) → v ≡ Rank rank base → ⊥) → IsTrueOrOpen net Q5 v → IsOpen v
+open_if_other net v other h = elim (rank_or_open net v h) as (λ _. IsOpen v) [
+  | inl o ↦ o
+  | inr r ↦ absurd (other r.0 r.1 r.2)
+]

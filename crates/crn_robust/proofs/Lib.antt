@@ -1,0 +1,4 @@
+pub mod CallerLemmas
+mod Pairs
+mod Known
+mod Cases

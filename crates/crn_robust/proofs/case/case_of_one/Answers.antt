@@ -1,0 +1,65 @@
+use Rattle.std.proofs.Common.{◌≡◌, ℕ, ◌+◌, ◌-◌, List, sym, ap, subst, ◌∙◌, arith}
+use Rattle.crn_cert.specs.declared.answer.Verdict.{Verdict}
+use Rattle.crn_cert.specs.Questions.{Q2, on, labels_of, exits_of}
+use Rattle.crn_robust.specs.Robust.{IsLeastPair}
+use Rattle.crn_robust.specs.Inner.Pairs.{HasStrong}
+use Rattle.crn_robust.proofs.Known.{strong_known}
+use Rattle.crn_robust.proofs.Pairs.{pair_small}
+use Rattle.crn_robust.proofs.case.case_of_one.Goals as goal
+
+pub least_pair-requires : goal.least_pair-requires
+least_pair-requires c =
+    let net = c.args.net.now in
+    let facts = c.args.facts.now in
+    let v = on facts.earlier Q2 in
+    let labels : c.labels_in.result.now ≡ labels_of v = c.labels_in.ensures ∙ ap (λ (w : Verdict). labels_of w) c.verdict-strong.ensures in
+    let exits : c.exits_in.result.now ≡ exits_of v = c.exits_in.ensures ∙ ap (λ (w : Verdict). exits_of w) c.verdict-strong.ensures in
+    let h : HasStrong net (labels_of v) (exits_of v) = strong_known net facts c.requires.facts c.requires.holds in
+    record { strong = subst (λ (l : List ℕ). HasStrong net l c.exits_in.result.now) (sym labels) (subst (HasStrong net (labels_of v)) (sym exits) h) }
+
+pub overflow_cast-result : goal.overflow_cast-result
+overflow_cast-result c =
+    let p = c.in-Some.pair in
+    let small = pair_small c.args.net.now p.species p.first p.second c.meets_definition.ensures c.in-Some.ensures.pair in
+    omega (arith, small.0)
+
+pub overflow_add-result : goal.overflow_add-result
+overflow_add-result c =
+    let p = c.in-Some.pair in
+    let small = pair_small c.args.net.now p.species p.first p.second c.meets_definition.ensures c.in-Some.ensures.pair in
+    omega (arith, small.0)
+
+pub overflow_cast-result-in-Some : goal.overflow_cast-result-in-Some
+overflow_cast-result-in-Some c =
+    let p = c.in-Some.pair in
+    let small = pair_small c.args.net.now p.species p.first p.second c.meets_definition.ensures c.in-Some.ensures.pair in
+    omega (arith, small.1)
+
+pub overflow_add-result-in-Some : goal.overflow_add-result-in-Some
+overflow_add-result-in-Some c =
+    let p = c.in-Some.pair in
+    let small = pair_small c.args.net.now p.species p.first p.second c.meets_definition.ensures c.in-Some.ensures.pair in
+    omega (arith, small.1)
+
+pub overflow_cast-result-in-Some-2 : goal.overflow_cast-result-in-Some-2
+overflow_cast-result-in-Some-2 c =
+    let p = c.in-Some.pair in
+    let small = pair_small c.args.net.now p.species p.first p.second c.meets_definition.ensures c.in-Some.ensures.pair in
+    omega (arith, small.2)
+
+pub overflow_add-result-in-Some-2 : goal.overflow_add-result-in-Some-2
+overflow_add-result-in-Some-2 c =
+    let p = c.in-Some.pair in
+    let small = pair_small c.args.net.now p.species p.first p.second c.meets_definition.ensures c.in-Some.ensures.pair in
+    omega (arith, small.2)
+
+pub returns-in-Some : goal.returns-in-Some
+returns-in-Some c =
+    let net = c.args.net.now in
+    let p = c.in-Some.pair in
+    let back : (k : ℕ) → k ≡ k + 1 - 1 = λ k. omega arith in
+    let least : IsLeastPair net (p.species + 1 - 1) (p.first + 1 - 1) (p.second + 1 - 1) =
+    subst (λ (k : ℕ). IsLeastPair net k (p.first + 1 - 1) (p.second + 1 - 1)) (back p.species)
+    (subst (λ (k : ℕ). IsLeastPair net p.species k (p.second + 1 - 1)) (back p.first)
+    (subst (λ (k : ℕ). IsLeastPair net p.species p.first k) (back p.second) c.in-Some.ensures)) in
+    (c.requires.one, omega arith, omega arith, omega arith, least)

@@ -1,0 +1,4 @@
+pub mod Robust
+pub mod Pick
+pub mod Law
+pub mod Inner
