@@ -3,7 +3,9 @@
 import itertools
 import random
 import string
+from pathlib import Path
 
+EXAMPLES = Path(__file__).resolve().parent.parent / "examples" / "networks"
 MAX_TEXT = 2_097_152
 MAX_BUDGET = 100_000
 
@@ -168,6 +170,34 @@ def searches():
 def growth():
     """The same of the futile cycle from one site to twelve, whose last network has 39 species and 72 reactions."""
     return [(f"futile cycle, {sites} site{'s' * (sites > 1)}", futile(sites), True, MAX_BUDGET) for sites in range(1, 13)]
+
+
+def random_conservative(seed, arrows, species=40, reactions=60):
+    """Reactions between random sides of one or two species and sides of the same weight, where each species has one from 1 to 3."""
+    dice = random.Random(seed)
+    weights, lines = [dice.randint(1, 3) for _ in range(species)], set()
+    while len(lines) < reactions:
+        left, right = [dice.randrange(species) for _ in range(dice.randint(1, 2))], []
+        total = sum(weights[s] for s in left)
+        for _ in range(20):
+            s = dice.randrange(species)
+            if sum(weights[t] for t in [*right, s]) <= total:
+                right.append(s)
+        if sum(weights[s] for s in right) == total and sorted(left) != sorted(right):
+            sides = [" + ".join(f"{side.count(s) if side.count(s) > 1 else ''}S{s}" for s in sorted(set(side))) for side in (left, right)]
+            lines.add(f"{sides[0]} {dice.choice(arrows)} {sides[1]}\n")
+    return "".join(sorted(lines))
+
+
+def conservative():
+    """Pairs of a name and a text that spells a conservative network, to look for siphons in."""
+    cascade = (EXAMPLES / "mapk_cascade.crn").read_text("utf-8")
+    return [
+        *((f"futile cycle, {sites} site{'s' * (sites > 1)}", futile(sites)) for sites in range(1, 16)),
+        ("MAPK cascade", cascade),
+        *((f"random, 40 species, seed {seed}", random_conservative(seed, ["->", "<->"])) for seed in range(1, 4)),
+        *((f"random reversible, 40 species, seed {seed}", random_conservative(seed, ["<->"], reactions=20)) for seed in range(1, 4)),
+    ]
 
 
 def networks():
