@@ -21,11 +21,13 @@ from pathlib import Path
 
 import ends
 import second_opinion
+import second_persist
 from end_to_end import NETWORKS, NO_WORDS, READ_FAULT, SECONDS, WRITE_FAULT, first_version, joined
 from tally import Tally
 
 NO_MEMORY = 7
 HERE = Path(__file__).resolve().parent
+PROOF = second_persist.prove(b"A <-> B\n")[1]
 COMPILER = next(filter(None, map(shutil.which, ["cc", "gcc", "clang"])), None)
 # more requests or calls than any run makes
 MOST_CALLS = 100_000
@@ -99,6 +101,9 @@ def inputs(program):
     yield "report on the two-site futile cycle", ["report"], sites
     yield "a refused text", ["report"], b"A => B\n"
     yield "a rejected document", ["check"], document.replace(b"\nq3 yes\n", b"\nq3 no 1\n")
+    yield "prove persist on the two-site futile cycle", ["prove", "persist"], sites
+    yield "verify persist of A <-> B", ["verify", "persist"], PROOF
+    yield "a rejected part document", ["verify", "persist"], PROOF.replace(b"bad 2", b"bad 1")
     yield "no command", ["frobnicate"], b""
     yield "sample 3", ["sample", "3"], b""
 
@@ -107,7 +112,7 @@ def refusals(hostile):
     """Each request for memory, each read and each write refused in turn."""
     for name, words, text in inputs(hostile.program):
         yield from hostile.each(f"memory, {name}", words, text, "REFUSE_MEMORY", is_out_of_memory)
-        if words[0] in ("report", "certify", "check"):
+        if words[0] in ("report", "certify", "check", "prove", "verify"):
             for most in (None, 64, 7):
                 bound = {"MOST_READ": most} if most else {}
                 yield from hostile.each(f"reads of at most {most}, {name}", words, text, "FAIL_READ", is_read_fault, **bound)
@@ -121,13 +126,16 @@ def few(hostile):
     sites = (NETWORKS / "two_site_futile_cycle.crn").read_bytes()
     for name, words, text, most in [
         ("report on the two-site futile cycle", ["report"], sites, 7), ("check of A <-> B", ["check"], joined(ends.ENDS), 64),
-        ("certify on one reaction", ["certify"], b"A -> B\n", 7),
+        ("certify on one reaction", ["certify"], b"A -> B\n", 7), ("verify persist of A <-> B", ["verify", "persist"], PROOF, 7),
+        ("prove persist on the two-site futile cycle", ["prove", "persist"], sites, 7),
     ]:
         # as few reads as give all bytes, and one more that says that none is left
         reads = [-(-len(text) // most) + 1]
         yield from hostile.each(f"reads of at most {most}, {name}", words, text, "FAIL_READ", is_read_fault, reads, MOST_READ=most)
     for name, words, text in [("report on one reaction", ["report"], b"A -> B\n"), ("sample 1", ["sample", "1"], b""),
-                              ("check of A <-> B", ["check"], joined(ends.ENDS)), ("no command", ["frobnicate"], b"")]:
+                              ("check of A <-> B", ["check"], joined(ends.ENDS)), ("no command", ["frobnicate"], b""),
+                              ("prove persist on A <-> B", ["prove", "persist"], b"A <-> B\n"),
+                              ("verify persist of A <-> B", ["verify", "persist"], PROOF)]:
         yield from hostile.each(f"writes of at most 7, {name}", words, text, "FAIL_WRITE", is_write_fault_after(7), MOST_WRITTEN=7)
 
 
@@ -143,10 +151,11 @@ def pieces(hostile):
 def cuts(program):
     """Documents that end at each of their bytes."""
     for name, words, text in inputs(program):
-        if words == ["check"] and second_opinion.check(text)[0] == 0:
+        judge = {"check": second_opinion.check, "verify": second_persist.verify}.get(words[0])
+        if judge and judge(text)[0] == 0:
             for at in range(len(text)):
-                done = subprocess.run([program, "check"], input=text[:at], capture_output=True, timeout=SECONDS)
-                seen, wanted = (done.returncode, done.stdout, done.stderr), (*second_opinion.check(text[:at]), b"")
+                done = subprocess.run([program, *words], input=text[:at], capture_output=True, timeout=SECONDS)
+                seen, wanted = (done.returncode, done.stdout, done.stderr), (*judge(text[:at]), b"")
                 yield f"{name}, cut at byte {at}", seen == wanted and seen[0] == 3, (seen, wanted)
 
 

@@ -1,6 +1,7 @@
 #!/usr/bin/env python3
-"""Writes again what is stored of the program's output: the reports and certificates of `examples`, the report that the gate
-compares, and those that the documents show; `NAME.v1.cert` is in version 1. Each report is judged by the second program first, and each certificate is checked by it.
+"""Writes again what is stored of the program's output: the reports, certificates and documents on persistence of `examples`, the
+report that the gate compares, and those that the documents show; `NAME.v1.cert` is in version 1. Each report and each document is
+judged by the second program first, and each certificate is checked by it.
 
     checks/stored.py PROGRAM     after a question was built, or an answer's free lines have changed
 """
@@ -11,19 +12,22 @@ import sys
 from pathlib import Path
 
 import second_opinion
+import second_persist
 from end_to_end import first_version
 
 ROOT = Path(__file__).resolve().parent.parent
 NETWORKS = ROOT / "examples" / "networks"
 # what the gate runs the program on, and what it has to write
 GATE = ROOT / "crates" / "crnt"
+# the networks with a document on persistence: one with a yes, one with a siphon, and one that is not conservative
+PROVED = ["two_site_futile_cycle", "shinar_feinberg", "edelstein"]
 # the documents that show reports
 SHOWN = ["README.md", "docs/FORMATS.md", "docs/crnt.1"]
 REPORT = re.compile(r"^crn report 1\n(?:.*\n)*?open: .*\n", re.MULTILINE)
 
 
 def written(program, command, text):
-    done = subprocess.run([program, command], input=text, capture_output=True, check=False)
+    done = subprocess.run([program, *command.split()], input=text, capture_output=True, check=False)
     if done.returncode > 1 or done.stderr:
         sys.exit(f"{command} ends with {done.returncode}: {done.stdout[:200]!r}")
     return done.returncode, done.stdout
@@ -42,6 +46,14 @@ def certificate_of(program, name, text):
     status, report = second_opinion.check(out)
     if (status, report) != (0, report_of(program, name, text)):
         sys.exit(f"the certificate of {name} does not give its report: {report[:200]!r}")
+    return out
+
+
+def proof_of(program, name, text):
+    status, out = written(program, "prove persist", text)
+    wrong = second_persist.judged(text, status, out)
+    if wrong:
+        sys.exit(f"the document on {name} is wrong: {wrong}")
     return out
 
 
@@ -78,6 +90,9 @@ def main():
         name, _, version = certificate.stem.partition(".")
         written_now = certificate_of(program, name, (NETWORKS / f"{name}.crn").read_bytes())
         certificate.write_bytes(first_version(written_now) if version == "v1" else written_now)
+    for name in PROVED:
+        document = ROOT / "examples" / "certificates" / f"{name}.persist"
+        document.write_bytes(proof_of(program, name, (NETWORKS / f"{name}.crn").read_bytes()))
     (GATE / "stdout").write_bytes(report_of(program, "the gate", (GATE / "stdin").read_bytes()))
     for path in SHOWN:
         (ROOT / path).write_text(in_document(program, path, networks.values()), "utf-8")

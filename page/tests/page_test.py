@@ -175,7 +175,7 @@ def by_keys(browser):
             break
         seen.append(json.loads(at))
     ids = [it["id"] for it in seen]
-    for name in ("choose", "open", "share", "text", "picture", "smaller", "fit", "larger", "save-picture", "unfold", "copy", "save-report", "report", "certify", "check", "steps", "sample"):
+    for name in ("choose", "open", "share", "text", "picture", "smaller", "fit", "larger", "save-picture", "unfold", "copy", "save-report", "report", "certify", "check", "prove", "steps", "sample"):
         expect(f"{name} is reached by Tab", name in ids, ids)
     expect("each line is reached by Tab", sum(it["tag"] == "SUMMARY" and re.match(r"Q\d", it["text"]) is not None for it in seen) == 15)
     expect("the first stop leads past the text", seen[0]["text"] == "Skip to the results")

@@ -45,7 +45,7 @@ def native(program, words, text):
 
 
 def with_budget(command, budget):
-    return [command, "--budget", budget] if budget else [command]
+    return [*command, "--budget", budget] if budget else command
 
 
 def typed_texts(root):
@@ -85,6 +85,7 @@ def wrong_words():
     yield from (["--budget=7", "report"], ["report", "--budget=000007"], ["report", "--budget", "0"], ["report", "--budget", "100001"])
     yield from (["check", "--budget", "5"], ["certify", "--budget", "x"], ["report", "--budget", "5", "--budget", "5"])
     yield from (["sample"], ["sample", "0"], ["sample", "1"], ["sample", "08"], ["sample", "19"], ["sample", "20"], ["sample", "3", "--budget", "7"], ["sample", "--budget=7", "3"])
+    yield from (["prove"], ["verify"], ["prove", "endo"], ["verify", "persist", "--budget", "7"], ["prove", "--budget=7", "persist"])
 
 
 def jobs(root, program):
@@ -95,11 +96,18 @@ def jobs(root, program):
         documents.append(native(program, ["certify"], text)[1])
         for command in ("report", "certify"):
             for budget in BUDGETS:
-                yield with_budget(command, budget), text
+                yield with_budget([command], budget), text
     for document in documents:
         yield ["check"], document
         for _ in range(6):
             yield ["check"], damaged(document, dice)
+    for file in sorted((root / "examples/networks").glob("*.crn")):
+        text = file.read_bytes()
+        for budget in BUDGETS:
+            yield with_budget(["prove", "persist"], budget), text
+        proof = native(program, ["prove", "persist"], text)[1]
+        for document in (proof, *(damaged(proof, dice) for _ in range(3))):
+            yield ["verify", "persist"], document
     for text in typed_texts(root):
         yield ["report"], text
     for _ in range(200):

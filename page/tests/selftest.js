@@ -203,6 +203,36 @@ async function testWords(test, { samples, reports }) {
     }
 }
 
+// What is asked of persistence, and what of a part document that is opened.
+async function testProofs(test, { proofs, unproved }) {
+    for (const { name, text, budget, document: wanted, says, verdict } of proofs) {
+        $('budget').value = budget;
+        await enter(text);
+        await prove();
+        test.expect(`the document on ${name}`, textOf(proof) === wanted, textOf(proof));
+        test.expect(`what it says of ${name}`, $('proved').textContent === verdict.trim() && !$('proof').hidden, $('proved').textContent);
+        const said = $('proof').querySelector('.evidence').textContent;
+        for (const part of says) test.expect(`the evidence of persistence of ${name}: ${part}`, said.includes(part), said);
+        test.expect(`nothing is missing in what is said of ${name}`, said.length > 20 && !/undefined|NaN|null/.test($('proof').textContent), said);
+        await verifyProof();
+        test.expect(`it is checked again: ${name}`, $('proved').textContent === `checked again: ${verdict.trim()}`, $('proved').textContent);
+        await check(bytesOf(wanted));
+        test.expect(`it is opened: ${name}`, $('certified').textContent === `the document is good: ${verdict.trim()}` && $('proof').querySelector('.evidence').textContent === said, $('certified').textContent);
+        await settled();
+    }
+    $('budget').value = '20000';
+    for (const { name, text, line } of unproved) {
+        await check(bytesIn(text));
+        test.expect(`a part document with ${name} is rejected`, lineOf('rejection') === line.trim() || !line.startsWith('rejected'), `${lineOf('rejection')} for ${line}`);
+        test.expect(`why is said: ${name}`, $('rejection').querySelector('li, .remedy') !== null, $('rejection').textContent);
+    }
+    await enter('A => B');
+    await prove();
+    test.expect('nothing is asked of a refused text', /nothing to ask/.test($('proved').textContent) && $('proof').hidden, $('proved').textContent);
+    await enter(proofs[0].document);
+    test.expect('a part document in place of a network', $('refusal').querySelector('[data-does=check]') !== null, $('refusal').textContent);
+}
+
 async function testFiles(test, { files }) {
     const give = (id, bytes, name) => {
         const list = new DataTransfer();
@@ -368,6 +398,7 @@ async function selftest(jobs) {
     await test.group('certificates', () => testCertificates(test, jobs));
     await test.group('searches', () => testSearch(test, jobs.search));
     await test.group('words', () => testWords(test, jobs));
+    await test.group('proofs', () => testProofs(test, jobs));
     await test.group('files', () => testFiles(test, jobs));
     await test.group('bytes', () => testBytes(test, jobs));
     await test.group('links', () => testLinks(test));
