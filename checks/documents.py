@@ -19,7 +19,7 @@ MOST_README = 1_500
 MOST_WORDS = 62_000
 
 # what README says of the proof
-ROWS = ["`report`", "`certify`", "`check`", "openness", "completeness", "every call returns"]
+ROWS = ["`report`", "`certify`", "`check`", "`prove`, `verify`", "openness", "completeness", "every call returns"]
 
 LINK = re.compile(r"\]\(([^)#:]+)(?:#[^)]*)?\)")
 ANCHOR = re.compile(r"\]\(([^)#:]*)#([^)]+)\)")

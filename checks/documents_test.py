@@ -112,6 +112,7 @@ IsStep n m = m ≡ n
 | `report` | one |
 | `certify` | two |
 | `check` | three |
+| `prove`, `verify` | likewise |
 | openness | four |
 | completeness | five |
 | every call returns | six |
