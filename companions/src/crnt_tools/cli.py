@@ -12,8 +12,8 @@ from typing import Any, Callable, NoReturn, Sequence
 from . import __version__, draw, explain, importing, order, table
 from .errors import CrntError, Refused
 from .loading import load, proofs_in
-from .parts import PARTS
-from .verify import verify
+from .parts import PARTS, is_part_document
+from .verify import verify, verify_part
 
 DONE, OPEN_LEFT, USAGE, READ_FAULT, WRITE_FAULT, INTERRUPTED = 0, 1, 4, 5, 6, 130
 STATUSES = """\
@@ -203,7 +203,8 @@ def do_table(given: argparse.Namespace) -> int:
 
 def do_verify(given: argparse.Namespace) -> int:
     def work(file: str) -> int:
-        write(None, str(verify(read(file))))
+        text = read(file)
+        write(None, f"{verify_part(text).verdict}\n" if is_part_document(text) else str(verify(text)))
         return DONE
 
     return for_each(given.files, work)
@@ -314,9 +315,9 @@ def parser() -> Parser:
     it.add_argument("--processes", type=number(1), metavar="N",
                     help="how many at a time, one for each processor if nothing is said")
 
-    it = verb("verify", do_verify, "Checks a certificate by a second checker, in Python, and prints its report.", """\
+    it = verb("verify", do_verify, "Checks a certificate or a part document by a second checker, in Python, and prints what it says.", """\
   crnt certify < edelstein.crn | crnt-tools verify""")
-    options(it, True, "a certificate", searches=False)
+    options(it, True, "a certificate or a part document", searches=False)
     return made
 
 

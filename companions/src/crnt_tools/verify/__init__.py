@@ -7,9 +7,11 @@
 
 `verify` takes a certificate of either version and gives the report of its network and verdicts, or raises `Rejected` with
 the code and the line of its first fault: the answers of `crnt check`. To write a checker of your own, read `document.py`
-for the lines, `checks.py` for the test of each answer, and `signs.py` for trees. It is not proved.
+for the lines, `checks.py` for the test of each answer, `signs.py` for trees, and `siphons.py` for a part document, which
+`verify_part` takes. It is not proved.
 """
 
 from .checks import verify
+from .siphons import verify_part
 
-__all__ = ["verify"]
+__all__ = ["verify", "verify_part"]

@@ -68,6 +68,21 @@ def verify(certificate: Text) -> Report:
     return Verifier(Document(text)).report()
 
 
+def read_network(document: Document) -> tuple[Network, str]:
+    """The network of a document, and its text: the second line and those of the reactions."""
+    head = re.fullmatch(r"network ([1-9][0-9]{0,2})", document.line().decode("latin-1"))
+    if not head or int(head[1]) > MOST_REACTIONS:
+        raise document.fault(22)
+    text = "".join(document.line().decode("latin-1") + "\n" for _ in range(int(head[1])))
+    try:
+        network = Network.of_text(text)
+    except NotANetwork:
+        raise document.fault(22) from None
+    if str(network) != text:
+        raise document.fault(22)
+    return network, text
+
+
 class Verifier:
     """Reads a document from its first line to its last, and tests each answer."""
 
@@ -80,7 +95,7 @@ class Verifier:
         document.version = {b"crn certificate 1": 1, b"crn certificate 2": 2}.get(document.line(), 0)
         if not document.version:
             raise document.fault(21)
-        self.network, source = self.read_network()
+        self.network, source = read_network(document)
         self.sizes = len(self.network.species), len(self.network.complexes), len(self.network.reactions)
         if document.version == 2:
             (count,) = document.numbers(ranged("vectors", (0, MOST_SHARED)))
@@ -98,20 +113,6 @@ class Verifier:
 
     def section(self, name: str) -> None:
         self.document.record(bare("section", name))
-
-    def read_network(self) -> tuple[Network, str]:
-        document = self.document
-        head = re.fullmatch(r"network ([1-9][0-9]{0,2})", document.line().decode("latin-1"))
-        if not head or int(head[1]) > MOST_REACTIONS:
-            raise document.fault(22)
-        text = "".join(document.line().decode("latin-1") + "\n" for _ in range(int(head[1])))
-        try:
-            network = Network.of_text(text)
-        except NotANetwork:
-            raise document.fault(22) from None
-        if str(network) != text:
-            raise document.fault(22)
-        return network, text
 
     def require(self, holds: bool, code: int = 37) -> None:
         """A test at the head that was read last."""

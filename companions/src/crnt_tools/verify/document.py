@@ -14,6 +14,7 @@ NAMES = {
     27: "EndsEarly", 28: "AfterEnd", 29: "DocumentTooLong", 30: "LineTooLong", 31: "WrongClasses", 32: "WrongWalk",
     33: "NotIndependent", 34: "NotSpanned", 35: "BadVector", 36: "WrongNumber", 37: "WrongVerdict", 41: "BadLeaf",
     42: "NodeNotAllowed", 43: "TreeEndsEarly", 44: "TreeGoesOn", 45: "BadEvidence", 46: "WrongShape",
+    51: "NotSiphon", 52: "NotCovered", 53: "BadLaw", 54: "BadNode",
 }
 NUMBER = re.compile(r"0|-?[1-9][0-9]*")
 MOST_BYTES_OF_LINE, MOST_BYTES, WIDE = 16_384, 2**32, 2**72
@@ -69,10 +70,11 @@ def wide(question: int, system: int, columns: int, rows: int, class_: int = 0) -
 
 
 class Document:
-    """Reads the lines of a certificate. `number` is that of the line which was read last."""
+    """Reads the lines of a certificate, or of a part document, whose words are known. `number` is that of the line which was
+    read last."""
 
-    def __init__(self, text: bytes):
-        self.text, self.at, self.number, self.version = text, 0, 0, 0
+    def __init__(self, text: bytes, known: Sequence[str] = ()):
+        self.text, self.at, self.number, self.version, self.known = text, 0, 0, 0, known
         self.after_tree = False
 
     def fault(self, code: int, line: int | None = None) -> Rejected:
@@ -93,9 +95,9 @@ class Document:
         return line
 
     def words(self, misplaced: int) -> list[str]:
-        """The words of the next line, the first of which has to be a word of the version."""
+        """The words of the next line, the first of which has to be a word of the version or of the part."""
         words = self.line(43 if misplaced == 43 else 27).decode("latin-1").split(" ")
-        if words[0] not in WORDS[self.version]:
+        if words[0] not in (self.known or WORDS[self.version]):
             raise self.fault(23)
         return words
 
