@@ -1,10 +1,13 @@
 """Part documents: what is proved, verified, concluded and tabulated."""
 
+import random
+
 import crnt_tools as ct
 import support
 from crnt_tools import explain
 from crnt_tools.conclusions import conclude_part, data
 from crnt_tools.loading import load, proofs_in
+from crnt_tools.verify import verify_part
 
 #: A network, a budget, what is said of persistence, and the rows that apply.
 ANSWERS = [
@@ -76,3 +79,39 @@ def test_commands():
         yield "an open verdict in the table", status == 1 and out.splitlines()[1].endswith(",open"), (status, out)
         status, _, err = support.command(["table", "--prove", "nothing", files[0]])
         yield "a part that is not there", status == 4, (status, err)
+
+
+def damage(document, dice):
+    """A number or a word of some line changed, or a line left out or twice."""
+    lines = document.split("\n")
+    at, deed = dice.randrange(len(lines) - 1), dice.randrange(4)
+    words = lines[at].split(" ")
+    if deed < 2:
+        k = dice.randrange(len(words))
+        words[k] = dice.choice(["0", "1", "-1", "2", "yes", "void", "end", "", str(2**72)])
+        lines[at] = " ".join(words)
+    else:
+        lines[at : at + 1] = [lines[at]] * (deed - 2) * 2
+    return "\n".join(lines)
+
+
+def answer(check, document):
+    try:
+        return check(document).verdict
+    except ct.Rejected as fault:
+        return f"rejected {fault.code} {fault.name} at line {fault.line}"
+
+
+def test_second_check():
+    """Documents on networks by chance, whole and damaged: both checkers say the same."""
+    seen = set()
+    for seed in range(40):
+        document = ct.prove("persist", support.random_text(seed) if seed > 3 else "A <-> B\nB + C <-> 2D\n")
+        dice = random.Random(seed)
+        for form in [document, *(damage(document, dice) for _ in range(5))]:
+            said = answer(verify_part, form)
+            seen.add(said.split(" at ")[0])
+            yield f"document {seed}", said == answer(ct.verified, form), said, form
+    yield "verdicts and faults", {"persist: yes", "persist: no", "rejected 53 BadLaw", "rejected 26 WrongOrder"} <= seen, seen
+    status, out, _ = support.command(["verify"], ct.prove("persist", "A <-> B\n").encode())
+    yield "the command", (status, out) == (0, "persist: yes\n"), (status, out)
