@@ -33,7 +33,7 @@ for word; do
         *.bc) cp -- "$word" {kept} ;;
     esac
 done
-exec {clang} "$@"
+exec {clang} "$@" -O0
 """
 
 

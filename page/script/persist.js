@@ -29,14 +29,14 @@ function no({ species, reactions, said }) {
     if (word === 'cut') return [{ text: 'The network is not conservative: the reactions, each taken this many times, make no species more, and some less.', numbers: times(reactions, numbers) }];
     const members = species.filter((name, at) => numbers[at] === '1').join(', ');
     return [
-        { text: `The network is conservative, and this is a siphon: ${members}. Each reaction that makes a member uses or needs one.` },
-        { text: 'The reactions, each taken this many times, make more of each member, so nothing is conserved within the siphon:', numbers: times(reactions, cover.numbers) },
+        { text: `This is a siphon: ${members}. Each reaction that makes a member uses or needs one.` },
+        { text: 'The reactions, each taken this many times, make more of each member, so no sum of members with weights of at least 0 is conserved:', numbers: times(reactions, cover.numbers) },
     ];
 }
 
 const OPEN = {
-    spent: ({ said }) => [{ text: `The search has more than ${Number(said[0].numbers[0]).toLocaleString('en')} visits. A greater budget, or another order of the lines, may help.` }],
-    wide: () => [{ text: 'The numbers that are needed are 2^62 or more. An open answer claims nothing.' }],
+    spent: ({ said }) => [{ text: `The document says that the search has more than ${Number(said[0].numbers[0]).toLocaleString('en')} visits. A greater budget, or another order of the lines, may help.` }],
+    wide: () => [{ text: 'The document says that a number of 2^62 or more was met. An open answer claims nothing.' }],
 };
 
 // The evidence, as sentences with what belongs to each.
