@@ -47,14 +47,14 @@ pub use Rattle.crn_ctext.proofs.BlockLaws.{PairsFor}
 -- ---- for the parts
 
 -- Decided statements.
-pub use Rattle.crn_ctext.proofs.Decided.{IsDecided, both_decided, not_decided, if_decided, moved, nat_decided, le_decided, bool_decided, int_decided, int_le_decided, all_decided}
-pub use Rattle.crn_ctext.proofs.TestsDecided.{each_below, some_below}
-pub use Rattle.crn_ctext.proofs.RanksDecided.{law_decided, no_law_decided}
+pub use Rattle.crn_ctext.proofs.Decided.{IsDecided, both_decided, one_decided, not_decided, if_decided, moved, nat_decided, le_decided, bool_decided, int_decided, int_le_decided, all_decided, in_decided}
+pub use Rattle.crn_ctext.proofs.TestsDecided.{each_below, some_below, numbered_decided, tree_decided}
+pub use Rattle.crn_ctext.proofs.RanksDecided.{law_decided, no_law_decided, rank_decided, some_number}
 -- Settled courses.
 pub use Rattle.crn_ctext.proofs.LinesRead.{HaveWords}
 pub use Rattle.crn_ctext.proofs.FormWords.{words_yes, forms_yes, are_words}
 pub use Rattle.crn_ctext.proofs.Courses.{settled_then, fails_with_a_code}
-pub use Rattle.crn_ctext.proofs.Settled.{test_settled, own_settled, give_settled, either_settled}
+pub use Rattle.crn_ctext.proofs.Settled.{AllDecided, test_settled, own_settled, give_settled, either_settled}
 pub use Rattle.crn_ctext.proofs.PartsSettled.{asks_part_settled, asks_parts_settled, part_settled}
 -- Lines that are written and read.
 pub use Rattle.crn_ctext.proofs.Image.{HasNoEnd, written_then, written_cuts, no_end_then, give_no_end, part_record_is_written, written_is_part_record, part_no_end, test_no_end}
@@ -67,6 +67,9 @@ pub use Rattle.crn_ctext.proofs.Bounded.{IsPlain, IsBounded, words_fit, fitting_
 pub use Rattle.crn_ctext.proofs.RanksLinked.{free_fits, free_row}
 pub use Rattle.crn_ctext.proofs.PartNumbers.{FitFields, number_then, rising_fits, small_numbers, one_number, number_fits, number_back}
 pub use Rattle.crn_ctext.proofs.FieldsTyped.{rising}
+-- Records of a part's forms, and the lines of an answer.
+pub use Rattle.crn_ctext.proofs.PartRecords.{only, bare_back, one_back, bits_back, bits_fit, small_numbers_fit, wide_fields, wide_numbers, wide_numbers_fit, species_few, reactions_few, free_bounded, species_row, reactions_row, small_bounded, rising_bounded, bare_row, plain_bare}
+pub use Rattle.crn_ctext.proofs.PartAnswers.{IsFirst, first_back, Say, one_said, none_said, line_on, given, test_back, test_on, either_no_end}
 -- Documents of a part.
 pub use Rattle.crn_ctext.proofs.PartsRead.{IsAnswered, read_is_document, document_is_read, documents_are_judged, part_document_short}
 -- Lines that are written one after another.

@@ -70,6 +70,8 @@ mod WordsApart
 mod PartsSettled
 mod PartsRead
 mod PartNumbers
+mod PartRecords
+mod PartAnswers
 mod LineNumbers
 mod DigitGroups
 mod LineCame

@@ -56,8 +56,8 @@ pub(crate) fn put_exits<K: Sink>(sink: &mut K, verdict: &Verdict) -> Result<(), 
     }
 }
 
-// The records of a rank.
-fn put_rank<K: Sink>(sink: &mut K, proof: &RankProof) -> Result<(), WriteFault>
+/// The records of a rank.
+pub fn put_rank<K: Sink>(sink: &mut K, proof: &RankProof) -> Result<(), WriteFault>
     ensures { Wrote (record_lines (rank_records proof.now))
         (K.seen sink.old) (K.seen sink.new) result }
 {

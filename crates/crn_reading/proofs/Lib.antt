@@ -10,3 +10,5 @@ mod Texts
 mod Endings
 mod LastSteps
 mod Whole
+mod PartLines
+mod PartDocuments
