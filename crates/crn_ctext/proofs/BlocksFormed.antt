@@ -15,11 +15,11 @@ use Rattle.crn_cert.specs.declared.answer.RankProof.{RankProof}
 use Rattle.crn_vec.specs.Kept.{KeptNums}
 use Rattle.crn_cert.specs.Verdicts.{tight, tight_proof, tight_nums, tight_gap, tight_rank}
 use Rattle.crn_ctext.specs.Records.{Record}
-use Rattle.crn_ctext.specs.Blocks.{Problem, problems}
+use Rattle.crn_ctext.specs.Blocks.{Problem}
 use Rattle.crn_ctext.specs.Answers.{nodes, proof_nodes, records}
 use Rattle.crn_ctext.specs.Documents as documents
 use Rattle.crn_ctext.specs.Documents.{IsOneOf, IsTree, AreTrees, Parts, leaf_forms}
-use Rattle.crn_ctext.specs.Meaning.{Known, pairs_of, is_yes, meaning, signal_problems}
+use Rattle.crn_ctext.specs.Meaning.{Known, has_vector, pairs_of, is_yes, sizes_of, problems_by, meaning, signal_problems}
 use Rattle.crn_cert.specs.declared.head_kind.HeadKind.{HeadKind}
 use Rattle.crn_cert.specs.declared.head_kind.HeadKind.TheVariants.{Classes, Strong, Rank, Deficiency, Yes, YesWeak, YesVec, YesSignal, No, NoReaction, NoVec, NoNumber, NoTerminal, NoClass, NoSum, NoDependence, NoCycle, NoPair, NotRegular, OnlyZero, Plane, NotApplicable, Wide, Budget, Rests}
 use Rattle.crn_cert.specs.Data.{Datum, Nums, Led, Basis}
@@ -27,7 +27,7 @@ use Rattle.crn_cert.specs.Table as table
 use Rattle.crn_cert.specs.Table.{TreeRow, fields, trees, one_or_two, signal_tree, others, rank_in}
 use Rattle.crn_cert.specs.Formed.{IsFormedOf}
 use Rattle.crn_cert.specs.Blocks.{Block, FitsBlock, FitsHead, FitsTree, SaysAnswer, trees_of, verdict_of, proof_of, proof_by, rank_proof, class_proofs, class_length, at, nat_in, second_in, nums_in, list_in, gap_in}
-use Rattle.crn_ctext.proofs.Forms.{head_record, row_records}
+use Rattle.crn_ctext.proofs.Forms.{head_record, row_records, spent_place, rests_place}
 use Rattle.crn_ctext.proofs.RowsDerived.{HeadOf, head_by}
 use Rattle.crn_ctext.proofs.RecordsTyped.{records_are_blocks}
 use Rattle.crn_ctext.proofs.RowsSaid.{blocks_are_records}
@@ -52,7 +52,7 @@ signals_like known e true = let n = ap (λ (ps : List ℕ). length known.net.com
 signals_like known e false = let n = ap (λ (ps : List ℕ). length known.net.complexes + length ps) (sym e) in ((refl, n, refl), tt)
 
 abbrev pub AreDue : Known → Question → HeadKind → List Datum → Type 0
-AreDue known q kind h = AreLike (trees known.net known.earlier q kind) (problems meaning q known (head_record q kind h))
+AreDue known q kind h = AreLike (trees known.net known.earlier q kind) (meaning.problems q known (head_record q kind h))
 
 like_by : (known : Known) (q : Question) (kind : HeadKind) (a : HeadOf known q kind) → PairsFor q known → FitsHead q (table.sizes_of known.net known.earlier) kind (head_by known q kind a) → AreDue known q kind (head_by known q kind a)
 like_by known Q1 Classes a e h = tt
@@ -95,8 +95,8 @@ like_by known Q13 YesSignal a e h = tt
 like_by known Q13 No a e h = signals_like known e (is_yes (on known.earlier Q4))
 like_by known Q13 NotApplicable a e h = tt
 like_by known Q13 Wide a e h = tt
-like_by known Q13 Budget a e h = tt
-like_by known Q13 Rests a e h = tt
+like_by known Q13 Budget a e h = subst (λ (place : ℕ). AreLike [] (problems_by Q13 known place)) (sym (spent_place (has_vector (on known.earlier Q12)) (sizes_of known))) tt
+like_by known Q13 Rests a e h = subst (λ (place : ℕ). AreLike [] (problems_by Q13 known place)) (sym (rests_place (has_vector (on known.earlier Q12)) (sizes_of known))) tt
 like_by known Q14 Yes a e h = ((refl, refl, refl), tt)
 like_by known Q14 NoPair a e h = tt
 like_by known Q14 Wide a e h = tt
@@ -166,7 +166,7 @@ blocks_are_formed o known q b e f =
     let plans = f.trees in
     let there = blocks_are_records known q (head_record q b.kind b.head) (row_records (table.rows known.net known.earlier q b.kind b.head) b.rows) e
     (record { kind = b.kind; head = b.head; rows = b.rows; head_fits = head; rows_fit = rows; head_is = refl; rows_are = refl }) in
-    record { head = there.0; rows = there.1; trees = trees_said o (trees known.net known.earlier q b.kind) (problems meaning q known (head_record q b.kind b.head)) b.trees (trees_due known q b.kind b.head e head) plans }
+    record { head = there.0; rows = there.1; trees = trees_said o (trees known.net known.earlier q b.kind) (meaning.problems q known (head_record q b.kind b.head)) b.trees (trees_due known q b.kind b.head e head) plans }
 
 pub formed_are_blocks : OfTrees → (known : Known) (q : Question) (rs : List Record) (p : Parts rs) → PairsFor q known → documents.IsFormed meaning q known rs p
     → (b : Block) × FitsBlock known.net known.earlier q b × (rs ≡ records_in known q b) × (p.head ≡ head_record q b.kind b.head) × (p.rows ≡ row_records (table.rows known.net known.earlier q b.kind b.head) b.rows) × (p.nodes ≡ flat_map nodes b.trees)
@@ -180,8 +180,8 @@ formed_are_blocks o known q rs p e f =
     let rows = b.rows in
     let head_fits = b.head_fits in
     let rows_fit = b.rows_fit in
-    let due = subst (λ (h : Record). AreLike (trees known.net known.earlier q kind) (problems meaning q known h)) (sym b.head_is) (trees_due known q kind head e head_fits) in
-    let t = trees_given o (trees known.net known.earlier q kind) (problems meaning q known p.head) p.nodes due trees_of in (
+    let due = subst (λ (h : Record). AreLike (trees known.net known.earlier q kind) (meaning.problems q known h)) (sym b.head_is) (trees_due known q kind head e head_fits) in
+    let t = trees_given o (trees known.net known.earlier q kind) (meaning.problems q known p.head) p.nodes due trees_of in (
       record { kind = kind; head = head; rows = rows; trees = t.0 },
       record { head = head_fits; rows = rows_fit; trees = t.1 },
       p.all ∙ ap₂ (λ (h : Record) (more : List Record). h ∷ more) b.head_is (ap₂ (λ (x y : List Record). x ++ y) b.rows_are t.2),

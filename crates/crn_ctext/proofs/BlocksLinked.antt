@@ -1,13 +1,12 @@
 -- A formed answer and the records of its block: what is required of the one is required of the other.
 use Rattle.std.proofs.Common.{◌≡◌, ◌⊎◌, ◌+◌, ◌∙◌, ℕ, Bool, true, false, List, [], ◌∷◌, length, refl, sym, ap, ap₂, subst, inl, inr}
-use Rattle.std.specs.Prelude.{Option}
+use Rattle.std.specs.Prelude.{Option, ℤ, pos}
 use Rattle.std.specs.Option.{IsSome, IsSomeAnd}
 use Rattle.std.specs.List.{AllZip}
 use Rattle.crn_vec.specs.Network.{Net}
 use Rattle.crn_vec.specs.declared.signs.Sign.{Sign}
 use Rattle.crn_vec.specs.Influence.{plain_table, strong_table}
 use Rattle.crn_vec.proofs.CallerLemmas.{head_is, tail_is, abs_back}
-use Rattle.crn_cert.specs.declared.answer.Gap.{Gap}
 use Rattle.crn_cert.specs.declared.answer.Gap.TheVariants.{Wide, Budget, Rests}
 use Rattle.crn_cert.specs.declared.answer.Verdict.{Verdict}
 use Rattle.crn_cert.specs.declared.answer.Verdict.TheVariants.{Classes, Strong, Rank, Deficiency, Yes, YesWeak, YesVec, YesSignal, No, NoReaction, NoNumber, NoTerminal, NoClass, NoSum, NoDependence, NoCycle, NotRegular, OnlyZero, Plane, NotApplicable, Unknown}
@@ -19,20 +18,20 @@ use Rattle.crn_cert.specs.Questions.{Earlier, Question, Q1, Q2, Q3, Q4, Q5, Q6, 
 use Rattle.crn_cert.specs.Tests.{Test, test}
 use Rattle.crn_cert.specs.Faults.{WrongNumber, WrongVerdict}
 use Rattle.crn_cert.specs.Trees.{Plan}
-use Rattle.crn_cert.specs.Valid.{linkage_count, head_tests, row_tests, AreClassNumbers, IsValid}
+use Rattle.crn_cert.specs.Valid.{linkage_count, head_tests, row_tests, signal_head, AreClassNumbers, IsValid}
 use Rattle.crn_cert.specs.Verdicts.{tight, tight_proof}
 use Rattle.crn_cert.specs.Table as table
 use Rattle.crn_cert.specs.Table.{TreeRow, trees}
 use Rattle.crn_cert.specs.Blocks.{Block, FitsTree, block_of, head_of as kind_of, trees_of, proof_of}
 use Rattle.crn_cert.specs.Formed.{HeadMayBe, IsFormedOf}
 use Rattle.crn_ctext.specs.Records.{Record, Fits}
-use Rattle.crn_ctext.specs.Blocks.{Problem, head_claims, problems, below, is_open, unless}
+use Rattle.crn_ctext.specs.Blocks.{Problem, below}
 use Rattle.crn_ctext.specs.Documents.{IsFormed, IsOneOf, AreTrees, leaf_forms}
 use Rattle.crn_ctext.specs.Documents as documents
-use Rattle.crn_ctext.specs.Questions.{heads}
+use Rattle.crn_ctext.specs.Questions.{heads, kind_at}
 use Rattle.crn_ctext.specs.Answers.{head_of, records, records_below, proof_nodes}
-use Rattle.crn_ctext.specs.Meaning.{Known, shapes_of, sizes_of, verdict_of as said_verdict, proof_of as said_proof, meaning}
-use Rattle.crn_ctext.proofs.Forms.{head_record, row_records}
+use Rattle.crn_ctext.specs.Meaning.{Known, has_vector, shapes_of, sizes_of, verdict_by, verdict_of as said_verdict, proof_of as said_proof, meaning}
+use Rattle.crn_ctext.proofs.Forms.{head_record, row_records, spent_place, rests_place}
 use Rattle.crn_ctext.proofs.BlockLaws.{PairsFor}
 use Rattle.crn_ctext.proofs.Shown.{shown}
 use Rattle.crn_ctext.proofs.KnownBefore.{AreKnown, IsStrong, IsStrongTrue}
@@ -42,7 +41,7 @@ use Rattle.crn_ctext.proofs.TablesLinked.{concordant_tree, strongly_tree, tables
 use Rattle.crn_ctext.proofs.SignalLinked.{signal_trees, signals_shown, signal_there, signal_back}
 use Rattle.crn_ctext.proofs.RecordsDerived.{records_as_before}
 use Rattle.crn_ctext.proofs.BlocksFormed.{AreLike, blocks_are_formed, nodes_in, trees_due}
-use Rattle.crn_ctext.proofs.BlocksSaid.{block_said}
+use Rattle.crn_ctext.proofs.BlocksSaid.{block_said, turn_is}
 use Rattle.crn_ctext.proofs.BlocksShown.{block_shown}
 use Rattle.crn_ctext.proofs.RecordsTold.{ComesAfter, of_trees, pairs_for}
 
@@ -59,23 +58,6 @@ shown_apart (Ranks list) e = ap (λ (ps : List RankProof). (Ranks ps, [])) (said
 shown_apart p e = refl
 
 -- ---- tests
-
-open_rows : (net : Net) (earlier : Earlier) (q : Question) (gap : Gap) (p : Proof) → row_tests net earlier q (Unknown gap) p ≡ []
-open_rows net earlier Q1 gap p = refl
-open_rows net earlier Q2 gap p = refl
-open_rows net earlier Q3 gap p = refl
-open_rows net earlier Q4 gap p = refl
-open_rows net earlier Q5 gap p = refl
-open_rows net earlier Q6 gap p = refl
-open_rows net earlier Q7 gap p = refl
-open_rows net earlier Q8 gap p = refl
-open_rows net earlier Q9 gap p = refl
-open_rows net earlier Q10 gap p = refl
-open_rows net earlier Q11 gap p = refl
-open_rows net earlier Q12 gap p = refl
-open_rows net earlier Q13 gap p = refl
-open_rows net earlier Q14 gap p = refl
-open_rows net earlier Q15 gap p = refl
 
 -- no test looks at spares
 rows_tight : (net : Net) (earlier : Earlier) (q : Question) (v : Verdict) (p : Proof) → row_tests net earlier q (tight v) (tight_proof p) ≡ row_tests net earlier q v p
@@ -133,18 +115,14 @@ rows_tight net earlier Q15 Yes (One tree) = refl
 rows_tight net earlier Q15 Yes p = refl
 rows_tight net earlier Q15 v p = refl
 
-never : (b : Bool) → unless {A = Test} b [] ≡ []
-never true = refl
-never false = refl
-
 -- the tests of a head on deficiencies, by what they rest on
 abbrev deficiency_tests : Net → ℕ → ℕ → Option ℕ → Type 0 → List {1} Test
 deficiency_tests net total count rank Numbers = test 0 WrongVerdict (IsSome rank) ∷ test 0 WrongNumber (IsSomeAnd rank (λ s. total + count + s ≡ length net.complexes) × Numbers) ∷ []
 
 -- the tests of the record of a head are those of the verdict
-claims_are : (known : Known) (q : Question) (v : Verdict) → HeadMayBe known.net known.earlier q v → head_claims meaning q known (head_of q v) ≡ head_tests known.net known.earlier q v
-claims_are known Q1 v h = never (is_open (head_of Q1 v))
-claims_are known Q2 v h = never (is_open (head_of Q2 v))
+claims_are : (known : Known) (q : Question) (v : Verdict) → HeadMayBe known.net known.earlier q v → meaning.head_claims q known (head_of q v) ≡ head_tests known.net known.earlier q v
+claims_are known Q1 v h = refl
+claims_are known Q2 v h = refl
 claims_are known Q3 Yes h = refl
 claims_are known Q3 (NoReaction r) h = refl
 claims_are known Q3 (Unknown (Wide system class index basis)) h = absurd h
@@ -157,15 +135,15 @@ claims_are known Q4 (Unknown (Wide system class index basis)) h = absurd h
 claims_are known Q4 (Unknown (Budget nodes)) h = absurd h
 claims_are known Q4 (Unknown (Rests question)) h = absurd h
 claims_are known Q4 v h = absurd h
-claims_are known Q5 v h = never (is_open (head_of Q5 v))
+claims_are known Q5 v h = refl
 claims_are known Q6 (Deficiency total classes) h =
     ap (λ (xs : List ℕ). deficiency_tests known.net total (linkage_count known.earlier) (rank_of (on known.earlier Q5)) (AreClassNumbers known.net known.earlier 1 xs)) (abs_back classes.list)
 claims_are known Q6 (Unknown (Wide system class index basis)) h = refl
 claims_are known Q6 (Unknown (Rests question)) h = refl
 claims_are known Q6 (Unknown (Budget nodes)) h = absurd h
 claims_are known Q6 v h = absurd h
-claims_are known Q7 v h = never (is_open (head_of Q7 v))
-claims_are known Q8 v h = never (is_open (head_of Q8 v))
+claims_are known Q7 v h = refl
+claims_are known Q8 v h = refl
 claims_are known Q9 (YesWeak true) h = refl
 claims_are known Q9 (YesWeak false) h = refl
 claims_are known Q9 (NoNumber d) h = refl
@@ -197,22 +175,15 @@ claims_are known Q12 (Unknown (Wide system class index basis)) h = refl
 claims_are known Q12 (Unknown (Rests question)) h = refl
 claims_are known Q12 (Unknown (Budget nodes)) h = absurd h
 claims_are known Q12 v h = absurd h
-claims_are known Q13 (YesSignal turn shelves mu level weights) h = refl
+claims_are known Q13 (YesSignal turn shelves mu level weights) h = ap (λ (z : ℤ). signal_head known.earlier (YesSignal z shelves mu level weights)) (turn_is turn h.0)
 claims_are known Q13 No h = refl
 claims_are known Q13 NotApplicable h = refl
 claims_are known Q13 (Unknown (Wide system class index basis)) h = refl
-claims_are known Q13 (Unknown (Budget nodes)) h = refl
-claims_are known Q13 (Unknown (Rests question)) h = refl
+claims_are known Q13 (Unknown (Budget nodes)) h = ap (λ (place : ℕ). signal_head known.earlier (verdict_by (kind_at Q13 place) (pos nodes ∷ []) [])) (spent_place (has_vector (on known.earlier Q12)) (sizes_of known))
+claims_are known Q13 (Unknown (Rests question)) h = ap (λ (place : ℕ). signal_head known.earlier (verdict_by (kind_at Q13 place) (pos question ∷ []) [])) (rests_place (has_vector (on known.earlier Q12)) (sizes_of known))
 claims_are known Q13 v h = absurd h
-claims_are known Q14 v h = never (is_open (head_of Q14 v))
-claims_are known Q15 v h = never (is_open (head_of Q15 v))
-
--- those of the records below an open head are none, and below a decided one are asked
-below_are : (net : Net) (earlier : Earlier) (q : Question) (v : Verdict) (p : Proof) → unless (is_open (head_of q v)) (row_tests net earlier q v p) ≡ row_tests net earlier q v p
-below_are net earlier q (Unknown (Wide system class index basis)) p = sym (open_rows net earlier q (Wide system class index basis) p)
-below_are net earlier q (Unknown (Budget nodes)) p = sym (open_rows net earlier q (Budget nodes) p)
-below_are net earlier q (Unknown (Rests question)) p = sym (open_rows net earlier q (Rests question) p)
-below_are net earlier q v p = refl
+claims_are known Q14 v h = refl
+claims_are known Q15 v h = refl
 
 -- ---- an answer and its block
 
@@ -248,7 +219,7 @@ block_formed known q v p e f =
     record {
       head = subst (λ (h : Record). IsOneOf (heads q (sizes_of known)) h) (sym a.0) formed.head;
       rows = subst (λ (h : Record). AllZip Fits (below q (shapes_of known) h) own) (sym a.0) (subst (λ (rs : List Record). AllZip Fits (below q (shapes_of known) (head_in q b)) rs) (sym a.1) formed.rows);
-      trees = subst (λ (h : Record). AreTrees Due (problems meaning q known h) (proof_nodes p)) (sym a.0) (subst (λ (ns : List Record). AreTrees Due (problems meaning q known (head_in q b)) ns) (sym (nodes_in p)) formed.trees);
+      trees = subst (λ (h : Record). AreTrees Due (meaning.problems q known h) (proof_nodes p)) (sym a.0) (subst (λ (ns : List Record). AreTrees Due (meaning.problems q known (head_in q b)) ns) (sym (nodes_in p)) formed.trees);
     }
 
 -- and say its verdict
@@ -279,11 +250,10 @@ linked known q v p due e f =
     ∙ ap (λ (ts : List Plan). proof_of known.net known.earlier q b.kind b.head b.rows ts) (sym none) ∙ f.1.1 in
     record {
       formed = block_formed known q v p e f;
-      bare = none_like (trees known.net known.earlier q b.kind) (problems meaning q known (head_of q v)) due
-          (subst (λ (h : Record). AreLike (trees known.net known.earlier q b.kind) (problems meaning q known h)) (sym a.0) (trees_due known q b.kind b.head e fits.head));
+      bare = none_like (trees known.net known.earlier q b.kind) (meaning.problems q known (head_of q v)) due
+          (subst (λ (h : Record). AreLike (trees known.net known.earlier q b.kind) (meaning.problems q known h)) (sym a.0) (trees_due known q b.kind b.head e fits.head));
       heads = claims_are known q v fits.head;
-      rows = ap₂ (λ (w : Verdict) (u : Proof). unless (is_open (head_of q v)) (row_tests known.net known.earlier q w u)) says whole
-          ∙ ap (λ (ts : List {1} Test). unless (is_open (head_of q v)) ts) (rows_tight known.net known.earlier q v p) ∙ below_are known.net known.earlier q v p;
+      rows = ap₂ (λ (w : Verdict) (u : Proof). row_tests known.net known.earlier q w u) says whole ∙ rows_tight known.net known.earlier q v p;
       says = says;
       shows = ap shown whole ∙ shown_apart p none;
     }

@@ -1,20 +1,22 @@
 -- The verdict that the records of a block say is that of the block.
-use Rattle.std.proofs.Common.{◌≡◌, ◌∙◌, ℕ, List, [], ◌∷◌, length, map, refl, sym, ap, ap₂, subst}
+use Rattle.std.proofs.Common.{◌≡◌, ◌∙◌, ℕ, List, [], ◌∷◌, length, map, refl, sym, ap, ap₂, subst, inl, inr}
 use Rattle.std.specs.Prelude.{ℤ, pos}
-use Rattle.std.specs.List.{AllZip, range_with_len}
+use Rattle.std.specs.List.{AllZip, flat_map, range_with_len}
 use Rattle.std.proofs.lemmas.List.{append-nil}
 use Rattle.crn_vec.proofs.CallerLemmas.{abs_back}
 use Rattle.crn_vec.specs.Kept.{KeptNums}
 use Rattle.crn_cert.specs.declared.answer.Gap.TheVariants.{Wide as WideGap}
 use Rattle.crn_cert.specs.declared.answer.Verdict.TheVariants as verdict
-use Rattle.crn_cert.specs.Questions.{Question, Q1, Q2, Q3, Q4, Q5, Q6, Q7, Q8, Q9, Q10, Q11, Q12, Q13, Q14, Q15}
-use Rattle.crn_ctext.specs.Meaning.{Known, nums, verdict_of as said_verdict, sizes_of as said_sizes}
-use Rattle.crn_ctext.proofs.Forms.{head_record, row_records}
+use Rattle.crn_cert.specs.Questions.{Question, Q1, Q2, Q3, Q4, Q5, Q6, Q7, Q8, Q9, Q10, Q11, Q12, Q13, Q14, Q15, on}
+use Rattle.crn_ctext.specs.Meaning.{Known, has_vector, nums, turn_of, wide_gap, verdict_by, verdict_of as said_verdict, sizes_of as said_sizes}
+use Rattle.crn_ctext.specs.Questions.{kind_at}
+use Rattle.crn_ctext.proofs.Forms.{numbers_of, head_record, row_records, spent_place, rests_place}
+use Rattle.crn_cert.specs.Says.{IsTurn}
 use Rattle.crn_cert.specs.declared.head_kind.HeadKind.{HeadKind}
 use Rattle.crn_cert.specs.declared.head_kind.HeadKind.TheVariants.{Classes, Strong, Rank, Deficiency, Yes, YesWeak, YesVec, YesSignal, No, NoReaction, NoVec, NoNumber, NoTerminal, NoClass, NoSum, NoDependence, NoCycle, NoPair, NotRegular, OnlyZero, Plane, NotApplicable, Wide, Budget, Rests}
 use Rattle.crn_cert.specs.Data.{Datum, Num, Nums, Ints, Led, Basis}
 use Rattle.crn_cert.specs.Table.{Row, rows, rank_rows, fields, sizes_of}
-use Rattle.crn_cert.specs.Blocks.{FitsRow, FitsHead, verdict_of}
+use Rattle.crn_cert.specs.Blocks.{FitsRow, FitsHead, verdict_of, ints_in}
 use Rattle.crn_cert.proofs.CallerLemmas.{AllOf, given, fields_in, fields_of, head_back, rows_back}
 
 -- the records of a head and of the rows below it say the verdict of the block
@@ -40,8 +42,13 @@ kept xs = record { list = xs; spare = 0 }
 nums_back : (xs : List ℕ) → nums (map pos xs) ≡ kept xs
 nums_back xs = ap (λ (t : List ℕ). kept t) (abs_back xs)
 
-wide_said : (known : Known) (q : Question) (system class index : ℕ) (basis : List ℕ) (r : List Datum) → IsSaid known q Wide (Basis system class index basis ∷ []) r
-wide_said known q system class index basis r = ap (λ (t : List ℤ). verdict.Unknown (WideGap system class index (nums t))) (append-nil (map pos basis)) ∙ ap (λ (k : KeptNums). verdict.Unknown (WideGap system class index k)) (nums_back basis)
+-- the numbers of an open head whose system is wide
+wide_said : (system class index : ℕ) (basis : List ℕ) → verdict.Unknown (wide_gap (flat_map numbers_of (Basis system class index basis ∷ []))) ≡ verdict_of Wide (Basis system class index basis ∷ []) []
+wide_said system class index basis = ap (λ (t : List ℤ). verdict.Unknown (WideGap system class index (nums t))) (append-nil (map pos basis)) ∙ ap (λ (k : KeptNums). verdict.Unknown (WideGap system class index k)) (nums_back basis)
+
+pub turn_is : (turn : ℤ) → IsTurn turn → turn_of turn ≡ turn
+turn_is turn (inl e) = subst (λ (z : ℤ). turn_of z ≡ z) (sym e) refl
+turn_is turn (inr e) = subst (λ (z : ℤ). turn_of z ≡ z) (sym e) refl
 
 deficiency_said : (known : Known) (total : ℕ) (ds : List ℕ) (r : List Datum) → IsSaid known Q6 Deficiency (Led total ds ∷ []) r
 deficiency_said known total ds r = ap (λ (t : List ℤ). verdict.Deficiency total (nums t)) (append-nil (map pos ds)) ∙ ap (λ (k : KeptNums). verdict.Deficiency total k) (nums_back ds)
@@ -65,16 +72,16 @@ said_by known Q3 NoReaction a r h f = refl
 said_by known Q4 Yes a r h f = refl
 said_by known Q4 NoReaction a r h f = refl
 said_by known Q5 Rank a r h f = rank_said known a.0 r f
-said_by known Q5 Wide a r h f = wide_said known Q5 a.0.0 a.0.1 a.0.2 a.0.3 r
+said_by known Q5 Wide a r h f = wide_said a.0.0 a.0.1 a.0.2 a.0.3
 said_by known Q6 Deficiency a r h f = deficiency_said known a.0.0 a.0.1 r
-said_by known Q6 Wide a r h f = wide_said known Q6 a.0.0 a.0.1 a.0.2 a.0.3 r
+said_by known Q6 Wide a r h f = wide_said a.0.0 a.0.1 a.0.2 a.0.3
 said_by known Q6 Rests a r h f = refl
 said_by known Q7 YesVec a r h f = by_rows known Q7 YesVec a r f (λ b. refl)
 said_by known Q7 NoVec a r h f = by_rows known Q7 NoVec a r f (λ b. refl)
-said_by known Q7 Wide a r h f = wide_said known Q7 a.0.0 a.0.1 a.0.2 a.0.3 r
+said_by known Q7 Wide a r h f = wide_said a.0.0 a.0.1 a.0.2 a.0.3
 said_by known Q8 YesVec a r h f = by_rows known Q8 YesVec a r f (λ b. refl)
 said_by known Q8 NoVec a r h f = by_rows known Q8 NoVec a r f (λ b. refl)
-said_by known Q8 Wide a r h f = wide_said known Q8 a.0.0 a.0.1 a.0.2 a.0.3 r
+said_by known Q8 Wide a r h f = wide_said a.0.0 a.0.1 a.0.2 a.0.3
 said_by known Q9 YesWeak a r h f = refl
 said_by known Q9 NoNumber a r h f = refl
 said_by known Q9 Rests a r h f = refl
@@ -92,21 +99,21 @@ said_by known Q12 YesVec a r h f = vector_said known r f
 said_by known Q12 NotRegular a r h f = refl
 said_by known Q12 OnlyZero a r h f = refl
 said_by known Q12 Plane a r h f = by_rows known Q12 Plane a r f (λ b. refl)
-said_by known Q12 Wide a r h f = wide_said known Q12 a.0.0 a.0.1 a.0.2 a.0.3 r
+said_by known Q12 Wide a r h f = wide_said a.0.0 a.0.1 a.0.2 a.0.3
 said_by known Q12 Rests a r h f = refl
-said_by known Q13 YesSignal a r h f = by_rows known Q13 YesSignal a r f (λ b. refl)
+said_by known Q13 YesSignal a r h f = by_rows known Q13 YesSignal a r f (λ b. ap (λ (z : ℤ). verdict.YesSignal z (ints_in (Ints b.0)) (ints_in (Ints b.1.0)) b.1.1.0 (ints_in (Ints b.1.1.1.0))) (turn_is a.0 h.0))
 said_by known Q13 No a r h f = refl
 said_by known Q13 NotApplicable a r h f = refl
-said_by known Q13 Wide a r h f = wide_said known Q13 a.0.0 a.0.1 a.0.2 a.0.3 r
-said_by known Q13 Budget a r h f = refl
-said_by known Q13 Rests a r h f = refl
+said_by known Q13 Wide a r h f = wide_said a.0.0 a.0.1 a.0.2 a.0.3
+said_by known Q13 Budget a r h f = ap (λ (place : ℕ). verdict_by (kind_at Q13 place) (pos a.0 ∷ []) []) (spent_place (has_vector (on known.earlier Q12)) (said_sizes known))
+said_by known Q13 Rests a r h f = ap (λ (place : ℕ). verdict_by (kind_at Q13 place) (pos a.0 ∷ []) []) (rests_place (has_vector (on known.earlier Q12)) (said_sizes known))
 said_by known Q14 Yes a r h f = refl
 said_by known Q14 NoPair a r h f = by_rows known Q14 NoPair a r f (λ b. refl)
-said_by known Q14 Wide a r h f = wide_said known Q14 a.0.0 a.0.1 a.0.2 a.0.3 r
+said_by known Q14 Wide a r h f = wide_said a.0.0 a.0.1 a.0.2 a.0.3
 said_by known Q14 Budget a r h f = refl
 said_by known Q15 Yes a r h f = refl
 said_by known Q15 NoPair a r h f = by_rows known Q15 NoPair a r f (λ b. refl)
-said_by known Q15 Wide a r h f = wide_said known Q15 a.0.0 a.0.1 a.0.2 a.0.3 r
+said_by known Q15 Wide a r h f = wide_said a.0.0 a.0.1 a.0.2 a.0.3
 said_by known Q15 Budget a r h f = refl
 said_by known q kind a r h f = absurd h
 

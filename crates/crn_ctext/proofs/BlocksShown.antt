@@ -7,24 +7,24 @@ use Rattle.crn_vec.proofs.CallerLemmas.{abs_back, all_append}
 use Rattle.crn_vec.specs.Kept.{KeptNums}
 use Rattle.crn_cert.specs.declared.answer.Proof.TheVariants as proof
 use Rattle.crn_cert.specs.declared.answer.RankProof.{RankProof}
-use Rattle.crn_cert.specs.Questions.{Question, Q1, Q2, Q3, Q4, Q5, Q6, Q7, Q8, Q9, Q10, Q11, Q12, Q13, Q14, Q15}
+use Rattle.crn_cert.specs.Questions.{Question, Q1, Q2, Q3, Q4, Q5, Q6, Q7, Q8, Q9, Q10, Q11, Q12, Q13, Q14, Q15, on}
 use Rattle.crn_cert.specs.Valid.{linkage_count, pair_places}
 use Rattle.crn_cert.specs.declared.head_kind.HeadKind.{HeadKind}
 use Rattle.crn_cert.specs.declared.head_kind.HeadKind.TheVariants.{Classes, Strong, Rank, Deficiency, Yes, YesWeak, YesVec, YesSignal, No, NoReaction, NoVec, NoNumber, NoTerminal, NoClass, NoSum, NoDependence, NoCycle, NoPair, NotRegular, OnlyZero, Plane, NotApplicable, Wide, Budget, Rests}
-use Rattle.crn_cert.specs.Data.{Datum, Nums, Ints, Marks, Led, Field, FreeSeveral, Side, Fits}
+use Rattle.crn_cert.specs.Data.{Datum, Num, Nums, Ints, Marks, Led, Field, FreeSeveral, Side, Fits}
 use Rattle.crn_cert.specs.Parts.{AreClassProofs}
 use Rattle.crn_cert.specs.Verdicts.{tight_rank}
 use Rattle.crn_cert.specs.Table.{Row, row, rows, rank_rows, class_rows, fields, sizes_of}
 use Rattle.crn_cert.specs.Blocks.{Block, FitsBlock, FitsRow, FitsHead, proof_of, rank_proof, class_proofs, rank_data, list_in}
 use Rattle.crn_cert.proofs.CallerLemmas.{AllOf, given, fields_in, fields_of, head_back, rows_back, classes_formed, blocks_are_of_answers}
-use Rattle.crn_ctext.specs.Questions.{later_numbers}
+use Rattle.crn_ctext.specs.Questions.{kind_at, later_numbers}
 use Rattle.crn_ctext.specs.Records.{Record}
 use Rattle.crn_ctext.specs.Answers.{rank_records}
-use Rattle.crn_ctext.specs.Meaning.{Known, nums, lists, shapes_of, proof_of as said_proof, rank_proof as said_rank, class_proofs as said_classes}
+use Rattle.crn_ctext.specs.Meaning.{Known, has_vector, nums, lists, shapes_of, sizes_of as said_sizes, ranks_of, proof_by, proof_of as said_proof, rank_proof as said_rank, class_proofs as said_classes}
 use Rattle.crn_ctext.proofs.RanksLinked.{places_from, sizes_from, classes_said as ranks_said}
 use Rattle.crn_ctext.proofs.RecordsDerived.{classes_said}
 use Rattle.crn_ctext.proofs.BlocksFormed.{answers_formed, classes_tight}
-use Rattle.crn_ctext.proofs.Forms.{numbers_of, head_record, row_records}
+use Rattle.crn_ctext.proofs.Forms.{numbers_of, head_record, row_records, spent_place, rests_place}
 
 -- ---- numbers of records
 
@@ -54,7 +54,7 @@ nums_back xs = ap (λ (t : List ℕ). kept t) (abs_back xs)
 abbrev proof_with : KeptNums → List (List ℤ) → List (List ℤ) → RankProof
 proof_with base duals combs = record { base = base; duals = duals; combs = combs }
 
-rank_shown : (species rank : ℕ) (members : List ℕ) (us : List Datum) → AllZip FitsRow (rank_rows species rank members) us → said_rank rank (row_records (rank_rows species rank members) us) ≡ rank_proof rank us
+rank_shown : (species rank : ℕ) (members : List ℕ) (us : List Datum) → AllZip FitsRow (rank_rows species rank members) us → said_rank rank (lists (row_records (rank_rows species rank members) us)) ≡ rank_proof rank us
 rank_shown species rank members [] f = absurd f
 rank_shown species rank members (Nums xs ∷ us) f =
     let duals = replicate rank (row (codes "dual") (FreeSeveral species)) in
@@ -163,8 +163,8 @@ shown_by known Q13 YesSignal a r h f = refl
 shown_by known Q13 No a r h f = refl
 shown_by known Q13 NotApplicable a r h f = refl
 shown_by known Q13 Wide a r h f = refl
-shown_by known Q13 Budget a r h f = refl
-shown_by known Q13 Rests a r h f = refl
+shown_by known Q13 Budget a r h f = ap (λ (place : ℕ). proof_by (kind_at Q13 place) Q13 (ranks_of (shapes_of known) (head_record Q13 Budget (Num a.0 ∷ [])) []) (pos a.0 ∷ []) []) (spent_place (has_vector (on known.earlier Q12)) (said_sizes known))
+shown_by known Q13 Rests a r h f = ap (λ (place : ℕ). proof_by (kind_at Q13 place) Q13 (ranks_of (shapes_of known) (head_record Q13 Rests (Num a.0 ∷ [])) []) (pos a.0 ∷ []) []) (rests_place (has_vector (on known.earlier Q12)) (said_sizes known))
 shown_by known Q14 Yes a r h f = refl
 shown_by known Q14 NoPair a r h f = refl
 shown_by known Q14 Wide a r h f = refl

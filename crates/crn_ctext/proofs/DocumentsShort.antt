@@ -15,7 +15,7 @@ use Rattle.crn_vec.specs.Influence.{plain_table, strong_table}
 use Rattle.crn_ctext.specs.Records.{Record, Form, Fits, record_text}
 use Rattle.crn_ctext.specs.Kinds.{record_form, free_form}
 use Rattle.crn_ctext.specs.Questions.{Sizes, Shapes, heads, rows, opens, rank_forms, class_forms, class_rank, side_form, classes as classes_of, first_number, later_numbers}
-use Rattle.crn_ctext.specs.Blocks.{Problem, problems, is_open, unless, sections, below, place_of, ended, title, network_line}
+use Rattle.crn_ctext.specs.Blocks.{Problem, sections, below, place_of, ended, title, network_line}
 use Rattle.crn_ctext.specs.Documents.{section, written, table_records, Share, FitsShare, one_word, IsNamed, IsOneOf, IsTree, AreTrees, leaf_forms, document, document2, Parts, IsFormed, AreFormed}
 use Rattle.crn_ctext.specs.Meaning.{Known, pairs_of, sizes_of, shapes_of, problem_over, table_problem, problems_by, meaning}
 use Rattle.crn_ctext.specs.Judged.{AreFormedOf}
@@ -328,17 +328,15 @@ alone_light p rs few t =
 none_light : (rs : List Record) → rs ≡ [] → weight rs ≤ 1528 * length rs
 none_light rs e = subst (λ (xs : List Record). weight xs ≤ 1528 * length xs) (sym e) (omega arith)
 
-concordant_light : (known : Known) (t : Bool) (place : ℕ) (rs : List Record) → IsSmall known → AreTrees AnyLeaf (unless t (problems_by Q14 known place)) rs → weight rs ≤ 1528 * length rs
-concordant_light known true place rs s h = none_light rs h
-concordant_light known false zero rs s h = none_light rs h
-concordant_light known false (suc zero) rs s h = let c = s.species in alone_light (problem_over known.net (table_problem known.net (plain_table known.net))) rs (omega (arith, c), omega (arith, c)) h
-concordant_light known false (suc (suc k)) rs s h = none_light rs h
+concordant_light : (known : Known) (place : ℕ) (rs : List Record) → IsSmall known → AreTrees AnyLeaf (problems_by Q14 known place) rs → weight rs ≤ 1528 * length rs
+concordant_light known zero rs s h = none_light rs h
+concordant_light known (suc zero) rs s h = let c = s.species in alone_light (problem_over known.net (table_problem known.net (plain_table known.net))) rs (omega (arith, c), omega (arith, c)) h
+concordant_light known (suc (suc k)) rs s h = none_light rs h
 
-strongly_light : (known : Known) (t : Bool) (place : ℕ) (rs : List Record) → IsSmall known → AreTrees AnyLeaf (unless t (problems_by Q15 known place)) rs → weight rs ≤ 1528 * length rs
-strongly_light known true place rs s h = none_light rs h
-strongly_light known false zero rs s h = none_light rs h
-strongly_light known false (suc zero) rs s h = let c = s.species in alone_light (problem_over known.net (table_problem known.net (strong_table known.net))) rs (omega (arith, c), omega (arith, c)) h
-strongly_light known false (suc (suc k)) rs s h = none_light rs h
+strongly_light : (known : Known) (place : ℕ) (rs : List Record) → IsSmall known → AreTrees AnyLeaf (problems_by Q15 known place) rs → weight rs ≤ 1528 * length rs
+strongly_light known zero rs s h = none_light rs h
+strongly_light known (suc zero) rs s h = let c = s.species in alone_light (problem_over known.net (table_problem known.net (strong_table known.net))) rs (omega (arith, c), omega (arith, c)) h
+strongly_light known (suc (suc k)) rs s h = none_light rs h
 
 -- the most bytes of the nodes of an answer to the question
 abbrev node_weight : Question → ℕ
@@ -349,7 +347,7 @@ node_weight q = 0
 
 -- the nodes of a formed answer to the question have no more
 abbrev IsLight : Question → Type 0
-IsLight q = (known : Known) (h : Record) (rs : List Record) → IsSmall known → AreTrees AnyLeaf (problems meaning q known h) rs → AllPlain rs → length rs ≤ node_limit q → weight rs ≤ node_weight q
+IsLight q = (known : Known) (h : Record) (rs : List Record) → IsSmall known → AreTrees AnyLeaf (meaning.problems q known h) rs → AllPlain rs → length rs ≤ node_limit q → weight rs ≤ node_weight q
 
 each_light : (q : Question) → IsLight q
 each_light Q1 known h rs s t p few = omega (arith, few, plain_weight rs p)
@@ -365,8 +363,8 @@ each_light Q10 known h rs s t p few = omega (arith, few, plain_weight rs p)
 each_light Q11 known h rs s t p few = omega (arith, few, plain_weight rs p)
 each_light Q12 known h rs s t p few = omega (arith, few, plain_weight rs p)
 each_light Q13 known h rs s t p few = omega (arith, few, plain_weight rs p)
-each_light Q14 known h rs s t p few = omega (arith, few, concordant_light known (is_open h) (place_of (heads Q14 (sizes_of known)) h.words) rs s t)
-each_light Q15 known h rs s t p few = omega (arith, few, strongly_light known (is_open h) (place_of (heads Q15 (sizes_of known)) h.words) rs s t)
+each_light Q14 known h rs s t p few = omega (arith, few, concordant_light known (place_of (heads Q14 (sizes_of known)) h.words) rs s t)
+each_light Q15 known h rs s t p few = omega (arith, few, strongly_light known (place_of (heads Q15 (sizes_of known)) h.words) rs s t)
 
 -- ---- blocks
 

@@ -1,7 +1,7 @@
 -- The forms and the records of documents, from the table of blocks.
-use Rattle.std.specs.Prelude.{◌+◌, ℕ, suc, ℤ, pos, negsuc, Bool, true, false, Option, Some, None, List, [], ◌∷◌, ◌++◌, map, codes}
+use Rattle.std.specs.Prelude.{◌≡◌, refl, ◌+◌, ℕ, suc, ℤ, pos, negsuc, Bool, true, false, Option, Some, None, List, [], ◌∷◌, ◌++◌, map, codes}
 use Rattle.std.specs.List.{flat_map, range_with_len}
-use Rattle.crn_cert.specs.Questions.{Question, Q1, Q2, Q3, Q4, Q5, Q6, Q7, Q8, Q9, Q10, Q11, Q12, Q13, Q14, Q15}
+use Rattle.crn_cert.specs.Questions.{Question}
 use Rattle.crn_cert.specs.Data as typed
 use Rattle.crn_cert.specs.Data.{Datum, Odd, Num, Two, Int, Nums, Ints, Marks, Led, Basis, Field}
 use Rattle.crn_cert.specs.Table.{Row, Sizes, fields}
@@ -11,6 +11,9 @@ use Rattle.crn_ctext.specs.Records as records
 use Rattle.crn_ctext.specs.Records.{Record, Form, Small, Members, CountAndPart, TwoOf, Rising}
 use Rattle.crn_ctext.specs.Kinds.{small, just}
 use Rattle.crn_ctext.specs.Answers.{head_word}
+use Rattle.crn_ctext.specs.Questions as questions
+use Rattle.crn_ctext.specs.Questions.{decided, open_kinds, wide_signal, spent, rests, open_by}
+use Rattle.crn_ctext.specs.Blocks.{place_of}
 
 -- ---- records
 
@@ -54,27 +57,9 @@ words Wide = codes "open" ∷ codes "wide" ∷ []
 words Budget = codes "open" ∷ codes "budget" ∷ []
 words Rests = codes "open" ∷ codes "rests" ∷ []
 
--- the kinds of decided heads of a question; the kinds of open ones are numbered after them
-abbrev pub decided : Question → List HeadKind
-decided Q1 = Classes ∷ []
-decided Q2 = Strong ∷ []
-decided Q3 = Yes ∷ NoReaction ∷ []
-decided Q4 = Yes ∷ NoReaction ∷ []
-decided Q5 = Rank ∷ []
-decided Q6 = Deficiency ∷ []
-decided Q7 = YesVec ∷ NoVec ∷ []
-decided Q8 = YesVec ∷ NoVec ∷ []
-decided Q9 = YesWeak ∷ NoNumber ∷ []
-decided Q10 = Yes ∷ NoTerminal ∷ NoClass ∷ NoSum ∷ []
-decided Q11 = Yes ∷ NoTerminal ∷ NoDependence ∷ NoCycle ∷ []
-decided Q12 = YesVec ∷ NotRegular ∷ OnlyZero ∷ Plane ∷ []
-decided Q13 = YesSignal ∷ No ∷ NotApplicable ∷ []
-decided Q14 = Yes ∷ NoPair ∷ []
-decided Q15 = Yes ∷ NoPair ∷ []
-
 -- the kinds of its heads, in the order in which they are numbered from 1
 abbrev pub kinds : Question → List HeadKind
-kinds q = decided q ++ Wide ∷ Budget ∷ Rests ∷ []
+kinds q = decided q ++ open_kinds
 
 -- the record of a head of this kind
 abbrev pub head_record : Question → HeadKind → List Datum → Record
@@ -153,3 +138,16 @@ way_of (way ∷ more) = way
 -- the form of a record below a head
 abbrev pub row_form : Row → Form
 row_form row = record { place = 0; words = row.word ∷ []; fields = way_of (ways row.field) }
+
+-- ---- places of the last forms of question 13
+
+abbrev pub last_forms : Bool → questions.Sizes → List Form
+last_forms b z = wide_signal b z ++ spent (codes "q13") 5 ∷ rests (codes "q13") 6 12 ∷ []
+
+pub spent_place : (b : Bool) (z : questions.Sizes) → place_of (last_forms b z) (codes "q13" ∷ open_by (codes "budget")) ≡ 5
+spent_place true z = refl
+spent_place false z = refl
+
+pub rests_place : (b : Bool) (z : questions.Sizes) → place_of (last_forms b z) (codes "q13" ∷ open_by (codes "rests")) ≡ 6
+rests_place true z = refl
+rests_place false z = refl

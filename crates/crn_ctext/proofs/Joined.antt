@@ -13,7 +13,7 @@ use Rattle.crn_cert.specs.Formed.{IsFormedOf}
 use Rattle.crn_cert.specs.Valid.{head_tests, row_tests, IsValid}
 use Rattle.crn_cert.proofs.CallerLemmas.{hold_append, hold_parts}
 use Rattle.crn_ctext.specs.Records.{Record}
-use Rattle.crn_ctext.specs.Blocks.{Problem, head_claims, row_claims, problems}
+use Rattle.crn_ctext.specs.Blocks.{Problem}
 use Rattle.crn_ctext.specs.Documents.{Parts, IsFormed, AreTrees, IsGoodLeaf, IsOneOf, leaf_forms}
 use Rattle.crn_ctext.specs.Documents as documents
 use Rattle.crn_ctext.specs.Answers.{head_of, records_below, proof_nodes, records}
@@ -31,9 +31,9 @@ parts q known a = record { head = head_of q a.verdict; rows = records_below (sha
 -- an answer without trees: the records are formed, their tests are those of the answer, and they say its verdict and its proof
 pub record IsLinked (known : Known) (q : Question) (a : Answer) : Type 1 where
   pub formed : IsFormed meaning q known (records q (shapes_of known) a) (parts q known a)
-  pub bare : problems meaning q known (head_of q a.verdict) ≡ []
-  pub heads : head_claims meaning q known (head_of q a.verdict) ≡ head_tests known.net known.earlier q a.verdict
-  pub rows : row_claims meaning q known (head_of q a.verdict) (records_below (shapes_of known) a) ≡ row_tests known.net known.earlier q a.verdict a.proof
+  pub bare : meaning.problems q known (head_of q a.verdict) ≡ []
+  pub heads : meaning.head_claims q known (head_of q a.verdict) ≡ head_tests known.net known.earlier q a.verdict
+  pub rows : meaning.row_claims q known (head_of q a.verdict) (records_below (shapes_of known) a) ≡ row_tests known.net known.earlier q a.verdict a.proof
   pub says : verdict_of q (sizes_of known) (head_of q a.verdict) (records_below (shapes_of known) a) ≡ tight a.verdict
   pub shows : shown (proof_of q (shapes_of known) (head_of q a.verdict) (records_below (shapes_of known) a)) ≡ shown a.proof
 
@@ -62,7 +62,7 @@ pub linked_there : (known : Known) (q : Question) (a : Answer) → IsLinked know
 linked_there known q a l v =
     let hold = hold_parts (head_tests known.net known.earlier q a.verdict) (row_tests known.net known.earlier q a.verdict a.proof) v in
     let formed = l.formed in
-    record { head = subst AllHold (sym l.heads) hold.0; rows = subst AllHold (sym l.rows) hold.1; trees = none_good (problems meaning q known (head_of q a.verdict)) (proof_nodes a.proof) l.bare formed.trees }
+    record { head = subst AllHold (sym l.heads) hold.0; rows = subst AllHold (sym l.rows) hold.1; trees = none_good (meaning.problems q known (head_of q a.verdict)) (proof_nodes a.proof) l.bare formed.trees }
 
 pub linked_back : (known : Known) (q : Question) (a : Answer) → IsLinked known q a → documents.IsValid meaning q known (records q (shapes_of known) a) (parts q known a) → IsValid known.net known.earlier q a
 linked_back known q a l v = hold_append (head_tests known.net known.earlier q a.verdict) (row_tests known.net known.earlier q a.verdict a.proof) (subst AllHold l.heads v.head) (subst AllHold l.rows v.rows)
@@ -74,9 +74,9 @@ pub same_valid : (q : Question) (known : Known) (rs : List Record) (p u : Parts 
     → documents.IsValid meaning q known rs u × (meaning.learn q known p.head p.rows ≡ meaning.learn q known u.head u.rows)
 same_valid q known rs p u f g v =
     let same = (block_apart meaning q known rs rs [] [] p u f g refl).1 in
-    let heads = subst (λ (h : Record). AllHold (head_claims meaning q known h)) same.0 v.head in
-    let rows = subst (λ (h : Record). AllHold (row_claims meaning q known h u.rows)) same.0 (subst (λ (r : List Record). AllHold (row_claims meaning q known p.head r)) same.1 v.rows) in
+    let heads = subst (λ (h : Record). AllHold (meaning.head_claims q known h)) same.0 v.head in
+    let rows = subst (λ (h : Record). AllHold (meaning.row_claims q known h u.rows)) same.0 (subst (λ (r : List Record). AllHold (meaning.row_claims q known p.head r)) same.1 v.rows) in
     let below : p.rows ++ p.nodes ≡ u.rows ++ u.nodes = tail_is p.head u.head (p.rows ++ p.nodes) (u.rows ++ u.nodes) (sym p.all ∙ u.all) in
     let nodes : p.nodes ≡ u.nodes = append_cancel_left u.rows p.nodes u.nodes (ap (λ (t : List Record). t ++ p.nodes) (sym same.1) ∙ below) in
-    let trees = subst (λ (h : Record). AreTrees IsGoodLeaf (problems meaning q known h) u.nodes) same.0 (subst (λ (ns : List Record). AreTrees IsGoodLeaf (problems meaning q known p.head) ns) nodes v.trees) in
+    let trees = subst (λ (h : Record). AreTrees IsGoodLeaf (meaning.problems q known h) u.nodes) same.0 (subst (λ (ns : List Record). AreTrees IsGoodLeaf (meaning.problems q known p.head) ns) nodes v.trees) in
     (record { head = heads; rows = rows; trees = trees }, ap₂ (λ (h : Record) (r : List Record). meaning.learn q known h r) same.0 same.1)

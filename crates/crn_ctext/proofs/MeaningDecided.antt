@@ -1,5 +1,5 @@
 -- Each test of the built questions is decided, whatever a block holds.
-use Rattle.std.proofs.Common.{inl, inr, refl, ◌≡◌, ◌==◌, ℕ, zero, suc, Bool, true, false, List, [], length, map, drop, if◌then◌else◌}
+use Rattle.std.proofs.Common.{inl, inr, refl, ◌≡◌, ◌==◌, ℕ, zero, suc, Bool, true, false, List, [], length, map, drop}
 use Rattle.std.specs.Prelude.{◌≢◌, ℤ, pos, negsuc, Option, Some, None, sum, slice_index_or}
 use Rattle.std.specs.Option.{IsSome}
 use Rattle.std.specs.List.{range_with_len}
@@ -7,9 +7,9 @@ use Rattle.crn_vec.specs.Network.{Net, IsNetwork}
 use Rattle.crn_vec.specs.NetSystems.{reaction_system}
 use Rattle.crn_vec.specs.Problems.{Signed}
 use Rattle.crn_vec.specs.Influence.{plain_table, strong_table}
-use Rattle.crn_cert.specs.declared.answer.Gap.{Gap}
-use Rattle.crn_cert.specs.declared.answer.Verdict.TheVariants.{Unknown}
-use Rattle.crn_cert.specs.declared.answer.Proof.TheVariants.{Nothing}
+use Rattle.crn_cert.specs.declared.answer.RankProof.{RankProof}
+use Rattle.crn_cert.specs.declared.head_kind.HeadKind.{HeadKind}
+use Rattle.crn_cert.specs.declared.head_kind.HeadKind.TheVariants.{Classes, Strong, Rank, Deficiency, Yes, YesWeak, YesVec, YesSignal, No, NoReaction, NoVec, NoNumber, NoTerminal, NoClass, NoSum, NoDependence, NoCycle, NoPair, NotRegular, OnlyZero, Plane, NotApplicable}
 use Rattle.crn_cert.specs.Questions.{Earlier, Q1, Q2, Q3, Q4, Q5, Q6, Q7, Q8, Q9, Q10, Q11, Q12, Q13, Q14, Q15, on, rank_of, deficiencies_of, vector_given, IsOpen}
 use Rattle.crn_vec.specs.Deficiency.{AreAtMostOne}
 use Rattle.crn_cert.specs.ClassTests.{zeros_in}
@@ -17,10 +17,9 @@ use Rattle.crn_cert.specs.Valid.{strong, linkage_rows, strong_rows, reversible_h
 use Rattle.crn_cert.specs.Nodes.{Flats, CutsA, CutsB}
 use Rattle.crn_vec.specs.Concordance.{sign}
 use Rattle.crn_cert.specs.ConfluenceTests.{least_from, others_than}
-use Rattle.crn_ctext.specs.Records.{Record}
-use Rattle.crn_ctext.specs.Questions.{Shapes, heads, later_numbers}
-use Rattle.crn_ctext.specs.Blocks.{place_of, is_open}
-use Rattle.crn_ctext.specs.Meaning.{Known, shapes_of, sizes_of, number, row, nums, ints, lists, rank_proof, class_proofs, gap_of, verdict_by, proof_by, is_yes, problem_over, table_problem, signal_problem, signal_problems, problems_by, meaning}
+use Rattle.crn_ctext.specs.Questions.{heads, later_numbers}
+use Rattle.crn_ctext.specs.Blocks.{place_of}
+use Rattle.crn_ctext.specs.Meaning.{Known, shapes_of, sizes_of, number, row, nums, ints, lists, rank_proof, kind_of, turn_of, verdict_by, ranks_of, proof_by, is_yes, problem_over, table_problem, signal_problem, signal_problems, problems_by, meaning}
 use Rattle.crn_cert.specs.Built.{built}
 use Rattle.crn_ctext.proofs.Decided.{IsDecided, both_decided, one_decided as either_decided, not_decided, if_decided, nat_decided, bool_decided, int_decided}
 use Rattle.crn_ctext.proofs.SignalsDecided.{node_decided, signal_decided}
@@ -37,28 +36,24 @@ OfNetwork known = IsNetwork known.net
 
 -- ---- linkage classes
 
-linkage_rows_decided : (net : Net) (s : Shapes) (t : Bool) (g : Gap) (place : ℕ) (n : List ℤ) (rs : List Record) → AllDecided (linkage_rows net (if t then Unknown g else verdict_by Q1 place n rs) (if t then Nothing else proof_by Q1 s place n rs))
-linkage_rows_decided net s true g place n rs = tt
-linkage_rows_decided net s false g zero n rs = tt
-linkage_rows_decided net s false g (suc zero) n rs =
+linkage_rows_decided : (net : Net) (kind : HeadKind) (ps : List RankProof) (n : List ℤ) (rs : List (List ℤ)) → AllDecided (linkage_rows net (verdict_by kind n rs) (proof_by kind Q1 ps n rs))
+linkage_rows_decided net Classes ps n rs =
     let label = (nums (row rs 0)).list in
     (both_decided (numbered_decided label (number n 0)) (even_decided net label), (link_trees_decided net label (nums (row rs 1)).list (nums (row rs 2)).list, tt))
-linkage_rows_decided net s false g (suc (suc k)) n rs = tt
+linkage_rows_decided net kind ps n rs = tt
 
 linkage_decided : IsDecidedFor meaning OfNetwork Q1
 linkage_decided = record {
   head = λ known h n. tt;
-  rows = λ known h rs n. linkage_rows_decided known.net (shapes_of known) (is_open h) (gap_of h) (place_of (heads Q1 (sizes_of known)) h.words) h.numbers rs;
+  rows = λ known h rs n. linkage_rows_decided known.net (kind_of Q1 (sizes_of known) h) (ranks_of (shapes_of known) h rs) h.numbers (lists rs);
   trees = λ known h n. tt;
   learn = λ known h rs n. n;
 }
 
 -- ---- strong classes
 
-strong_rows_decided : (net : Net) (s : Shapes) (t : Bool) (g : Gap) (place : ℕ) (n : List ℤ) (rs : List Record) → AllDecided (strong_rows net (if t then Unknown g else verdict_by Q2 place n rs) (if t then Nothing else proof_by Q2 s place n rs))
-strong_rows_decided net s true g place n rs = tt
-strong_rows_decided net s false g zero n rs = tt
-strong_rows_decided net s false g (suc zero) n rs =
+strong_rows_decided : (net : Net) (kind : HeadKind) (ps : List RankProof) (n : List ℤ) (rs : List (List ℤ)) → AllDecided (strong_rows net (verdict_by kind n rs) (proof_by kind Q2 ps n rs))
+strong_rows_decided net Strong ps n rs =
     let label = (nums (row rs 0)).list in
     let exit = (nums (row rs 6)).list in (
       numbered_decided label (number n 0),
@@ -70,52 +65,44 @@ strong_rows_decided net s false g (suc zero) n rs =
         ),
       ),
     )
-strong_rows_decided net s false g (suc (suc k)) n rs = tt
+strong_rows_decided net kind ps n rs = tt
 
 strong_decided : IsDecidedFor meaning OfNetwork Q2
 strong_decided = record {
   head = λ known h n. tt;
-  rows = λ known h rs n. strong_rows_decided known.net (shapes_of known) (is_open h) (gap_of h) (place_of (heads Q2 (sizes_of known)) h.words) h.numbers rs;
+  rows = λ known h rs n. strong_rows_decided known.net (kind_of Q2 (sizes_of known) h) (ranks_of (shapes_of known) h rs) h.numbers (lists rs);
   trees = λ known h n. tt;
   learn = λ known h rs n. n;
 }
 
 -- ---- reversible
 
-reversible_head_decided : (net : Net) (t : Bool) (g : Gap) (place : ℕ) (n : List ℤ) → AllDecided (reversible_head net (if t then Unknown g else verdict_by Q3 place n []))
-reversible_head_decided net true g place n = tt
-reversible_head_decided net false g zero n = tt
-reversible_head_decided net false g (suc zero) n = tt
-reversible_head_decided net false g (suc (suc zero)) n = (no_reverse_decided net (number n 0), tt)
-reversible_head_decided net false g (suc (suc (suc k))) n = tt
+reversible_head_decided : (net : Net) (kind : HeadKind) (n : List ℤ) → AllDecided (reversible_head net (verdict_by kind n []))
+reversible_head_decided net NoReaction n = (no_reverse_decided net (number n 0), tt)
+reversible_head_decided net kind n = tt
 
-reversible_rows_decided : (net : Net) (s : Shapes) (t : Bool) (g : Gap) (place : ℕ) (n : List ℤ) (rs : List Record) → AllDecided (reversible_rows net (if t then Unknown g else verdict_by Q3 place n rs) (if t then Nothing else proof_by Q3 s place n rs))
-reversible_rows_decided net s true g place n rs = tt
-reversible_rows_decided net s false g zero n rs = tt
-reversible_rows_decided net s false g (suc zero) n rs = (reverses_decided net (nums (row rs 0)).list, tt)
-reversible_rows_decided net s false g (suc (suc zero)) n rs = tt
-reversible_rows_decided net s false g (suc (suc (suc k))) n rs = tt
+reversible_rows_decided : (net : Net) (kind : HeadKind) (ps : List RankProof) (n : List ℤ) (rs : List (List ℤ)) → AllDecided (reversible_rows net (verdict_by kind n rs) (proof_by kind Q3 ps n rs))
+reversible_rows_decided net Yes ps n rs = (reverses_decided net (nums (row rs 0)).list, tt)
+reversible_rows_decided net kind ps n rs = tt
 
 reversible_decided : IsDecidedFor meaning OfNetwork Q3
 reversible_decided = record {
-  head = λ known h n. reversible_head_decided known.net (is_open h) (gap_of h) (place_of (heads Q3 (sizes_of known)) h.words) h.numbers;
-  rows = λ known h rs n. reversible_rows_decided known.net (shapes_of known) (is_open h) (gap_of h) (place_of (heads Q3 (sizes_of known)) h.words) h.numbers rs;
+  head = λ known h n. reversible_head_decided known.net (kind_of Q3 (sizes_of known) h) h.numbers;
+  rows = λ known h rs n. reversible_rows_decided known.net (kind_of Q3 (sizes_of known) h) (ranks_of (shapes_of known) h rs) h.numbers (lists rs);
   trees = λ known h n. tt;
   learn = λ known h rs n. n;
 }
 
 -- ---- weakly reversible
 
-weak_head_decided : (net : Net) (earlier : Earlier) (t : Bool) (g : Gap) (place : ℕ) (n : List ℤ) → AllDecided (weak_head net earlier (if t then Unknown g else verdict_by Q4 place n []))
-weak_head_decided net earlier true g place n = tt
-weak_head_decided net earlier false g zero n = tt
-weak_head_decided net earlier false g (suc zero) n = (even_decided net (strong earlier), tt)
-weak_head_decided net earlier false g (suc (suc zero)) n = (leaves_decided net earlier (number n 0), tt)
-weak_head_decided net earlier false g (suc (suc (suc k))) n = tt
+weak_head_decided : (net : Net) (earlier : Earlier) (kind : HeadKind) (n : List ℤ) → AllDecided (weak_head net earlier (verdict_by kind n []))
+weak_head_decided net earlier Yes n = (even_decided net (strong earlier), tt)
+weak_head_decided net earlier NoReaction n = (leaves_decided net earlier (number n 0), tt)
+weak_head_decided net earlier kind n = tt
 
 weak_decided : IsDecidedFor meaning OfNetwork Q4
 weak_decided = record {
-  head = λ known h n. weak_head_decided known.net known.earlier (is_open h) (gap_of h) (place_of (heads Q4 (sizes_of known)) h.words) h.numbers;
+  head = λ known h n. weak_head_decided known.net known.earlier (kind_of Q4 (sizes_of known) h) h.numbers;
   rows = λ known h rs n. tt;
   trees = λ known h n. tt;
   learn = λ known h rs n. n;
@@ -123,113 +110,99 @@ weak_decided = record {
 
 -- ---- rank
 
-rank_rows_decided : (net : Net) (s : Shapes) (t : Bool) (g : Gap) (place : ℕ) (n : List ℤ) (rs : List Record) → AllDecided (rank_rows net (if t then Unknown g else verdict_by Q5 place n rs) (if t then Nothing else proof_by Q5 s place n rs))
-rank_rows_decided net s true g place n rs = tt
-rank_rows_decided net s false g zero n rs = tt
-rank_rows_decided net s false g (suc zero) n rs = let p = rank_proof (number n 0) rs in rank_decided net (range_with_len 1 (length net.reactions)) 1 p.base.list p.duals p.combs
-rank_rows_decided net s false g (suc (suc k)) n rs = tt
+rank_rows_decided : (net : Net) (kind : HeadKind) (ps : List RankProof) (n : List ℤ) (rs : List (List ℤ)) → AllDecided (rank_rows net (verdict_by kind n rs) (proof_by kind Q5 ps n rs))
+rank_rows_decided net Rank ps n rs = let p = rank_proof (number n 0) rs in rank_decided net (range_with_len 1 (length net.reactions)) 1 p.base.list p.duals p.combs
+rank_rows_decided net kind ps n rs = tt
 
 ranks_decided : IsDecidedFor meaning OfNetwork Q5
 ranks_decided = record {
   head = λ known h n. tt;
-  rows = λ known h rs n. rank_rows_decided known.net (shapes_of known) (is_open h) (gap_of h) (place_of (heads Q5 (sizes_of known)) h.words) h.numbers rs;
+  rows = λ known h rs n. rank_rows_decided known.net (kind_of Q5 (sizes_of known) h) (ranks_of (shapes_of known) h rs) h.numbers (lists rs);
   trees = λ known h n. tt;
   learn = λ known h rs n. n;
 }
 
 -- ---- deficiency
 
-deficiency_head_decided : (net : Net) (earlier : Earlier) (t : Bool) (g : Gap) (place : ℕ) (n : List ℤ) → AllDecided (deficiency_head net earlier (if t then Unknown g else verdict_by Q6 place n []))
-deficiency_head_decided net earlier true g place n = tt
-deficiency_head_decided net earlier false g zero n = tt
-deficiency_head_decided net earlier false g (suc zero) n =
+deficiency_head_decided : (net : Net) (earlier : Earlier) (kind : HeadKind) (n : List ℤ) → AllDecided (deficiency_head net earlier (verdict_by kind n []))
+deficiency_head_decided net earlier Deficiency n =
     let rank = rank_of (on earlier Q5) in
     (some_rank_decided rank, (both_decided (left_decided net earlier (number n 0) rank) (class_numbers_decided net earlier 1 (nums (later_numbers n)).list), tt))
-deficiency_head_decided net earlier false g (suc (suc k)) n = tt
+deficiency_head_decided net earlier kind n = tt
 
-deficiency_rows_decided : (net : Net) (earlier : Earlier) (s : Shapes) (t : Bool) (g : Gap) (place : ℕ) (n : List ℤ) (rs : List Record) → AllDecided (deficiency_rows net earlier (if t then Unknown g else verdict_by Q6 place n rs) (if t then Nothing else proof_by Q6 s place n rs))
-deficiency_rows_decided net earlier s true g place n rs = tt
-deficiency_rows_decided net earlier s false g zero n rs = tt
-deficiency_rows_decided net earlier s false g (suc zero) n rs = class_ranks_decided net earlier 1 1 (class_proofs s.class_complexes s.class_members (later_numbers n) rs)
-deficiency_rows_decided net earlier s false g (suc (suc k)) n rs = tt
+deficiency_rows_decided : (net : Net) (earlier : Earlier) (kind : HeadKind) (ps : List RankProof) (n : List ℤ) (rs : List (List ℤ)) → AllDecided (deficiency_rows net earlier (verdict_by kind n rs) (proof_by kind Q6 ps n rs))
+deficiency_rows_decided net earlier Deficiency ps n rs = class_ranks_decided net earlier 1 1 ps
+deficiency_rows_decided net earlier kind ps n rs = tt
 
 deficiencies_decided : IsDecidedFor meaning OfNetwork Q6
 deficiencies_decided = record {
-  head = λ known h n. deficiency_head_decided known.net known.earlier (is_open h) (gap_of h) (place_of (heads Q6 (sizes_of known)) h.words) h.numbers;
-  rows = λ known h rs n. deficiency_rows_decided known.net known.earlier (shapes_of known) (is_open h) (gap_of h) (place_of (heads Q6 (sizes_of known)) h.words) h.numbers rs;
+  head = λ known h n. deficiency_head_decided known.net known.earlier (kind_of Q6 (sizes_of known) h) h.numbers;
+  rows = λ known h rs n. deficiency_rows_decided known.net known.earlier (kind_of Q6 (sizes_of known) h) (ranks_of (shapes_of known) h rs) h.numbers (lists rs);
   trees = λ known h n. tt;
   learn = λ known h rs n. n;
 }
 
 -- ---- positive vectors
 
-dependence_rows_decided : (net : Net) (t : Bool) (g : Gap) (place : ℕ) (n : List ℤ) (rs : List Record) → AllDecided (dependence_rows net (if t then Unknown g else verdict_by Q7 place n rs))
-dependence_rows_decided net true g place n rs = tt
-dependence_rows_decided net false g zero n rs = tt
-dependence_rows_decided net false g (suc zero) n rs = (dependence_decided net (ints (row rs 0)).list, tt)
-dependence_rows_decided net false g (suc (suc zero)) n rs = (no_dependence_decided net (ints (row rs 0)).list, tt)
-dependence_rows_decided net false g (suc (suc (suc k))) n rs = tt
+dependence_rows_decided : (net : Net) (kind : HeadKind) (n : List ℤ) (rs : List (List ℤ)) → AllDecided (dependence_rows net (verdict_by kind n rs))
+dependence_rows_decided net YesVec n rs = (dependence_decided net (ints (row rs 0)).list, tt)
+dependence_rows_decided net NoVec n rs = (no_dependence_decided net (ints (row rs 0)).list, tt)
+dependence_rows_decided net kind n rs = tt
 
 positive_decided : IsDecidedFor meaning OfNetwork Q7
 positive_decided = record {
   head = λ known h n. tt;
-  rows = λ known h rs n. dependence_rows_decided known.net (is_open h) (gap_of h) (place_of (heads Q7 (sizes_of known)) h.words) h.numbers rs;
+  rows = λ known h rs n. dependence_rows_decided known.net (kind_of Q7 (sizes_of known) h) h.numbers (lists rs);
   trees = λ known h n. tt;
   learn = λ known h rs n. n;
 }
 
-conservation_rows_decided : (net : Net) (t : Bool) (g : Gap) (place : ℕ) (n : List ℤ) (rs : List Record) → AllDecided (conservation_rows net (if t then Unknown g else verdict_by Q8 place n rs))
-conservation_rows_decided net true g place n rs = tt
-conservation_rows_decided net false g zero n rs = tt
-conservation_rows_decided net false g (suc zero) n rs = (law_decided net (ints (row rs 0)).list, tt)
-conservation_rows_decided net false g (suc (suc zero)) n rs = (no_law_decided net (ints (row rs 0)).list, tt)
-conservation_rows_decided net false g (suc (suc (suc k))) n rs = tt
+conservation_rows_decided : (net : Net) (kind : HeadKind) (n : List ℤ) (rs : List (List ℤ)) → AllDecided (conservation_rows net (verdict_by kind n rs))
+conservation_rows_decided net YesVec n rs = (law_decided net (ints (row rs 0)).list, tt)
+conservation_rows_decided net NoVec n rs = (no_law_decided net (ints (row rs 0)).list, tt)
+conservation_rows_decided net kind n rs = tt
 
 conservative_decided : IsDecidedFor meaning OfNetwork Q8
 conservative_decided = record {
   head = λ known h n. tt;
-  rows = λ known h rs n. conservation_rows_decided known.net (is_open h) (gap_of h) (place_of (heads Q8 (sizes_of known)) h.words) h.numbers rs;
+  rows = λ known h rs n. conservation_rows_decided known.net (kind_of Q8 (sizes_of known) h) h.numbers (lists rs);
   trees = λ known h n. tt;
   learn = λ known h rs n. n;
 }
 
 -- ---- the two deficiency theorems
 
-zero_head_decided : (net : Net) (earlier : Earlier) (t : Bool) (g : Gap) (place : ℕ) (n : List ℤ) → AllDecided (zero_head net earlier (if t then Unknown g else verdict_by Q9 place n []))
-zero_head_decided net earlier true g place n = tt
-zero_head_decided net earlier false g zero n = tt
-zero_head_decided net earlier false g (suc zero) n =
+zero_head_decided : (net : Net) (earlier : Earlier) (kind : HeadKind) (n : List ℤ) → AllDecided (zero_head net earlier (verdict_by kind n []))
+zero_head_decided net earlier YesWeak n =
     let rank = rank_of (on earlier Q5) in
     (some_rank_decided rank, (both_decided (left_decided net earlier 0 rank) (case_decided (number n 0 == 1) (on earlier Q4)), tt))
-zero_head_decided net earlier false g (suc (suc zero)) n =
+zero_head_decided net earlier NoNumber n =
     let rank = rank_of (on earlier Q5) in
     (some_rank_decided rank, (left_decided net earlier (number n 0) rank, tt))
-zero_head_decided net earlier false g (suc (suc (suc k))) n = tt
+zero_head_decided net earlier kind n = tt
 
 zero_decided : IsDecidedFor meaning OfNetwork Q9
 zero_decided = record {
-  head = λ known h n. zero_head_decided known.net known.earlier (is_open h) (gap_of h) (place_of (heads Q9 (sizes_of known)) h.words) h.numbers;
+  head = λ known h n. zero_head_decided known.net known.earlier (kind_of Q9 (sizes_of known) h) h.numbers;
   rows = λ known h rs n. tt;
   trees = λ known h n. tt;
   learn = λ known h rs n. n;
 }
 
-one_head_decided : (earlier : Earlier) (t : Bool) (g : Gap) (place : ℕ) (n : List ℤ) → AllDecided (one_head earlier (if t then Unknown g else verdict_by Q10 place n []))
-one_head_decided earlier true g place n = tt
-one_head_decided earlier false g zero n = tt
-one_head_decided earlier false g (suc zero) n =
+one_head_decided : (earlier : Earlier) (kind : HeadKind) (n : List ℤ) → AllDecided (one_head earlier (verdict_by kind n []))
+one_head_decided earlier Yes n =
     (both_decided (one_each_decided earlier) (known_decided (λ total classes. AreAtMostOne classes × (sum classes ≡ total)) additive_decided (deficiencies_of (on earlier Q6))), tt)
-one_head_decided earlier false g (suc (suc zero)) n = (first_split_decided earlier (number n 0) (number n 1), tt)
-one_head_decided earlier false g (suc (suc (suc zero))) n =
+one_head_decided earlier NoTerminal n = (first_split_decided earlier (number n 0) (number n 1), tt)
+one_head_decided earlier NoClass n =
     (both_decided (one_each_decided earlier) (known_decided (λ total classes. IsFirstLarge (number n 0) (number n 1) classes) (λ total classes. first_large_decided (number n 0) (number n 1) classes) (deficiencies_of (on earlier Q6))), tt)
-one_head_decided earlier false g (suc (suc (suc (suc zero)))) n =
+one_head_decided earlier NoSum n =
     let x = number n 0 in
     (both_decided (one_each_decided earlier) (known_decided (λ total classes. AreAtMostOne classes × (sum classes ≡ x) × (x ≢ total)) (other_sum_decided x) (deficiencies_of (on earlier Q6))), tt)
-one_head_decided earlier false g (suc (suc (suc (suc (suc k))))) n = tt
+one_head_decided earlier kind n = tt
 
 one_decided : IsDecidedFor meaning OfNetwork Q10
 one_decided = record {
-  head = λ known h n. one_head_decided known.earlier (is_open h) (gap_of h) (place_of (heads Q10 (sizes_of known)) h.words) h.numbers;
+  head = λ known h n. one_head_decided known.earlier (kind_of Q10 (sizes_of known) h) h.numbers;
   rows = λ known h rs n. tt;
   trees = λ known h n. tt;
   learn = λ known h rs n. n;
@@ -237,61 +210,50 @@ one_decided = record {
 
 -- ---- regularity
 
-regular_head_decided : (net : Net) (earlier : Earlier) (t : Bool) (g : Gap) (place : ℕ) (n : List ℤ) → AllDecided (regular_head net earlier (if t then Unknown g else verdict_by Q11 place n []))
-regular_head_decided net earlier true g place n = tt
-regular_head_decided net earlier false g zero n = tt
-regular_head_decided net earlier false g (suc zero) n = (both_decided (one_each_decided earlier) (yes_decided (on earlier Q7)), tt)
-regular_head_decided net earlier false g (suc (suc zero)) n = (first_split_decided earlier (number n 0) (number n 1), tt)
-regular_head_decided net earlier false g (suc (suc (suc zero))) n = (both_decided (one_each_decided earlier) (no_decided (on earlier Q7)), tt)
-regular_head_decided net earlier false g (suc (suc (suc (suc zero)))) n =
+regular_head_decided : (net : Net) (earlier : Earlier) (kind : HeadKind) (n : List ℤ) → AllDecided (regular_head net earlier (verdict_by kind n []))
+regular_head_decided net earlier Yes n = (both_decided (one_each_decided earlier) (yes_decided (on earlier Q7)), tt)
+regular_head_decided net earlier NoTerminal n = (first_split_decided earlier (number n 0) (number n 1), tt)
+regular_head_decided net earlier NoDependence n = (both_decided (one_each_decided earlier) (no_decided (on earlier Q7)), tt)
+regular_head_decided net earlier NoCycle n =
     (three_decided (one_each_decided earlier) (either_decided (yes_decided (on earlier Q7)) (open_decided (on earlier Q7))) (within_decided net earlier (number n 0)), tt)
-regular_head_decided net earlier false g (suc (suc (suc (suc (suc k))))) n = tt
+regular_head_decided net earlier kind n = tt
 
-regular_rows_decided : (net : Net) (earlier : Earlier) (s : Shapes) (t : Bool) (g : Gap) (place : ℕ) (n : List ℤ) (rs : List Record)
-    → AllDecided (regular_rows net earlier (if t then Unknown g else verdict_by Q11 place n rs) (if t then Nothing else proof_by Q11 s place n rs))
-regular_rows_decided net earlier s true g place n rs = tt
-regular_rows_decided net earlier s false g zero n rs = tt
-regular_rows_decided net earlier s false g (suc zero) n rs = sides_decided net earlier 1 (pair_places net earlier) (map later_numbers (lists rs))
-regular_rows_decided net earlier s false g (suc (suc zero)) n rs = tt
-regular_rows_decided net earlier s false g (suc (suc (suc zero))) n rs = tt
-regular_rows_decided net earlier s false g (suc (suc (suc (suc zero)))) n rs = (way_decided net (number n 0) (nums (row rs 0)).list, tt)
-regular_rows_decided net earlier s false g (suc (suc (suc (suc (suc k))))) n rs = tt
+regular_rows_decided : (net : Net) (earlier : Earlier) (kind : HeadKind) (ps : List RankProof) (n : List ℤ) (rs : List (List ℤ))
+    → AllDecided (regular_rows net earlier (verdict_by kind n rs) (proof_by kind Q11 ps n rs))
+regular_rows_decided net earlier Yes ps n rs = sides_decided net earlier 1 (pair_places net earlier) (map later_numbers rs)
+regular_rows_decided net earlier NoCycle ps n rs = (way_decided net (number n 0) (nums (row rs 0)).list, tt)
+regular_rows_decided net earlier kind ps n rs = tt
 
 regular_decided : IsDecidedFor meaning OfNetwork Q11
 regular_decided = record {
-  head = λ known h n. regular_head_decided known.net known.earlier (is_open h) (gap_of h) (place_of (heads Q11 (sizes_of known)) h.words) h.numbers;
-  rows = λ known h rs n. regular_rows_decided known.net known.earlier (shapes_of known) (is_open h) (gap_of h) (place_of (heads Q11 (sizes_of known)) h.words) h.numbers rs;
+  head = λ known h n. regular_head_decided known.net known.earlier (kind_of Q11 (sizes_of known) h) h.numbers;
+  rows = λ known h rs n. regular_rows_decided known.net known.earlier (kind_of Q11 (sizes_of known) h) (ranks_of (shapes_of known) h rs) h.numbers (lists rs);
   trees = λ known h n. tt;
   learn = λ known h rs n. n;
 }
 
 -- ---- confluence vectors
 
-confluence_head_decided : (earlier : Earlier) (t : Bool) (g : Gap) (place : ℕ) (n : List ℤ) → AllDecided (confluence_head earlier (if t then Unknown g else verdict_by Q12 place n []))
-confluence_head_decided earlier true g place n = tt
-confluence_head_decided earlier false g zero n = tt
-confluence_head_decided earlier false g (suc zero) n = (yes_decided (on earlier Q11), tt)
-confluence_head_decided earlier false g (suc (suc zero)) n = (no_decided (on earlier Q11), tt)
-confluence_head_decided earlier false g (suc (suc (suc zero))) n = (yes_decided (on earlier Q11), tt)
-confluence_head_decided earlier false g (suc (suc (suc (suc zero)))) n = (yes_decided (on earlier Q11), tt)
-confluence_head_decided earlier false g (suc (suc (suc (suc (suc k))))) n = tt
+confluence_head_decided : (earlier : Earlier) (kind : HeadKind) (n : List ℤ) → AllDecided (confluence_head earlier (verdict_by kind n []))
+confluence_head_decided earlier YesVec n = (yes_decided (on earlier Q11), tt)
+confluence_head_decided earlier NotRegular n = (no_decided (on earlier Q11), tt)
+confluence_head_decided earlier OnlyZero n = (yes_decided (on earlier Q11), tt)
+confluence_head_decided earlier Plane n = (yes_decided (on earlier Q11), tt)
+confluence_head_decided earlier kind n = tt
 
-confluence_rows_decided : (net : Net) (earlier : Earlier) (s : Shapes) (t : Bool) (g : Gap) (place : ℕ) (n : List ℤ) (rs : List Record)
-    → AllDecided (confluence_rows net earlier (if t then Unknown g else verdict_by Q12 place n rs) (if t then Nothing else proof_by Q12 s place n rs))
-confluence_rows_decided net earlier s true g place n rs = tt
-confluence_rows_decided net earlier s false g zero n rs = tt
-confluence_rows_decided net earlier s false g (suc zero) n rs =
+confluence_rows_decided : (net : Net) (earlier : Earlier) (kind : HeadKind) (ps : List RankProof) (n : List ℤ) (rs : List (List ℤ))
+    → AllDecided (confluence_rows net earlier (verdict_by kind n rs) (proof_by kind Q12 ps n rs))
+confluence_rows_decided net earlier YesVec ps n rs =
     let v = (ints (row rs 0)).list in
-    (normal_decided net earlier v, ties_decided net (linkage earlier) (linkage_count earlier) (λ d. d ≡ least_from 0 v) (λ d. nat_decided d (least_from 0 v)) 2 (others_than net (least_from 0 v)) (drop 1 (lists rs)))
-confluence_rows_decided net earlier s false g (suc (suc zero)) n rs = tt
-confluence_rows_decided net earlier s false g (suc (suc (suc zero))) n rs = ties_decided net (linkage earlier) (linkage_count earlier) (λ d. ⊥) (λ d. inr (λ h. h)) 1 (range_with_len 0 (length net.complexes)) (lists rs)
-confluence_rows_decided net earlier s false g (suc (suc (suc (suc zero)))) n rs = (apart_decided net earlier (number n 0) (number n 1) (ints (row rs 0)).list, (apart_decided net earlier (number n 1) (number n 0) (ints (row rs 1)).list, tt))
-confluence_rows_decided net earlier s false g (suc (suc (suc (suc (suc k))))) n rs = tt
+    (normal_decided net earlier v, ties_decided net (linkage earlier) (linkage_count earlier) (λ d. d ≡ least_from 0 v) (λ d. nat_decided d (least_from 0 v)) 2 (others_than net (least_from 0 v)) (drop 1 rs))
+confluence_rows_decided net earlier OnlyZero ps n rs = ties_decided net (linkage earlier) (linkage_count earlier) (λ d. ⊥) (λ d. inr (λ h. h)) 1 (range_with_len 0 (length net.complexes)) rs
+confluence_rows_decided net earlier Plane ps n rs = (apart_decided net earlier (number n 0) (number n 1) (ints (row rs 0)).list, (apart_decided net earlier (number n 1) (number n 0) (ints (row rs 1)).list, tt))
+confluence_rows_decided net earlier kind ps n rs = tt
 
 confluence_decided : IsDecidedFor meaning OfNetwork Q12
 confluence_decided = record {
-  head = λ known h n. confluence_head_decided known.earlier (is_open h) (gap_of h) (place_of (heads Q12 (sizes_of known)) h.words) h.numbers;
-  rows = λ known h rs n. confluence_rows_decided known.net known.earlier (shapes_of known) (is_open h) (gap_of h) (place_of (heads Q12 (sizes_of known)) h.words) h.numbers rs;
+  head = λ known h n. confluence_head_decided known.earlier (kind_of Q12 (sizes_of known) h) h.numbers;
+  rows = λ known h rs n. confluence_rows_decided known.net known.earlier (kind_of Q12 (sizes_of known) h) (ranks_of (shapes_of known) h rs) h.numbers (lists rs);
   trees = λ known h n. tt;
   learn = λ known h rs n. n;
 }
@@ -309,21 +271,17 @@ vector_decided earlier = by (vector_given (on earlier Q12))
 none_decided : (earlier : Earlier) → IsDecided ((HasVector earlier → ⊥) × (IsOpen (on earlier Q12) → ⊥))
 none_decided earlier = both_decided (not_decided (vector_decided earlier)) (not_decided (open_decided (on earlier Q12)))
 
-signal_head_decided : (earlier : Earlier) (t : Bool) (g : Gap) (place : ℕ) (n : List ℤ) → AllDecided (signal_head earlier (if t then Unknown g else verdict_by Q13 place n []))
-signal_head_decided earlier true g place n = tt
-signal_head_decided earlier false g zero n = (none_decided earlier, tt)
-signal_head_decided earlier false g (suc zero) n = (both_decided (vector_decided earlier) (if_decided (int_decided (slice_index_or n 0 (pos 0)) (negsuc 0)) (yes_decided (on earlier Q4))), tt)
-signal_head_decided earlier false g (suc (suc zero)) n = (vector_decided earlier, tt)
-signal_head_decided earlier false g (suc (suc (suc k))) n = (none_decided earlier, tt)
+signal_head_decided : (earlier : Earlier) (kind : HeadKind) (n : List ℤ) → AllDecided (signal_head earlier (verdict_by kind n []))
+signal_head_decided earlier YesSignal n = (both_decided (vector_decided earlier) (if_decided (int_decided (turn_of (slice_index_or n 0 (pos 0))) (negsuc 0)) (yes_decided (on earlier Q4))), tt)
+signal_head_decided earlier No n = (vector_decided earlier, tt)
+signal_head_decided earlier NotApplicable n = (none_decided earlier, tt)
+signal_head_decided earlier kind n = tt
 
-signal_rows_decided : (net : Net) → IsNetwork net → (earlier : Earlier) (s : Shapes) (t : Bool) (g : Gap) (place : ℕ) (n : List ℤ) (rs : List Record)
-    → AllDecided (signal_rows net earlier (if t then Unknown g else verdict_by Q13 place n rs) (if t then Nothing else proof_by Q13 s place n rs))
-signal_rows_decided net is earlier s true g place n rs = tt
-signal_rows_decided net is earlier s false g zero n rs = tt
-signal_rows_decided net is earlier s false g (suc zero) n rs =
-    (signal_decided net is earlier (slice_index_or n 0 (pos 0)) (map sign (ints (row rs 0)).list) (ints (row rs 1)).list (slice_index_or (row rs 2) 0 (pos 0)) (ints (row rs 3)).list, tt)
-signal_rows_decided net is earlier s false g (suc (suc zero)) n rs = tt
-signal_rows_decided net is earlier s false g (suc (suc (suc k))) n rs = tt
+signal_rows_decided : (net : Net) → IsNetwork net → (earlier : Earlier) (kind : HeadKind) (ps : List RankProof) (n : List ℤ) (rs : List (List ℤ))
+    → AllDecided (signal_rows net earlier (verdict_by kind n rs) (proof_by kind Q13 ps n rs))
+signal_rows_decided net is earlier YesSignal ps n rs =
+    (signal_decided net is earlier (turn_of (slice_index_or n 0 (pos 0))) (map sign (ints (row rs 0)).list) (ints (row rs 1)).list (slice_index_or (row rs 2) 0 (pos 0)) (ints (row rs 3)).list, tt)
+signal_rows_decided net is earlier kind ps n rs = tt
 
 signal_problem_decided : (known : Known) → OfNetwork known → (turn : ℤ) → IsDecidedProblem (signal_problem known turn)
 signal_problem_decided known n turn = record {
@@ -344,8 +302,8 @@ signal_trees_decided known n (suc (suc (suc k))) = tt
 
 pub signals_decided : IsDecidedFor meaning OfNetwork Q13
 signals_decided = record {
-  head = λ known h n. signal_head_decided known.earlier (is_open h) (gap_of h) (place_of (heads Q13 (sizes_of known)) h.words) h.numbers;
-  rows = λ known h rs n. signal_rows_decided known.net n known.earlier (shapes_of known) (is_open h) (gap_of h) (place_of (heads Q13 (sizes_of known)) h.words) h.numbers rs;
+  head = λ known h n. signal_head_decided known.earlier (kind_of Q13 (sizes_of known) h) h.numbers;
+  rows = λ known h rs n. signal_rows_decided known.net n known.earlier (kind_of Q13 (sizes_of known) h) (ranks_of (shapes_of known) h rs) h.numbers (lists rs);
   trees = λ known h n. signal_trees_decided known n (place_of (heads Q13 (sizes_of known)) h.words);
   learn = λ known h rs n. n;
 }
@@ -360,13 +318,10 @@ problem_decided net w = record {
   closed = λ prefix. bool_decided (w.closed prefix) true;
 }
 
-concordant_rows_decided : (net : Net) (s : Shapes) (t : Bool) (g : Gap) (place : ℕ) (n : List ℤ) (rs : List Record)
-    → AllDecided (table_rows net (plain_table net) (if t then Unknown g else verdict_by Q14 place n rs) (if t then Nothing else proof_by Q14 s place n rs))
-concordant_rows_decided net s true g place n rs = tt
-concordant_rows_decided net s false g zero n rs = tt
-concordant_rows_decided net s false g (suc zero) n rs = tt
-concordant_rows_decided net s false g (suc (suc zero)) n rs = (discordant_decided (reaction_system net) (plain_table net) (ints (row rs 0)).list (ints (row rs 1)).list, tt)
-concordant_rows_decided net s false g (suc (suc (suc k))) n rs = tt
+concordant_rows_decided : (net : Net) (kind : HeadKind) (ps : List RankProof) (n : List ℤ) (rs : List (List ℤ))
+    → AllDecided (table_rows net (plain_table net) (verdict_by kind n rs) (proof_by kind Q14 ps n rs))
+concordant_rows_decided net NoPair ps n rs = (discordant_decided (reaction_system net) (plain_table net) (ints (row rs 0)).list (ints (row rs 1)).list, tt)
+concordant_rows_decided net kind ps n rs = tt
 
 concordant_trees_decided : (known : Known) (place : ℕ) → AreDecidedProblems (problems_by Q14 known place)
 concordant_trees_decided known zero = tt
@@ -376,18 +331,15 @@ concordant_trees_decided known (suc (suc k)) = tt
 pub concordant_decided : IsDecidedFor meaning OfNetwork Q14
 concordant_decided = record {
   head = λ known h n. tt;
-  rows = λ known h rs n. concordant_rows_decided known.net (shapes_of known) (is_open h) (gap_of h) (place_of (heads Q14 (sizes_of known)) h.words) h.numbers rs;
+  rows = λ known h rs n. concordant_rows_decided known.net (kind_of Q14 (sizes_of known) h) (ranks_of (shapes_of known) h rs) h.numbers (lists rs);
   trees = λ known h n. concordant_trees_decided known (place_of (heads Q14 (sizes_of known)) h.words);
   learn = λ known h rs n. n;
 }
 
-strongly_rows_decided : (net : Net) (s : Shapes) (t : Bool) (g : Gap) (place : ℕ) (n : List ℤ) (rs : List Record)
-    → AllDecided (table_rows net (strong_table net) (if t then Unknown g else verdict_by Q15 place n rs) (if t then Nothing else proof_by Q15 s place n rs))
-strongly_rows_decided net s true g place n rs = tt
-strongly_rows_decided net s false g zero n rs = tt
-strongly_rows_decided net s false g (suc zero) n rs = tt
-strongly_rows_decided net s false g (suc (suc zero)) n rs = (discordant_decided (reaction_system net) (strong_table net) (ints (row rs 0)).list (ints (row rs 1)).list, tt)
-strongly_rows_decided net s false g (suc (suc (suc k))) n rs = tt
+strongly_rows_decided : (net : Net) (kind : HeadKind) (ps : List RankProof) (n : List ℤ) (rs : List (List ℤ))
+    → AllDecided (table_rows net (strong_table net) (verdict_by kind n rs) (proof_by kind Q15 ps n rs))
+strongly_rows_decided net NoPair ps n rs = (discordant_decided (reaction_system net) (strong_table net) (ints (row rs 0)).list (ints (row rs 1)).list, tt)
+strongly_rows_decided net kind ps n rs = tt
 
 strongly_trees_decided : (known : Known) (place : ℕ) → AreDecidedProblems (problems_by Q15 known place)
 strongly_trees_decided known zero = tt
@@ -397,7 +349,7 @@ strongly_trees_decided known (suc (suc k)) = tt
 pub strongly_decided : IsDecidedFor meaning OfNetwork Q15
 strongly_decided = record {
   head = λ known h n. tt;
-  rows = λ known h rs n. strongly_rows_decided known.net (shapes_of known) (is_open h) (gap_of h) (place_of (heads Q15 (sizes_of known)) h.words) h.numbers rs;
+  rows = λ known h rs n. strongly_rows_decided known.net (kind_of Q15 (sizes_of known) h) (ranks_of (shapes_of known) h rs) h.numbers (lists rs);
   trees = λ known h n. strongly_trees_decided known (place_of (heads Q15 (sizes_of known)) h.words);
   learn = λ known h rs n. n;
 }

@@ -12,16 +12,18 @@ use Rattle.crn_vec.specs.Deficiency.{class_members}
 use Rattle.crn_vec.specs.declared.limits.TheConstants.{MAX_SPECIES, MAX_COMPLEXES, MAX_REACTIONS}
 use Rattle.crn_vec.proofs.CallerLemmas.{filter_few, all_range}
 use Rattle.crn_cert.specs.declared.answer.Gap.{Gap}
+use Rattle.crn_cert.specs.declared.answer.Gap.TheVariants.{Budget as Spent, Rests as RestsOn}
+use Rattle.crn_cert.specs.declared.head_kind.HeadKind.TheVariants.{Rests}
 use Rattle.crn_cert.specs.declared.answer.Verdict.{Verdict}
 use Rattle.crn_cert.specs.declared.answer.Verdict.TheVariants.{NotApplicable, Unknown, Strong}
 use Rattle.crn_cert.specs.Questions.{Earlier, Question, Q1, Q2, Q3, Q4, Q5, Q6, Q7, Q8, Q9, Q10, Q11, Q12, Q13, Q14, Q15, number, on, count_of, terminal_of, labels_of}
 use Rattle.crn_cert.specs.Valid.{linkage, linkage_count, class_places, ends_at, is_within_terminal, is_least_of_pair}
 use Rattle.crn_ctext.specs.Records.{Record, Form, CountAndPart, AreBetween, Fits}
-use Rattle.crn_ctext.specs.Questions.{heads, rows, head, yes, no, no_by, none_by, wide, wide_signal, spent, rests, open_by, classes, rank_forms, class_forms, class_rank, side_form, first_number, later_numbers}
+use Rattle.crn_ctext.specs.Questions.{open_kinds, kind_at, heads, rows, head, yes, no, no_by, none_by, wide, wide_signal, spent, rests, open_by, classes, rank_forms, class_forms, class_rank, side_form, first_number, later_numbers}
 use Rattle.crn_ctext.specs.Kinds.{small, small_form, free_form}
-use Rattle.crn_ctext.specs.Blocks.{place_of, is_open, unless}
+use Rattle.crn_ctext.specs.Blocks.{place_of}
 use Rattle.crn_ctext.specs.Documents.{IsOneOf}
-use Rattle.crn_ctext.specs.Meaning.{Known, number as said_number, is_yes, has_vector, signal_problems, pairs_by, pairs_of, lengths, reactions_by_class, complexes_by_class, shapes_of, sizes_of, gap_of, verdict_by, verdict_of, problems_by, meaning}
+use Rattle.crn_ctext.specs.Meaning.{Known, lists, wide_gap, number as said_number, is_yes, has_vector, signal_problems, pairs_by, pairs_of, lengths, reactions_by_class, complexes_by_class, shapes_of, sizes_of, verdict_by, verdict_of, problems_by, meaning}
 use Rattle.crn_cert.specs.Built.{built}
 use Rattle.crn_ctext.proofs.Bounded.{IsSlim, IsBounded, words_fit}
 use Rattle.crn_ctext.proofs.ShortAnswers.{IsShortFor, AreFewProblems}
@@ -315,10 +317,6 @@ confluence_rows known (suc (suc (suc (suc zero)))) n s =
     (one, (one, tt))
 confluence_rows known (suc (suc (suc (suc (suc k))))) n s = tt
 
-none_few : (t : Bool) → AreFewProblems (unless t [])
-none_few true = tt
-none_few false = tt
-
 -- a head without numbers, and one with a number from 1
 plain_head : (place : ℕ) (word : List ℕ) (words : List (List ℕ)) → words_fit (word ∷ words) ≡ true → IsBounded (head word place words [])
 plain_head place word words w = record { words = w; few = omega arith; fields = tt }
@@ -360,25 +358,31 @@ no_terminal = omega arith
 no_classes : AreFewClasses NotApplicable
 no_classes = (omega arith, omega arith)
 
-linkage_learned : (known : Known) (t : Bool) (g : Gap) (place : ℕ) (n : List ℤ) (rs : List Record) → IsSmall known → first_number n ≤ length known.net.complexes → AllZip Fits (rows Q1 (shapes_of known) place n) rs → AreFewClasses (if t then Unknown g else verdict_by Q1 place n rs)
-linkage_learned known true g place n rs s a z = no_classes
-linkage_learned known false g zero n rs s a z = no_classes
-linkage_learned known false g (suc zero) n [] s a z = absurd z
-linkage_learned known false g (suc zero) n (r ∷ rs) s a z =
+-- what holds of open verdicts holds of those of heads whose forms come after the decided ones
+open_learned : (P : Verdict → Type 0) (n : List ℤ) (rs : List (List ℤ)) → ((g : Gap) → P (Unknown g)) → (k : ℕ) → P (verdict_by (slice_index_or open_kinds k Rests) n rs)
+open_learned P n rs p zero = p (wide_gap n)
+open_learned P n rs p (suc zero) = p (Spent (said_number n 0))
+open_learned P n rs p (suc (suc zero)) = p (RestsOn (said_number n 0))
+open_learned P n rs p (suc (suc (suc k))) = p (RestsOn (said_number n 0))
+
+linkage_learned : (known : Known) (place : ℕ) (n : List ℤ) (rs : List Record) → IsSmall known → first_number n ≤ length known.net.complexes → AllZip Fits (rows Q1 (shapes_of known) place n) rs → AreFewClasses (verdict_by (kind_at Q1 place) n (lists rs))
+linkage_learned known zero n rs s a z = no_classes
+linkage_learned known (suc zero) n [] s a z = absurd z
+linkage_learned known (suc zero) n (r ∷ rs) s a z =
     let c = s.complexes in
     let f = z.0.1 in
     let all : length r.numbers ≡ length (f.0 ++ f.1) = ap length f.2 in
     let none : length f.1 ≡ 0 = ap length f.4 in
     let labels : length (map nat_abs r.numbers) ≡ length r.numbers = length-map r.numbers nat_abs in
     (omega (arith, a, c), omega (arith, c, all, none, labels, length-append f.0 f.1, f.3.0.0))
-linkage_learned known false g (suc (suc k)) n rs s a z = no_classes
+linkage_learned known (suc (suc k)) n rs s a z = open_learned AreFewClasses n (lists rs) (λ g. no_classes) k
 
 linkage_short : IsShortFor meaning IsSmall Q1
 linkage_short = record {
   head_forms = λ known s. (number_head 1 (codes "q1") [] (length known.net.complexes) refl (complexes_short known s), tt);
   row_forms = λ known h s o. linkage_rows known (place_of (heads Q1 (sizes_of known)) h.words) h.numbers s (linkage_first known h o);
-  trees = λ known h s. none_few (is_open h);
-  learn = λ known h rs s o z. same_net Q1 known h rs s (linkage_learned known (is_open h) (gap_of h) (place_of (heads Q1 (sizes_of known)) h.words) h.numbers rs s (linkage_first known h o) z) no_terminal;
+  trees = λ known h s. tt;
+  learn = λ known h rs s o z. same_net Q1 known h rs s (linkage_learned known (place_of (heads Q1 (sizes_of known)) h.words) h.numbers rs s (linkage_first known h o) z) no_terminal;
 }
 
 -- the number of terminal classes that a head says
@@ -393,25 +397,24 @@ strong_second known h (form, inl e, fits) = by (subst (λ (f : Form). Fits f h) 
         let all : h.numbers ≡ pos t.0 ∷ pos t.1 ∷ [] = p.2 ∙ ap (λ (x : List ℤ). p.0 ++ x) p.4 ∙ append-nil p.0 ∙ t.2 in
         subst (λ (zs : List ℤ). said_number zs 1 ≤ length known.net.complexes) (sym all) (omega (arith, t.4, t.5))
 
-strong_learned : (known : Known) (t : Bool) (g : Gap) (place : ℕ) (n : List ℤ) (rs : List Record) → IsSmall known → said_number n 1 ≤ length known.net.complexes → HasFewTerminal (if t then Unknown g else verdict_by Q2 place n rs)
-strong_learned known true g place n rs s a = no_terminal
-strong_learned known false g zero n rs s a = no_terminal
-strong_learned known false g (suc zero) n rs s a = let c = s.complexes in omega (arith, a, c)
-strong_learned known false g (suc (suc k)) n rs s a = no_terminal
+strong_learned : (known : Known) (place : ℕ) (n : List ℤ) (rs : List Record) → IsSmall known → said_number n 1 ≤ length known.net.complexes → HasFewTerminal (verdict_by (kind_at Q2 place) n (lists rs))
+strong_learned known zero n rs s a = no_terminal
+strong_learned known (suc zero) n rs s a = let c = s.complexes in omega (arith, a, c)
+strong_learned known (suc (suc k)) n rs s a = open_learned HasFewTerminal n (lists rs) (λ g. no_terminal) k
 
 strong_short : IsShortFor meaning IsSmall Q2
 strong_short = record {
   head_forms = λ known s. (record { words = refl; few = omega arith; fields = (complexes_short known s, tt) }, tt);
   row_forms = λ known h s o. strong_rows known (place_of (heads Q2 (sizes_of known)) h.words) h.numbers s (strong_first known h o);
-  trees = λ known h s. none_few (is_open h);
-  learn = λ known h rs s o z. same_net Q2 known h rs s no_classes (strong_learned known (is_open h) (gap_of h) (place_of (heads Q2 (sizes_of known)) h.words) h.numbers rs s (strong_second known h o));
+  trees = λ known h s. tt;
+  learn = λ known h rs s o z. same_net Q2 known h rs s no_classes (strong_learned known (place_of (heads Q2 (sizes_of known)) h.words) h.numbers rs s (strong_second known h o));
 }
 
 reversible_short : IsShortFor meaning IsSmall Q3
 reversible_short = record {
   head_forms = λ known s. (plain_head 1 (codes "q3") yes refl, (number_head 2 (codes "q3") no (length known.net.reactions) refl (reactions_short known s), tt));
   row_forms = λ known h s o. reversible_rows known (place_of (heads Q3 (sizes_of known)) h.words) h.numbers s;
-  trees = λ known h s. none_few (is_open h);
+  trees = λ known h s. tt;
   learn = λ known h rs s o z. same_net Q3 known h rs s no_classes no_terminal;
 }
 
@@ -419,7 +422,7 @@ weak_short : IsShortFor meaning IsSmall Q4
 weak_short = record {
   head_forms = λ known s. (plain_head 1 (codes "q4") yes refl, (number_head 2 (codes "q4") no (length known.net.reactions) refl (reactions_short known s), tt));
   row_forms = λ known h s o. tt;
-  trees = λ known h s. none_few (is_open h);
+  trees = λ known h s. tt;
   learn = λ known h rs s o z. same_net Q4 known h rs s no_classes no_terminal;
 }
 
@@ -433,7 +436,7 @@ rank_short = record {
       (number_head 1 (codes "q5") [] (min m n) refl (few_short (min m n) 1000 (omega (arith, c, min-le_right m n)) (omega arith)), (wide_head (codes "q5") 2 1 m n refl (omega arith) (omega (arith, a)) (omega (arith, c)), tt))
       );
   row_forms = λ known h s o. rank_rows known (place_of (heads Q5 (sizes_of known)) h.words) h.numbers s (rank_first known h s o);
-  trees = λ known h s. none_few (is_open h);
+  trees = λ known h s. tt;
   learn = λ known h rs s o z. same_net Q5 known h rs s no_classes no_terminal;
 }
 
@@ -459,7 +462,7 @@ deficiency_short : IsShortFor meaning IsSmall Q6
 deficiency_short = record {
   head_forms = deficiency_heads;
   row_forms = λ known h s o. deficiency_rows known (place_of (heads Q6 (sizes_of known)) h.words) h.numbers s;
-  trees = λ known h s. none_few (is_open h);
+  trees = λ known h s. tt;
   learn = λ known h rs s o z. same_net Q6 known h rs s no_classes no_terminal;
 }
 
@@ -471,7 +474,7 @@ dependence_short = record {
       (plain_head 1 (codes "q7") yes refl, (plain_head 2 (codes "q7") no refl, (wide_head (codes "q7") 3 2 (length known.net.reactions) (length known.net.names) refl (omega arith) (omega (arith, c)) (omega (arith, a)), tt)))
       );
   row_forms = λ known h s o. dependence_rows known (place_of (heads Q7 (sizes_of known)) h.words) h.numbers s;
-  trees = λ known h s. none_few (is_open h);
+  trees = λ known h s. tt;
   learn = λ known h rs s o z. same_net Q7 known h rs s no_classes no_terminal;
 }
 
@@ -483,7 +486,7 @@ conservation_short = record {
       (plain_head 1 (codes "q8") yes refl, (plain_head 2 (codes "q8") no refl, (wide_head (codes "q8") 3 1 (length known.net.names) (length known.net.reactions) refl (omega arith) (omega (arith, a)) (omega (arith, c)), tt)))
       );
   row_forms = λ known h s o. conservation_rows known (place_of (heads Q8 (sizes_of known)) h.words) h.numbers s;
-  trees = λ known h s. none_few (is_open h);
+  trees = λ known h s. tt;
   learn = λ known h rs s o z. same_net Q8 known h rs s no_classes no_terminal;
 }
 
@@ -503,7 +506,7 @@ zero_theorem_short = record {
     (number_head 2 (codes "q9") no (length known.net.complexes) refl (complexes_short known s), (rests_head (codes "q9") 5 5 refl (omega arith), tt)),
   );
   row_forms = λ known h s o. tt;
-  trees = λ known h s. none_few (is_open h);
+  trees = λ known h s. tt;
   learn = λ known h rs s o z. same_net Q9 known h rs s no_classes no_terminal;
 }
 
@@ -520,7 +523,7 @@ one_theorem_short = record {
     ),
   );
   row_forms = λ known h s o. tt;
-  trees = λ known h s. none_few (is_open h);
+  trees = λ known h s. tt;
   learn = λ known h rs s o z. same_net Q10 known h rs s no_classes no_terminal;
 }
 
@@ -537,7 +540,7 @@ regular_short = record {
     ),
   );
   row_forms = λ known h s o. regular_rows known (place_of (heads Q11 (sizes_of known)) h.words) h.numbers s;
-  trees = λ known h s. none_few (is_open h);
+  trees = λ known h s. tt;
   learn = λ known h rs s o z. same_net Q11 known h rs s no_classes no_terminal;
 }
 
@@ -566,7 +569,7 @@ confluence_short : IsShortFor meaning IsSmall Q12
 confluence_short = record {
   head_forms = confluence_heads;
   row_forms = λ known h s o. confluence_rows known (place_of (heads Q12 (sizes_of known)) h.words) h.numbers s;
-  trees = λ known h s. none_few (is_open h);
+  trees = λ known h s. tt;
   learn = λ known h rs s o z. same_net Q12 known h rs s no_classes no_terminal;
 }
 
@@ -618,18 +621,17 @@ signal_trees_few : (known : Known) (b : Bool) → IsSmall known → AreFewProble
 signal_trees_few known false s = ((shelf_rows known s, species_few known s), tt)
 signal_trees_few known true s = ((shelf_rows known s, species_few known s), ((shelf_rows known s, species_few known s), tt))
 
-signal_trees : (known : Known) (t : Bool) (place : ℕ) → IsSmall known → AreFewProblems (unless t (problems_by Q13 known place))
-signal_trees known true place s = tt
-signal_trees known false zero s = tt
-signal_trees known false (suc zero) s = tt
-signal_trees known false (suc (suc zero)) s = signal_trees_few known (is_yes (on known.earlier Q4)) s
-signal_trees known false (suc (suc (suc k))) s = tt
+signal_trees : (known : Known) (place : ℕ) → IsSmall known → AreFewProblems (problems_by Q13 known place)
+signal_trees known zero s = tt
+signal_trees known (suc zero) s = tt
+signal_trees known (suc (suc zero)) s = signal_trees_few known (is_yes (on known.earlier Q4)) s
+signal_trees known (suc (suc (suc k))) s = tt
 
 pub signal_short : IsShortFor meaning IsSmall Q13
 signal_short = record {
   head_forms = signal_heads;
   row_forms = λ known h s o. signal_rows known (place_of (heads Q13 (sizes_of known)) h.words) h.numbers s;
-  trees = λ known h s. signal_trees known (is_open h) (place_of (heads Q13 (sizes_of known)) h.words) s;
+  trees = λ known h s. signal_trees known (place_of (heads Q13 (sizes_of known)) h.words) s;
   learn = λ known h rs s o z. same_net Q13 known h rs s no_classes no_terminal;
 }
 
@@ -641,11 +643,10 @@ concordant_rows known (suc zero) n s = tt
 concordant_rows known (suc (suc zero)) n s = (free_bounded (codes "alpha") (length known.net.reactions) refl (reactions_few known s), (free_bounded (codes "weights") (length known.net.reactions) refl (reactions_few known s), tt))
 concordant_rows known (suc (suc (suc k))) n s = tt
 
-concordant_trees : (known : Known) (t : Bool) (place : ℕ) → IsSmall known → AreFewProblems (unless t (problems_by Q14 known place))
-concordant_trees known true place s = tt
-concordant_trees known false zero s = tt
-concordant_trees known false (suc zero) s = ((species_few known s, species_few known s), tt)
-concordant_trees known false (suc (suc k)) s = tt
+concordant_trees : (known : Known) (place : ℕ) → IsSmall known → AreFewProblems (problems_by Q14 known place)
+concordant_trees known zero s = tt
+concordant_trees known (suc zero) s = ((species_few known s, species_few known s), tt)
+concordant_trees known (suc (suc k)) s = tt
 
 pub concordant_short : IsShortFor meaning IsSmall Q14
 concordant_short = record {
@@ -655,7 +656,7 @@ concordant_short = record {
       (plain_head 1 (codes "q14") yes refl, (plain_head 2 (codes "q14") no refl, (wide_head (codes "q14") 3 2 (length known.net.reactions) (length known.net.names) refl (omega arith) (omega (arith, c)) (omega (arith, a)), (spent_head (codes "q14") 4 refl, tt))))
       );
   row_forms = λ known h s o. concordant_rows known (place_of (heads Q14 (sizes_of known)) h.words) h.numbers s;
-  trees = λ known h s. concordant_trees known (is_open h) (place_of (heads Q14 (sizes_of known)) h.words) s;
+  trees = λ known h s. concordant_trees known (place_of (heads Q14 (sizes_of known)) h.words) s;
   learn = λ known h rs s o z. same_net Q14 known h rs s no_classes no_terminal;
 }
 
@@ -665,11 +666,10 @@ strongly_rows known (suc zero) n s = tt
 strongly_rows known (suc (suc zero)) n s = (free_bounded (codes "alpha") (length known.net.reactions) refl (reactions_few known s), (free_bounded (codes "weights") (length known.net.reactions) refl (reactions_few known s), tt))
 strongly_rows known (suc (suc (suc k))) n s = tt
 
-strongly_trees : (known : Known) (t : Bool) (place : ℕ) → IsSmall known → AreFewProblems (unless t (problems_by Q15 known place))
-strongly_trees known true place s = tt
-strongly_trees known false zero s = tt
-strongly_trees known false (suc zero) s = ((species_few known s, species_few known s), tt)
-strongly_trees known false (suc (suc k)) s = tt
+strongly_trees : (known : Known) (place : ℕ) → IsSmall known → AreFewProblems (problems_by Q15 known place)
+strongly_trees known zero s = tt
+strongly_trees known (suc zero) s = ((species_few known s, species_few known s), tt)
+strongly_trees known (suc (suc k)) s = tt
 
 pub strongly_short : IsShortFor meaning IsSmall Q15
 strongly_short = record {
@@ -679,7 +679,7 @@ strongly_short = record {
       (plain_head 1 (codes "q15") yes refl, (plain_head 2 (codes "q15") no refl, (wide_head (codes "q15") 3 2 (length known.net.reactions) (length known.net.names) refl (omega arith) (omega (arith, c)) (omega (arith, a)), (spent_head (codes "q15") 4 refl, tt))))
       );
   row_forms = λ known h s o. strongly_rows known (place_of (heads Q15 (sizes_of known)) h.words) h.numbers s;
-  trees = λ known h s. strongly_trees known (is_open h) (place_of (heads Q15 (sizes_of known)) h.words) s;
+  trees = λ known h s. strongly_trees known (place_of (heads Q15 (sizes_of known)) h.words) s;
   learn = λ known h rs s o z. same_net Q15 known h rs s no_classes no_terminal;
 }
 

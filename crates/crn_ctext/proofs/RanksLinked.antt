@@ -75,7 +75,7 @@ lists_back [] (v ∷ vs) = ap (λ (t : List (List ℤ)). v ∷ t) (lists_back []
 lists_back (u ∷ us) vs = ap (λ (t : List (List ℤ)). u ∷ t) (lists_back us vs)
 
 -- the records of a proof say it
-pub rank_said : (rank : ℕ) (p : RankProof) → length p.duals ≡ rank → rank_proof rank (rank_records p) ≡ tight_rank p
+pub rank_said : (rank : ℕ) (p : RankProof) → length p.duals ≡ rank → rank_proof rank (lists (rank_records p)) ≡ tight_rank p
 rank_said rank p long =
     let rest = lists (map (one_word (codes "dual")) p.duals ++ map (one_word (codes "comb")) p.combs) in
     let all : rest ≡ p.duals ++ p.combs = lists_back p.duals p.combs in
@@ -130,7 +130,7 @@ classes_said net earlier k (d ∷ ds) (p ∷ ps) f =
     let long : length (rank_records p) ≡ suc (length members) = rank_counted net members rank p (class_ascending net earlier k) g in
     let prefix : take (suc (length members)) (rank_records p ++ rest) ≡ rank_records p = take_at (rank_records p) rest (suc (length members)) long in
     let back : drop (suc (length members)) (rank_records p ++ rest) ≡ rest = drop_at (rank_records p) rest (suc (length members)) long in
-    let one : rank_proof rank (take (suc (length members)) (rank_records p ++ rest)) ≡ tight_rank p = ap (λ (rs : List Record). rank_proof rank rs) prefix ∙ rank_said rank p duals in
+    let one : rank_proof rank (lists (take (suc (length members)) (rank_records p ++ rest))) ≡ tight_rank p = ap (λ (rs : List Record). rank_proof rank (lists rs)) prefix ∙ rank_said rank p duals in
     let more : proofs_from net earlier (k + 1) ds (drop (suc (length members)) (rank_records p ++ rest)) ≡ map tight_rank ps = ap (λ (rs : List Record). proofs_from net earlier (k + 1) ds rs) back
     ∙ subst (λ (j : ℕ). proofs_from net earlier j ds rest ≡ map tight_rank ps) (next k) (classes_said net earlier (suc k) ds ps f.1) in
     ap₂ (λ (x : RankProof) (xs : List RankProof). x ∷ xs) one more

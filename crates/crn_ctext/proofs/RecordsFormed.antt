@@ -9,7 +9,7 @@ use Rattle.crn_cert.specs.Blocks.{Block, FitsTree, verdict_of, proof_of}
 use Rattle.crn_cert.specs.Formed.{IsFormedOf}
 use Rattle.crn_ctext.specs.Records.{Record, Fits}
 use Rattle.crn_ctext.specs.Questions.{heads}
-use Rattle.crn_ctext.specs.Blocks.{Problem, below, problems}
+use Rattle.crn_ctext.specs.Blocks.{Problem, below}
 use Rattle.crn_ctext.specs.Documents.{IsOneOf}
 use Rattle.crn_ctext.specs.Meaning.{Known, sizes_of, shapes_of, verdict_of as said_verdict, proof_of as said_proof, meaning}
 use Rattle.crn_ctext.proofs.BlockLaws.{PairsFor}
@@ -24,7 +24,7 @@ none_like [] ws e l = cc
 none_like (t ∷ ts) [] e l = absurd l
 none_like (t ∷ ts) (w ∷ ws) e l = absurd cc
 
-pub records_formed : (known : Known) (q : Question) (h : Record) (rs : List Record) → PairsFor q known → IsOneOf (heads q (sizes_of known)) h → AllZip Fits (below q (shapes_of known) h) rs → problems meaning q known h ≡ []
+pub records_formed : (known : Known) (q : Question) (h : Record) (rs : List Record) → PairsFor q known → IsOneOf (heads q (sizes_of known)) h → AllZip Fits (below q (shapes_of known) h) rs → meaning.problems q known h ≡ []
     → IsFormedOf known.net known.earlier q (said_verdict q (sizes_of known) h rs) (said_proof q (shapes_of known) h rs)
 records_formed known q h rs e one fit none =
     let b = records_are_blocks known q h rs e one fit in
@@ -33,8 +33,8 @@ records_formed known q h rs e one fit none =
     let rows = b.rows in
     let head_fits = b.head_fits in
     let rows_fit = b.rows_fit in
-    let like = subst (λ (h : Record). AreLike (trees known.net known.earlier q kind) (problems meaning q known h)) (sym b.head_is) (trees_due known q kind head e head_fits) in
-    let due : trees known.net known.earlier q kind ≡ [] = none_like (trees known.net known.earlier q kind) (problems meaning q known h) none like in
+    let like = subst (λ (h : Record). AreLike (trees known.net known.earlier q kind) (meaning.problems q known h)) (sym b.head_is) (trees_due known q kind head e head_fits) in
+    let due : trees known.net known.earlier q kind ≡ [] = none_like (trees known.net known.earlier q kind) (meaning.problems q known h) none like in
     let whole : Block = record { kind = kind; head = head; rows = rows; trees = [] } in
     let formed = answers_formed known q whole (record { head = head_fits; rows = rows_fit; trees = subst (λ (ts : List TreeRow). AllZip FitsTree ts []) (sym due) tt }) in
     let says : said_verdict q (sizes_of known) h rs ≡ verdict_of kind head rows = ap₂ (λ (h : Record) (rs : List Record). said_verdict q (sizes_of known) h rs) b.head_is b.rows_are ∙ block_said known q kind head rows head_fits rows_fit in

@@ -19,7 +19,7 @@ use Rattle.crn_ctext.specs.Course.{Course, Give, ◌>>=◌, due, find, test, end
 use Rattle.crn_ctext.specs.Courses.{IsSettled}
 use Rattle.crn_cert.specs.Tests.{Test as Claim}
 use Rattle.crn_vec.specs.Problems.{all_zero}
-use Rattle.crn_ctext.specs.Blocks.{Problem, Meaning, head_claims, row_claims, problems, is_open, unless, either, asks, asks_node, asks_all, claims, Node, Split, Flat, CutA, CutB, node_of, leaf, asks_leaf, goes_on, if_signed, asks_tree, asks_trees, sections, below, has_tree, AfterBlocks, asks_block, after_sections, asks_blocks, asks_table, lists_of, asks_lines, title, network_line, ended, IsNetworkOf, ReadOf, course}
+use Rattle.crn_ctext.specs.Blocks.{Problem, Meaning, either, asks, asks_node, asks_all, claims, Node, Split, Flat, CutA, CutB, node_of, leaf, asks_leaf, goes_on, if_signed, asks_tree, asks_trees, sections, below, has_tree, AfterBlocks, asks_block, after_sections, asks_blocks, asks_table, lists_of, asks_lines, title, network_line, ended, IsNetworkOf, ReadOf, course}
 use Rattle.crn_ctext.proofs.Decided.{IsDecided, if_decided, nat_decided, bool_decided, bytes_decided, some_decided}
 use Rattle.crn_ctext.proofs.Courses.{settled_then, settled_with, GivesOnly, gives_only_then}
 use Rattle.crn_ctext.proofs.LinesRead.{HaveWords, reads_settled}
@@ -54,14 +54,6 @@ pub record IsDecidedFor {Known : Type 0} (m : Meaning Known) (Ok : Known → Typ
 abbrev pub IsDecidedMeaning : {Known : Type 0} → Meaning Known → (Known → Type 0) → List Question → Type 0
 IsDecidedMeaning m Ok [] = Unit {0}
 IsDecidedMeaning m Ok (q ∷ qs) = IsDecidedFor m Ok q × IsDecidedMeaning m Ok qs
-
-unless_decided : (t : Bool) (cs : List {1} Claim) → AllDecided cs → AllDecided (unless t cs)
-unless_decided true cs d = tt
-unless_decided false cs d = d
-
-unless_problems : (t : Bool) (ps : List {1} Problem) → AreDecidedProblems ps → AreDecidedProblems (unless t ps)
-unless_problems true ps d = tt
-unless_problems false ps d = d
 
 -- ---- records
 
@@ -160,28 +152,28 @@ trees_settled own version table (p ∷ ps) n d = settled_then own (asks_tree ver
 
 -- what is after a block
 abbrev given : {Known : Type 0} → Meaning Known → Question → AfterBlocks Known → Record → List Record → ℕ → AfterBlocks Known
-given m q at head rows line = record { known = m.learn q at.known head rows; by_tree = has_tree (problems m q at.known head); line = line; blocks = at.blocks ++ (head ∷ rows) ∷ [] }
+given m q at head rows line = record { known = m.learn q at.known head rows; by_tree = has_tree (m.problems q at.known head); line = line; blocks = at.blocks ++ (head ∷ rows) ∷ [] }
 
 -- the course of a block from its trees on, from the tests of its rows on, from its rows on, and from the tests of its head on
 abbrev from_trees : {Known : Type 0} → Meaning Known → (version : ℕ) → List (List ℤ) → Question → AfterBlocks Known → Record → List Record → Course (AfterBlocks Known)
-from_trees m version table q at head rows = asks_trees version table (problems m q at.known head) (at.line + 1 + length rows) >>= (λ line. Give (given m q at head rows line))
+from_trees m version table q at head rows = asks_trees version table (m.problems q at.known head) (at.line + 1 + length rows) >>= (λ line. Give (given m q at head rows line))
 
 abbrev from_row_claims : {Known : Type 0} → Meaning Known → (version : ℕ) → List (List ℤ) → Question → AfterBlocks Known → Record → List Record → Course (AfterBlocks Known)
-from_row_claims m version table q at head rows = claims at.line (row_claims m q at.known head rows) >>= (λ y. from_trees m version table q at head rows)
+from_row_claims m version table q at head rows = claims at.line (m.row_claims q at.known head rows) >>= (λ y. from_trees m version table q at head rows)
 
 abbrev from_rows : {Known : Type 0} → Meaning Known → (version : ℕ) → List (List ℤ) → Question → AfterBlocks Known → Record → Course (AfterBlocks Known)
 from_rows m version table q at head = asks_all version (at.line + 1) false (below q (m.shapes at.known) head) >>= (λ rows. from_row_claims m version table q at head rows)
 
 abbrev from_claims : {Known : Type 0} → Meaning Known → (version : ℕ) → List (List ℤ) → Question → AfterBlocks Known → Record → Course (AfterBlocks Known)
-from_claims m version table q at head = claims at.line (head_claims m q at.known head) >>= (λ x. from_rows m version table q at head)
+from_claims m version table q at head = claims at.line (m.head_claims q at.known head) >>= (λ x. from_rows m version table q at head)
 
 block_settled : {Known : Type 0} (own : ℕ → Type 0) (m : Meaning Known) (Ok : Known → Type 0) (version : ℕ) (table : List (List ℤ)) (q : Question) (at : AfterBlocks Known) → IsDecidedFor m Ok q → Ok at.known → IsSettled own (asks_block m version table q at)
 block_settled own m Ok version table q at d ok =
     settled_then own (asks version at.line at.by_tree (heads q (m.shapes at.known).sizes)) (λ head. from_claims m version table q at head) (asks_settled own version at.line at.by_tree (heads q (m.shapes at.known).sizes) (heads_have q (m.shapes at.known).sizes))
-    (λ head. settled_then own (claims at.line (head_claims m q at.known head)) (λ x. from_rows m version table q at head) (claims_settled own at.line (head_claims m q at.known head) (unless_decided (is_open head) (m.head_claims q at.known head) (let g = d.head in g at.known head ok)))
+    (λ head. settled_then own (claims at.line (m.head_claims q at.known head)) (λ x. from_rows m version table q at head) (claims_settled own at.line (m.head_claims q at.known head) (let g = d.head in g at.known head ok))
     (λ x. settled_then own (asks_all version (at.line + 1) false (below q (m.shapes at.known) head)) (λ rows. from_row_claims m version table q at head rows) (all_settled own version (at.line + 1) false (below q (m.shapes at.known) head) (below_have q (m.shapes at.known) head))
-    (λ rows. settled_then own (claims at.line (row_claims m q at.known head rows)) (λ y. from_trees m version table q at head rows) (claims_settled own at.line (row_claims m q at.known head rows) (unless_decided (is_open head) (m.row_claims q at.known head rows) (let g = d.rows in g at.known head rows ok)))
-    (λ y. settled_then own (asks_trees version table (problems m q at.known head) (at.line + 1 + length rows)) (λ line. Give (given m q at head rows line)) (trees_settled own version table (problems m q at.known head) (at.line + 1 + length rows) (unless_problems (is_open head) (m.problems q at.known head) (let g = d.trees in g at.known head ok)))
+    (λ rows. settled_then own (claims at.line (m.row_claims q at.known head rows)) (λ y. from_trees m version table q at head rows) (claims_settled own at.line (m.row_claims q at.known head rows) (let g = d.rows in g at.known head rows ok))
+    (λ y. settled_then own (asks_trees version table (m.problems q at.known head) (at.line + 1 + length rows)) (λ line. Give (given m q at head rows line)) (trees_settled own version table (m.problems q at.known head) (at.line + 1 + length rows) (let g = d.trees in g at.known head ok))
     (λ line. give_settled own (given m q at head rows line))))))
 
 -- what is known after a block has the property
@@ -190,10 +182,10 @@ unfolding GivesOnly
 block_keeps {Known} m Ok version table q at d ok =
     let Has : AfterBlocks Known → Type 0 = λ after. Ok after.known in
     gives_only_then Has (asks version at.line at.by_tree (heads q (m.shapes at.known).sizes)) (λ head. from_claims m version table q at head) (λ head.
-    gives_only_then Has (claims at.line (head_claims m q at.known head)) (λ x. from_rows m version table q at head) (λ x.
+    gives_only_then Has (claims at.line (m.head_claims q at.known head)) (λ x. from_rows m version table q at head) (λ x.
     gives_only_then Has (asks_all version (at.line + 1) false (below q (m.shapes at.known) head)) (λ rows. from_row_claims m version table q at head rows) (λ rows.
-    gives_only_then Has (claims at.line (row_claims m q at.known head rows)) (λ y. from_trees m version table q at head rows) (λ y.
-    gives_only_then Has (asks_trees version table (problems m q at.known head) (at.line + 1 + length rows)) (λ line. Give (given m q at head rows line)) (λ line. let g = d.learn in g at.known head rows ok)))))
+    gives_only_then Has (claims at.line (m.row_claims q at.known head rows)) (λ y. from_trees m version table q at head rows) (λ y.
+    gives_only_then Has (asks_trees version table (m.problems q at.known head) (at.line + 1 + length rows)) (λ line. Give (given m q at head rows line)) (λ line. let g = d.learn in g at.known head rows ok)))))
 
 sections_keep : {Known : Type 0} (Ok : Known → Type 0) (opened : List Record) (at : AfterBlocks Known) → Ok at.known → Ok (after_sections opened at).known
 sections_keep Ok [] at ok = ok

@@ -14,7 +14,7 @@ use Rattle.crn_cert.specs.Questions.{Question}
 use Rattle.crn_ctext.specs.Records.{Record, Form, Fits, kind_of}
 use Rattle.crn_ctext.specs.Kinds.{known_words, record_form, free_form}
 use Rattle.crn_ctext.specs.Questions.{heads}
-use Rattle.crn_ctext.specs.Blocks.{Problem, Meaning, problems, sections, below, word_of}
+use Rattle.crn_ctext.specs.Blocks.{Problem, Meaning, sections, below, word_of}
 use Rattle.crn_ctext.specs.Documents.{one_word, section, is_cut_leaf, cut_lists, naming_word, IsNamed, leaf_written, first_leaf, later_leaves, written, leaf_forms, IsOneOf, IsTree, AreTrees, AreFormed}
 use Rattle.crn_ctext.proofs.FormKinds.{IsRowKind, HaveKinds, in_passes, heads_kinds, below_kinds, fits_no_cut}
 use Rattle.crn_ctext.proofs.Shared.{IsWrittenFor, named_at, shared_written}
@@ -107,7 +107,7 @@ formed_kinds version m (q ∷ qs) known (rs ∷ more) v =
     let f = v.1 in
     let z = m.shapes known in
     let head : IsKind p.head = row_kind f.head.0 p.head (all_in IsRowKind (heads q z.sizes) f.head.0 (heads_kinds q z.sizes) f.head.1) f.head.2 in
-    let block : AllKinds rs = subst AllKinds (sym p.all) (head, kinds_both p.rows p.nodes (rows_kind (below q z p.head) p.rows (below_kinds q z p.head) f.rows) (trees_kinds (problems m q known p.head) p.nodes f.trees)) in
+    let block : AllKinds rs = subst AllKinds (sym p.all) (head, kinds_both p.rows p.nodes (rows_kind (below q z p.head) p.rows (below_kinds q z p.head) f.rows) (trees_kinds (m.problems q known p.head) p.nodes f.trees)) in
     kinds_both (map section (sections version q)) (rs ++ parted version qs more) (sections_kind (sections version q)) (kinds_both rs (parted version qs more) block (formed_kinds version m qs (m.learn q known p.head p.rows) more v.2))
 
 -- ---- records

@@ -1,6 +1,6 @@
 -- Answers on signals that have trees, one or two, and their records.
 use Rattle.std.proofs.Common.{◌≡◌, ◌⊎◌, ◌<◌, ◌+◌, ◌++◌, ◌∙◌, ℕ, Bool, true, false, List, [], ◌∷◌, length, refl, sym, ap, ap₂, subst, inl, inr, arith}
-use Rattle.std.specs.Prelude.{ℤ, pos, negsuc, Option, Some, None, codes}
+use Rattle.std.specs.Prelude.{ℤ, pos, negsuc, Option, Some, None}
 use Rattle.std.specs.Option.{IsSomeAnd}
 use Rattle.std.proofs.lemmas.List.{append-nil}
 use Rattle.crn_vec.specs.Network.{Net}
@@ -23,9 +23,8 @@ use Rattle.crn_cert.specs.Formed.{IsFormedOf}
 use Rattle.crn_cert.specs.Parts.{IsSignalTree, AreSignalTrees}
 use Rattle.crn_cert.specs.Valid.{IsSignalNode, IsNodeOf, IsValid}
 use Rattle.crn_cert.proofs.CallerLemmas.{shape_count, hold_append, hold_parts, signal_trees_formed}
-use Rattle.crn_ctext.specs.Records.{Record, Form}
-use Rattle.crn_ctext.specs.Questions.{Sizes, wide_signal, spent, rests, open_by}
-use Rattle.crn_ctext.specs.Blocks.{Problem, place_of}
+use Rattle.crn_ctext.specs.Records.{Record}
+use Rattle.crn_ctext.specs.Blocks.{Problem}
 use Rattle.crn_ctext.specs.Documents.{IsTree, AreTrees, IsGoodLeaf}
 use Rattle.crn_ctext.specs.Documents as documents
 use Rattle.crn_ctext.specs.Answers.{proof_nodes, records, nodes}
@@ -57,20 +56,6 @@ weak_known known y = yes_is (on known.earlier Q4) y
 
 pub not_weak_known : (known : Known) → (IsYes (on known.earlier Q4) → ⊥) → is_yes (on known.earlier Q4) ≡ false
 not_weak_known known n = no_is (on known.earlier Q4) n
-
--- ---- open answers
-
--- the last forms of heads
-abbrev pub last_forms : Bool → Sizes → List Form
-last_forms b z = wide_signal b z ++ spent (codes "q13") 5 ∷ rests (codes "q13") 6 12 ∷ []
-
-pub spent_place : (b : Bool) (z : Sizes) → place_of (last_forms b z) (codes "q13" ∷ open_by (codes "budget")) ≡ 5
-spent_place true z = refl
-spent_place false z = refl
-
-pub rests_place : (b : Bool) (z : Sizes) → place_of (last_forms b z) (codes "q13" ∷ open_by (codes "rests")) ≡ 6
-rests_place true z = refl
-rests_place false z = refl
 
 -- ---- trees
 

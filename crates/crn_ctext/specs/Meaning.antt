@@ -2,8 +2,7 @@
 -- of these.
 -- Source: this project's own.
 -- Shapes: a block is a head and the records below it; verdicts come in the order of the questions.
-use Rattle.std.specs.Prelude.{ℕ, zero, suc, ℤ, pos, negsuc, ◌+◌, ◌==◌, Bool, true, false, if◌then◌else◌, nat_abs, List, [], ◌∷◌, ◌++◌, length, map, take, drop, codes, slice_index_or}
-use Rattle.std.specs.Str.{bytes_eq}
+use Rattle.std.specs.Prelude.{ℕ, zero, suc, ℤ, pos, negsuc, ◌+◌, ◌==◌, Bool, true, false, nat_abs, List, [], ◌∷◌, ◌++◌, length, map, take, drop, slice_index_or}
 use Rattle.crn_vec.specs.Kept.{KeptInts, KeptNums}
 use Rattle.crn_vec.specs.Network.{Net}
 use Rattle.crn_vec.specs.declared.signs.Sign.{Sign}
@@ -13,19 +12,21 @@ use Rattle.crn_vec.specs.Problems.{Signed}
 use Rattle.crn_vec.specs.Concordance.{concordance}
 use Rattle.crn_vec.specs.Influence.{plain_table, strong_table}
 use Rattle.crn_cert.specs.declared.answer.Gap.{Gap}
-use Rattle.crn_cert.specs.declared.answer.Gap.TheVariants.{Wide, Budget, Rests}
+use Rattle.crn_cert.specs.declared.answer.Gap.TheVariants.{Wide as WideGap, Budget as Spent, Rests as RestsOn}
 use Rattle.crn_cert.specs.declared.answer.Verdict.{Verdict}
-use Rattle.crn_cert.specs.declared.answer.Verdict.TheVariants.{Classes, Strong, Rank, Deficiency, Yes, YesWeak, YesVec, YesSignal, No, NoReaction, NoVec, NoNumber, NoTerminal, NoClass, NoSum, NoDependence, NoCycle, NoPair, NotRegular, OnlyZero, Plane, NotApplicable, Unknown}
+use Rattle.crn_cert.specs.declared.answer.Verdict.TheVariants as verdict
 use Rattle.crn_cert.specs.declared.answer.RankProof.{RankProof}
 use Rattle.crn_cert.specs.declared.answer.Proof.{Proof}
-use Rattle.crn_cert.specs.declared.answer.Proof.TheVariants.{Nothing, Forest, Strong as StrongTrees, Back, Rank as RankRows, Ranks, Sides, Ties}
-use Rattle.crn_cert.specs.Questions.{Earlier, Question, Q1, Q2, Q3, Q4, Q5, Q6, Q7, Q8, Q9, Q10, Q11, Q12, Q13, Q14, Q15, on, count_of, terminal_of}
+use Rattle.crn_cert.specs.declared.answer.Proof.TheVariants as proof
+use Rattle.crn_cert.specs.declared.head_kind.HeadKind.{HeadKind}
+use Rattle.crn_cert.specs.declared.head_kind.HeadKind.TheVariants.{Classes, Strong, Rank, Deficiency, Yes, YesWeak, YesVec, YesSignal, No, NoReaction, NoVec, NoNumber, NoTerminal, NoClass, NoSum, NoDependence, NoCycle, NoPair, NotRegular, OnlyZero, Plane, NotApplicable, Wide, Budget, Rests}
+use Rattle.crn_cert.specs.Questions.{Earlier, Question, Q2, Q3, Q4, Q11, Q12, Q13, Q14, Q15, on, count_of, terminal_of}
 use Rattle.crn_cert.specs.Tests.{Test as Claim}
 use Rattle.crn_cert.specs.Nodes.{Said, Fits, Flats, CutsA, CutsB}
 use Rattle.crn_cert.specs.Valid.{linkage, linkage_count, classes_to, class_places, pair_places, IsNodeOf, head_tests, row_tests}
 use Rattle.crn_ctext.specs.Records.{Record}
-use Rattle.crn_ctext.specs.Questions.{Sizes, Shapes, heads, class_rank, later_numbers}
-use Rattle.crn_ctext.specs.Blocks.{Meaning, Problem, place_of, is_open}
+use Rattle.crn_ctext.specs.Questions.{Sizes, Shapes, heads, kind_at, class_rank, later_numbers}
+use Rattle.crn_ctext.specs.Blocks.{Meaning, Problem, place_of}
 pub use Rattle.crn_cert.specs.Questions.{is_yes, has_vector}
 
 -- what is known before a block: the network, and the verdicts of the blocks before it
@@ -37,8 +38,8 @@ pub record Known : Type 0 where
 
 -- the linked pairs within terminal classes, if the strong classes are known
 abbrev pub pairs_by : Known → Verdict → List ℕ
-pairs_by known (Strong count terminal label exit) = pair_places known.net known.earlier
-pairs_by known verdict = []
+pairs_by known (verdict.Strong count terminal label exit) = pair_places known.net known.earlier
+pairs_by known other = []
 
 -- these pairs, by the earlier verdict on strong classes
 abbrev pub pairs_of : Known → List ℕ
@@ -99,105 +100,98 @@ abbrev pub lists : List Record → List (List ℤ)
 lists rs = map (λ (r : Record). r.numbers) rs
 
 -- the numbers of the record at this place, from 0
-abbrev pub row : List Record → ℕ → List ℤ
-row rs i = slice_index_or (lists rs) i []
+abbrev pub row : List (List ℤ) → ℕ → List ℤ
+row rows i = slice_index_or rows i []
 
 -- ---- a verdict
 
--- why the answer with this head is open
-abbrev pub gap_of : Record → Gap
-gap_of h =
-    if bytes_eq (slice_index_or h.words 2 []) (codes "wide")
-    then Wide (number h.numbers 0) (number h.numbers 1) (number h.numbers 2)
-    (nums (drop 3 h.numbers))
-    else (
-    if bytes_eq (slice_index_or h.words 2 []) (codes "budget") then Budget (number h.numbers 0)
-    else Rests (number h.numbers 0))
+-- the kind of a head, by the place of its form
+abbrev pub kind_of : Question → Sizes → Record → HeadKind
+kind_of q z h = kind_at q (place_of (heads q z) h.words)
 
--- the decided verdict of a head's form, by the place of the form, the numbers of the head and the
--- records below
-abbrev pub verdict_by : Question → ℕ → List ℤ → List Record → Verdict
-verdict_by Q1 (suc zero) n rs = Classes (number n 0) (nums (row rs 0))
-verdict_by Q2 (suc zero) n rs = Strong (number n 0) (number n 1) (nums (row rs 0)) (nums (row rs 6))
-verdict_by Q3 (suc zero) n rs = Yes
-verdict_by Q3 (suc (suc zero)) n rs = NoReaction (number n 0)
-verdict_by Q4 (suc zero) n rs = Yes
-verdict_by Q4 (suc (suc zero)) n rs = NoReaction (number n 0)
-verdict_by Q5 (suc zero) n rs = Rank (number n 0) (nums (row rs 0))
-verdict_by Q6 (suc zero) n rs = Deficiency (number n 0) (nums (later_numbers n))
-verdict_by Q7 (suc zero) n rs = YesVec (ints (row rs 0))
-verdict_by Q7 (suc (suc zero)) n rs = NoVec (ints (row rs 0))
-verdict_by Q8 (suc zero) n rs = YesVec (ints (row rs 0))
-verdict_by Q8 (suc (suc zero)) n rs = NoVec (ints (row rs 0))
-verdict_by Q9 (suc zero) n rs = YesWeak (number n 0 == 1)
-verdict_by Q9 (suc (suc zero)) n rs = NoNumber (number n 0)
-verdict_by Q10 (suc zero) n rs = Yes
-verdict_by Q10 (suc (suc zero)) n rs = NoTerminal (number n 0) (number n 1)
-verdict_by Q10 (suc (suc (suc zero))) n rs = NoClass (number n 0) (number n 1)
-verdict_by Q10 (suc (suc (suc (suc zero)))) n rs = NoSum (number n 0)
-verdict_by Q11 (suc zero) n rs = Yes
-verdict_by Q11 (suc (suc zero)) n rs = NoTerminal (number n 0) (number n 1)
-verdict_by Q11 (suc (suc (suc zero))) n rs = NoDependence
-verdict_by Q11 (suc (suc (suc (suc zero)))) n rs = NoCycle (number n 0) (nums (row rs 0))
-verdict_by Q12 (suc zero) n rs = YesVec (ints (row rs 0))
-verdict_by Q12 (suc (suc zero)) n rs = NotRegular
-verdict_by Q12 (suc (suc (suc zero))) n rs = OnlyZero
-verdict_by Q12 (suc (suc (suc (suc zero)))) n rs =
-    Plane (number n 0) (number n 1) (ints (row rs 0)) (ints (row rs 1))
-verdict_by Q13 (suc zero) n rs =
-    YesSignal (slice_index_or n 0 (pos 0)) (ints (row rs 0)) (ints (row rs 1))
-    (slice_index_or (row rs 2) 0 (pos 0)) (ints (row rs 3))
-verdict_by Q13 (suc (suc zero)) n rs = No
-verdict_by Q14 (suc zero) n rs = Yes
-verdict_by Q14 (suc (suc zero)) n rs = NoPair (ints (row rs 0)) (ints (row rs 1))
-verdict_by Q15 (suc zero) n rs = Yes
-verdict_by Q15 (suc (suc zero)) n rs = NoPair (ints (row rs 0)) (ints (row rs 1))
-verdict_by q place n rs = NotApplicable
+-- the turn that a number says: -1, or else 1
+abbrev pub turn_of : ℤ → ℤ
+turn_of (negsuc zero) = negsuc 0
+turn_of z = pos 1
+
+-- why the answer with this head is open: an elementary vector is wide
+abbrev pub wide_gap : List ℤ → Gap
+wide_gap n = WideGap (number n 0) (number n 1) (number n 2) (nums (drop 3 n))
+
+-- the verdict of a head of this kind with these numbers, and of the records below it
+abbrev pub verdict_by : HeadKind → (head : List ℤ) → (rows : List (List ℤ)) → Verdict
+verdict_by Classes n r = verdict.Classes (number n 0) (nums (row r 0))
+verdict_by Strong n r = verdict.Strong (number n 0) (number n 1) (nums (row r 0)) (nums (row r 6))
+verdict_by Rank n r = verdict.Rank (number n 0) (nums (row r 0))
+verdict_by Deficiency n r = verdict.Deficiency (number n 0) (nums (later_numbers n))
+verdict_by Yes n r = verdict.Yes
+verdict_by YesWeak n r = verdict.YesWeak (number n 0 == 1)
+verdict_by YesVec n r = verdict.YesVec (ints (row r 0))
+verdict_by YesSignal n r =
+    verdict.YesSignal (turn_of (slice_index_or n 0 (pos 0))) (ints (row r 0)) (ints (row r 1))
+    (slice_index_or (row r 2) 0 (pos 0)) (ints (row r 3))
+verdict_by No n r = verdict.No
+verdict_by NoReaction n r = verdict.NoReaction (number n 0)
+verdict_by NoVec n r = verdict.NoVec (ints (row r 0))
+verdict_by NoNumber n r = verdict.NoNumber (number n 0)
+verdict_by NoTerminal n r = verdict.NoTerminal (number n 0) (number n 1)
+verdict_by NoClass n r = verdict.NoClass (number n 0) (number n 1)
+verdict_by NoSum n r = verdict.NoSum (number n 0)
+verdict_by NoDependence n r = verdict.NoDependence
+verdict_by NoCycle n r = verdict.NoCycle (number n 0) (nums (row r 0))
+verdict_by NoPair n r = verdict.NoPair (ints (row r 0)) (ints (row r 1))
+verdict_by NotRegular n r = verdict.NotRegular
+verdict_by OnlyZero n r = verdict.OnlyZero
+verdict_by Plane n r = verdict.Plane (number n 0) (number n 1) (ints (row r 0)) (ints (row r 1))
+verdict_by NotApplicable n r = verdict.NotApplicable
+verdict_by Wide n r = verdict.Unknown (wide_gap n)
+verdict_by Budget n r = verdict.Unknown (Spent (number n 0))
+verdict_by Rests n r = verdict.Unknown (RestsOn (number n 0))
 
 -- the verdict of a block
 abbrev pub verdict_of : Question → Sizes → Record → List Record → Verdict
-verdict_of q z h rs =
-    if is_open h then Unknown (gap_of h)
-    else verdict_by q (place_of (heads q z) h.words) h.numbers rs
+verdict_of q z h rs = verdict_by (kind_of q z h) h.numbers (lists rs)
 
 -- ---- a proof
 
 -- a base, this many duals, and combinations
-abbrev pub rank_proof : ℕ → List Record → RankProof
-rank_proof rank rs =
-    record {
-      base = nums (row rs 0);
-      duals = take rank (drop 1 (lists rs));
-      combs = drop (suc rank) (lists rs);
-    }
+abbrev pub rank_proof : ℕ → List (List ℤ) → RankProof
+rank_proof rank rows = record {
+  base = nums (row rows 0);
+  duals = take rank (drop 1 rows);
+  combs = drop (suc rank) rows;
+}
 
 -- the proofs of the classes' ranks, by the class numbers
 abbrev pub class_proofs : List ℕ → List (List ℕ) → List ℤ → List Record → List RankProof
 class_proofs (complexes ∷ more) (reactions ∷ others) (d ∷ ds) rs =
-    rank_proof (class_rank complexes d) (take (suc (length reactions)) rs)
+    rank_proof (class_rank complexes d) (lists (take (suc (length reactions)) rs))
     ∷ class_proofs more others ds (drop (suc (length reactions)) rs)
 class_proofs complexes reactions ds rs = []
 
--- the decided verdict's proof, but for its trees
-abbrev pub proof_by : Question → Shapes → ℕ → List ℤ → List Record → Proof
-proof_by Q1 s (suc zero) n rs = Forest (nums (row rs 1)) (nums (row rs 2))
-proof_by Q2 s (suc zero) n rs =
-    StrongTrees (nums (row rs 1)) (nums (row rs 2)) (nums (row rs 3)) (nums (row rs 4))
-    (nums (row rs 5))
-proof_by Q3 s (suc zero) n rs = Back (nums (row rs 0))
-proof_by Q5 s (suc zero) n rs = RankRows (rank_proof (number n 0) rs)
-proof_by Q6 s (suc zero) n rs =
-    Ranks (class_proofs s.class_complexes s.class_members (later_numbers n) rs)
-proof_by Q11 s (suc zero) n rs = Sides (map later_numbers (lists rs))
-proof_by Q12 s (suc zero) n rs = Ties (drop 1 (lists rs))
-proof_by Q12 s (suc (suc (suc zero))) n rs = Ties (lists rs)
-proof_by q s place n rs = Nothing
+-- the proof below a head of this kind, but for its trees, by the proofs of the classes' ranks
+abbrev pub proof_by : HeadKind → Question → List RankProof → (head : List ℤ) → (rows : List (List ℤ))
+    → Proof
+proof_by Classes q ranks n r = proof.Forest (nums (row r 1)) (nums (row r 2))
+proof_by Strong q ranks n r =
+    proof.Strong (nums (row r 1)) (nums (row r 2)) (nums (row r 3)) (nums (row r 4))
+    (nums (row r 5))
+proof_by Rank q ranks n r = proof.Rank (rank_proof (number n 0) r)
+proof_by Deficiency q ranks n r = proof.Ranks ranks
+proof_by Yes Q3 ranks n r = proof.Back (nums (row r 0))
+proof_by Yes Q11 ranks n r = proof.Sides (map later_numbers r)
+proof_by YesVec Q12 ranks n r = proof.Ties (drop 1 r)
+proof_by OnlyZero q ranks n r = proof.Ties r
+proof_by kind q ranks n r = proof.Nothing
+
+-- the proofs of the ranks of all classes that the records below a head say
+abbrev pub ranks_of : Shapes → Record → List Record → List RankProof
+ranks_of s h rs = class_proofs s.class_complexes s.class_members (later_numbers h.numbers) rs
 
 -- the proof of a block, but for its trees
 abbrev pub proof_of : Question → Shapes → Record → List Record → Proof
 proof_of q s h rs =
-    if is_open h then Nothing
-    else proof_by q s (place_of (heads q s.sizes) h.words) h.numbers rs
+    proof_by (kind_of q s.sizes h) q (ranks_of s h rs) h.numbers (lists rs)
 
 -- ---- trees
 

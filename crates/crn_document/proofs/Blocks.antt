@@ -19,10 +19,10 @@ use Rattle.crn_pairs.specs.Pairs.{pairs_to}
 use Rattle.crn_cert.specs.Formed.{IsFormed, IsFormedOf}
 use Rattle.crn_cert.proofs.CallerLemmas.{hold_parts}
 use Rattle.crn_ctext.specs.Records.{Record, Form, Fits}
-use Rattle.crn_ctext.specs.Questions.{later_numbers}
+use Rattle.crn_ctext.specs.Questions.{decided, kind_at, later_numbers, open_kinds}
 use Rattle.crn_ctext.specs.Course.{Course, Give, ◌>>=◌, Gives}
 use Rattle.crn_ctext.specs.Course as course
-use Rattle.crn_ctext.specs.Blocks.{AfterBlocks, Problem, asks_all, asks_trees, below, claims, has_tree, is_open, problems, unless}
+use Rattle.crn_ctext.specs.Blocks.{AfterBlocks, Problem, asks_all, asks_trees, below, claims, has_tree}
 use Rattle.crn_ctext.specs.Steps.{StepGives}
 use Rattle.crn_io.specs.Device.{SourceSeen}
 use Rattle.crn_vec.proofs.CallerLemmas.{and_first}
@@ -31,14 +31,14 @@ use Rattle.crn_reading.specs.declared.reading.Reading.{Reading}
 use Rattle.crn_reading.specs.declared.fault.CheckStop.{CheckStop}
 use Rattle.crn_reading.specs.Steps.{StepIs}
 use Rattle.crn_reading.proofs.CallerLemmas.{step_map, step_then_is}
-use Rattle.crn_ctext.specs.Meaning.{Known, lists, problems_by, sizes_of, shapes_of, verdict_of, proof_of, meaning}
+use Rattle.crn_ctext.specs.Meaning.{Known, lists, problems_by, sizes_of, shapes_of, verdict_by, verdict_of, proof_by, proof_of, meaning}
 use Rattle.crn_ctext.specs.Meaning as said
 use Rattle.crn_check.specs.Facts.{KeptFacts, asked}
 use Rattle.crn_check.specs.Check.{AsksForTree, IsBuilt, shown_by_tree, tree_place}
 use Rattle.crn_cert.specs.Verdicts.{tight}
 use Rattle.crn_document.specs.declared.parts.Part.{Part}
-use Rattle.crn_document.specs.Inner.Answer.{decided, kind_at, kind_of, open_kinds, verdict_by, verdict_of_head}
-use Rattle.crn_document.specs.Inner.Answers.{FitAnswer, proof_by, proof_of_head}
+use Rattle.crn_document.specs.Inner.Answer.{kind_of, verdict_of_head}
+use Rattle.crn_document.specs.Inner.Answers.{FitAnswer, part_proofs, proof_of_head}
 use Rattle.crn_document.specs.Inner.Parts.{IsKnown, before, parts_below}
 use Rattle.crn_document.specs.Inner.Records.{AreRows, MayBeRow, fixed_rows, many_rows, part_rows, row_form, rows_below}
 use Rattle.crn_document.specs.declared.rows.Row.{Row}
@@ -132,12 +132,18 @@ so_far_next qs q old new v so_far same =
 -- what is said of these tests is said of the course of the tests
 as_tests : (P : Course (Unit {0}) → Type 0) (v : Verdict) (p : Proof) (net : Net) (earlier : Earlier) (n line : ℕ) (h : Record) (rs : List Record)
     → verdict_of (asked n) (sizes_of (known_of net earlier)) h rs ≡ v → proof_of (asked n) (shapes_of (known_of net earlier)) h rs ≡ p
-    → unless (is_open h) (row_tests net earlier (asked n) v p) ≡ row_tests net earlier (asked n) v p
     → P (claims line (row_tests net earlier (asked n) v p)) → P (tests_course net earlier n line h rs)
-as_tests P v p net earlier n line h rs verdict proof tests x =
-    subst (λ (w : Verdict). P (claims line (unless (is_open h) (row_tests net earlier (asked n) w (proof_of (asked n) (shapes_of (known_of net earlier)) h rs))))) (sym verdict)
-    (subst (λ (w : Proof). P (claims line (unless (is_open h) (row_tests net earlier (asked n) v w)))) (sym proof)
-    (subst (λ (ts : List {1} Test). P (claims line ts)) (sym tests) x))
+as_tests P v p net earlier n line h rs verdict proof x =
+    subst (λ (w : Verdict). P (claims line (row_tests net earlier (asked n) w (proof_of (asked n) (shapes_of (known_of net earlier)) h rs)))) (sym verdict)
+    (subst (λ (w : Proof). P (claims line (row_tests net earlier (asked n) v w))) (sym proof) x)
+
+-- the verdict that a head and the records below it say is that of its numbers
+head_says : (net : Net) (earlier : Earlier) (n : ℕ) (head : List ℤ) (h : Record) (rs : List Record) → IsHead net earlier n head h → verdict_of (asked n) (sizes_of (known_of net earlier)) h rs ≡ verdict_of_head (asked n) head rs
+head_says net earlier n head h rs is = ap (λ (t : List ℤ). verdict_of_head (asked n) t rs) (sym is.tag)
+
+-- the trees that are due after the records are those of the form of the head
+pub trees_due : (net : Net) (earlier : Earlier) (n : ℕ) (head : List ℤ) (h : Record) → IsHead net earlier n head h → problems_by (asked n) (known_of net earlier) (said.number head 0) ≡ meaning.problems (asked n) (known_of net earlier) h
+trees_due net earlier n head h is = ap (λ (t : List ℤ). problems_by (asked n) (known_of net earlier) (said.number t 0)) is.tag
 
 -- ---- an answer and its block
 
@@ -194,10 +200,10 @@ answer_formed net n facts head rows h rs a other built known hold b is =
     let here = known_of net earlier in
     let f = said_facts net n facts head h built known b.is_head in
     let below_is : below q (shapes_of here) h ≡ forms_below net earlier n head = f.below_is in
-    let none : problems meaning q here h ≡ [] = sym f.trees_are ∙ no_tree_below n built here (said.number head 0) other in
+    let none : meaning.problems q here h ≡ [] = sym (trees_due net earlier n head h b.is_head) ∙ no_tree_below n built here (said.number head 0) other in
     let formed = records_formed here q h rs (pairs_for net n facts built known) (let s = b.is_head in s.form) (subst (λ (fs : List Form). AllZip Fits fs rs) (sym below_is) b.fit) none in
     same_answer (λ v p. IsFormedOf net earlier q v p) net earlier n head rs a is
-    (subst (λ (v : Verdict). IsFormedOf net earlier q v (said_proof net earlier n head rs)) (let s = f.said in s rs) (subst (λ (p : Proof). IsFormedOf net earlier q (verdict_of q (sizes_of here) h rs) p) (let s = f.shown in s rs) formed))
+    (subst (λ (v : Verdict). IsFormedOf net earlier q v (said_proof net earlier n head rs)) (head_says net earlier n head h rs b.is_head) (subst (λ (p : Proof). IsFormedOf net earlier q (verdict_of q (sizes_of here) h rs) p) (let s = f.shown in s rs) formed))
 
 pub answer_holds : (net : Net) (earlier : Earlier) (n : ℕ) (head : List ℤ) (rs : List Record) (a : Answer) → IsAnswerOf net earlier n head rs a → AllHold (tests_of net earlier (asked n) a) → AllHold (row_tests net earlier (asked n) (said_verdict n head rs) (said_proof net earlier n head rs))
 answer_holds net earlier n head rs a is h =
@@ -236,11 +242,11 @@ block_learns net n facts head rows h rs a new line built known hold b is holds k
     let f = said_facts net n facts head h built known b.is_head in
     let v = said_verdict n head rs in
     let p = said_proof net earlier n head rs in
-    let said_is : verdict_of (asked n) (sizes_of (known_of net earlier)) h rs ≡ v = (let s = f.said in s rs) in
+    let said_is : verdict_of (asked n) (sizes_of (known_of net earlier)) h rs ≡ v = head_says net earlier n head h rs b.is_head in
     let tight_is : v ≡ tight a.verdict = sym (answer_tight net earlier n head rs a is ∙ is.verdict_is) in
     let same : new ≡ earlier ++ (asked n, verdict_of (asked n) (sizes_of (known_of net earlier)) h rs) ∷ [] = kept ∙ ap (λ (w : Verdict). earlier ++ (asked n, w) ∷ []) (sym (said_is ∙ tight_is)) in (
       ap (λ (es : Earlier). known_of net es) same,
-      λ place. as_tests (λ d. Gives d place tt place) v p net earlier n line h rs said_is (let s = f.shown in s rs) (let r = f.rows_are in r rs) (claims_hold line (row_tests net earlier (asked n) v p) place (answer_holds net earlier n head rs a is holds)),
+      λ place. as_tests (λ d. Gives d place tt place) v p net earlier n line h rs said_is (let s = f.shown in s rs) (claims_hold line (row_tests net earlier (asked n) v p) place (answer_holds net earlier n head rs a is holds)),
     )
 
 -- or the first test that the answer fails is that of the records
@@ -251,7 +257,7 @@ block_fails net n facts head rows h rs a line part code built known hold b is fa
     let f = said_facts net n facts head h built known b.is_head in
     let v = said_verdict n head rs in
     let p = said_proof net earlier n head rs in
-    as_tests (λ d. course.FailsFirst d place (line + part) code) v p net earlier n line h rs (let s = f.said in s rs) (let s = f.shown in s rs) (let r = f.rows_are in r rs)
+    as_tests (λ d. course.FailsFirst d place (line + part) code) v p net earlier n line h rs (head_says net earlier n head h rs b.is_head) (let s = f.shown in s rs)
     (claims_fail line (row_tests net earlier (asked n) v p) part code place (answer_fails net n facts head rows h rs a part code built known hold b is fails))
 
 -- ---- a verdict that trees show
@@ -299,19 +305,19 @@ shown_said net earlier n head rs (inl e) place =
     let two : said.number head 0 ≡ 2 = place ∙ ap (λ (m : ℕ). tree_place m) e in
     subst (λ (m : ℕ). IsShownSaid net earlier m head rs) (sym e) (record {
       verdict = subst (λ (k : ℕ). verdict_by (kind_at Q13 k) (later_numbers head) (lists rs) ≡ No) (sym two) refl;
-      tests = subst (λ (k : ℕ). row_tests net earlier Q13 (verdict_by (kind_at Q13 k) (later_numbers head) (lists rs)) (proof_by (kind_at Q13 k) Q13 (parts_after net earlier 13 head) (later_numbers head) (lists rs)) ≡ []) (sym two) refl;
+      tests = subst (λ (k : ℕ). row_tests net earlier Q13 (verdict_by (kind_at Q13 k) (later_numbers head) (lists rs)) (proof_by (kind_at Q13 k) Q13 (part_proofs (parts_after net earlier 13 head) (lists rs)) (later_numbers head) (lists rs)) ≡ []) (sym two) refl;
     })
 shown_said net earlier n head rs (inr (inl e)) place =
     let one : said.number head 0 ≡ 1 = place ∙ ap (λ (m : ℕ). tree_place m) e in
     subst (λ (m : ℕ). IsShownSaid net earlier m head rs) (sym e) (record {
       verdict = subst (λ (k : ℕ). verdict_by (kind_at Q14 k) (later_numbers head) (lists rs) ≡ Yes) (sym one) refl;
-      tests = subst (λ (k : ℕ). row_tests net earlier Q14 (verdict_by (kind_at Q14 k) (later_numbers head) (lists rs)) (proof_by (kind_at Q14 k) Q14 (parts_after net earlier 14 head) (later_numbers head) (lists rs)) ≡ []) (sym one) refl;
+      tests = subst (λ (k : ℕ). row_tests net earlier Q14 (verdict_by (kind_at Q14 k) (later_numbers head) (lists rs)) (proof_by (kind_at Q14 k) Q14 (part_proofs (parts_after net earlier 14 head) (lists rs)) (later_numbers head) (lists rs)) ≡ []) (sym one) refl;
     })
 shown_said net earlier n head rs (inr (inr e)) place =
     let one : said.number head 0 ≡ 1 = place ∙ ap (λ (m : ℕ). tree_place m) e in
     subst (λ (m : ℕ). IsShownSaid net earlier m head rs) (sym e) (record {
       verdict = subst (λ (k : ℕ). verdict_by (kind_at Q15 k) (later_numbers head) (lists rs) ≡ Yes) (sym one) refl;
-      tests = subst (λ (k : ℕ). row_tests net earlier Q15 (verdict_by (kind_at Q15 k) (later_numbers head) (lists rs)) (proof_by (kind_at Q15 k) Q15 (parts_after net earlier 15 head) (later_numbers head) (lists rs)) ≡ []) (sym one) refl;
+      tests = subst (λ (k : ℕ). row_tests net earlier Q15 (verdict_by (kind_at Q15 k) (later_numbers head) (lists rs)) (proof_by (kind_at Q15 k) Q15 (part_proofs (parts_after net earlier 15 head) (lists rs)) (later_numbers head) (lists rs)) ≡ []) (sym one) refl;
     })
 
 -- a no to question 13 whose head passes its tests is about a vector
@@ -330,20 +336,16 @@ block_shown net n facts head rows h rs new line built known b tree place kept =
     let v = said_verdict n head rs in
     let p = said_proof net earlier n head rs in
     let t = shown_said net earlier n head rs tree place in
-    let said_is : verdict_of (asked n) (sizes_of (known_of net earlier)) h rs ≡ v = (let s = f.said in s rs) in
+    let said_is : verdict_of (asked n) (sizes_of (known_of net earlier)) h rs ≡ v = head_says net earlier n head h rs b.is_head in
     let same : new ≡ earlier ++ (asked n, verdict_of (asked n) (sizes_of (known_of net earlier)) h rs) ∷ [] = kept ∙ ap (λ (w : Verdict). earlier ++ (asked n, w) ∷ []) (sym (said_is ∙ t.verdict)) in (
       ap (λ (es : Earlier). known_of net es) same,
-      λ place. as_tests (λ d. Gives d place tt place) v p net earlier n line h rs said_is (let s = f.shown in s rs) (let r = f.rows_are in r rs)
+      λ place. as_tests (λ d. Gives d place tt place) v p net earlier n line h rs said_is (let s = f.shown in s rs)
           (subst (λ (ts : List {1} Test). Gives (claims line ts) place tt place) (sym t.tests) (claims_hold line [] place tt)),
     )
 
--- the trees that are due after the records are those of the form of the head
-pub trees_due : (net : Net) (n : ℕ) (facts : KeptFacts) (head : List ℤ) (rows : List (List ℤ)) (h : Record) (rs : List Record) → IsBuilt n → IsKnown net (before n) facts → IsBlock net facts.earlier n head rows h rs → problems_by (asked n) (known_of net facts.earlier) (said.number head 0) ≡ problems meaning (asked n) (known_of net facts.earlier) h
-trees_due net n facts head rows h rs built known b = let f = said_facts net n facts head h built known b.is_head in f.trees_are
-
 -- the tests of the records, and then the trees
 pub block_then : (net : Net) (earlier new : Earlier) (n line version place : ℕ) (table : List (List ℤ)) (h : Record) (rs : List Record) (blocks : List (List Record)) (result : Result (Unit {0}) CheckStop) (mid last : Reading) (between now : SourceSeen)
-    → problems_by (asked n) (known_of net earlier) place ≡ problems meaning (asked n) (known_of net earlier) h → Learns net earlier n new h rs → line + 1 + length rs ≡ mid.line → mid.version ≡ version
+    → problems_by (asked n) (known_of net earlier) place ≡ meaning.problems (asked n) (known_of net earlier) h → Learns net earlier n new h rs → line + 1 + length rs ≡ mid.line → mid.version ≡ version
     → StepGives (tests_course net earlier n line h rs) tt mid.line mid.line mid.lines mid.lines between.left between.left
     → StepIs (asks_trees mid.version table (problems_by (asked n) (known_of net earlier) place) mid.line) (λ t l. l ≡ last.line) result mid last between now
     → StepIs (end_course version table (asked n) (after_at net earlier line blocks) h rs) (λ t y. IsAfter net new (has_tree (problems_by (asked n) (known_of net earlier) place)) last.line y) result mid last between now
@@ -355,7 +357,7 @@ block_then net earlier new n line version place table h rs blocks result mid las
     (subst (λ (k : ℕ). StepIs (asks_trees k table (problems_by (asked n) (known_of net earlier) place) mid.line) (λ t l. l ≡ last.line) result mid last between now) v q))))
   where
     due : List {1} Problem
-    due = problems meaning (asked n) (known_of net earlier) h
+    due = meaning.problems (asked n) (known_of net earlier) h
 
     after : ℕ → AfterBlocks Known
     after l = record { known = meaning.learn (asked n) (known_of net earlier) h rs; by_tree = has_tree due; line = l; blocks = blocks ++ (h ∷ rs) ∷ [] }
@@ -390,9 +392,7 @@ pub head_course_by : (P : Course (AfterBlocks Known) → Type 0) (version : ℕ)
     → P (claims m (head_tests net facts.earlier (asked n) (said_verdict n head [])) >>= (λ x. rows_course version table (asked n) (after_at net facts.earlier m blocks) h)) → P (head_course version table (asked n) (after_at net facts.earlier m blocks) h)
 head_course_by P version table net facts n m head h blocks built known said p =
     let earlier = facts.earlier in
-    let f = said_facts net n facts head h built known said in
-    subst (λ (v : Verdict). P (head_by (unless (is_open h) (head_tests net earlier (asked n) v)) net earlier m blocks version table (asked n) h)) (sym (let s = f.said in s []))
-    (subst (λ (ts : List {1} Test). P (head_by ts net earlier m blocks version table (asked n) h)) (sym f.heads_are) p)
+    subst (λ (v : Verdict). P (head_by (head_tests net earlier (asked n) v) net earlier m blocks version table (asked n) h)) (sym (head_says net earlier n head h [] said)) p
 
 -- the records that were read below a head
 pub rows_block : (net : Net) (earlier : Earlier) (n : ℕ) (head : List ℤ) (forms : List Form) (rows old : List (List ℤ)) (h : Record) (rs : List Record) → forms ≡ forms_below net earlier n head → old ≡ [] → IsHead net earlier n head h → AreRows forms old rows rs → IsBlock net earlier n head rows h rs

@@ -16,11 +16,11 @@ use Rattle.crn_cert.specs.Valid.{head_tests, row_tests, linkage, linkage_count, 
 use Rattle.crn_cert.specs.Ranges.{AreFrom}
 use Rattle.crn_ctext.specs.Records.{Record, Form, AreRising, Rising, Fits, AreOf}
 use Rattle.crn_ctext.specs.Kinds.{small, just, small_form}
-use Rattle.crn_ctext.specs.Blocks.{is_open, below, problems, unless}
+use Rattle.crn_ctext.specs.Blocks.{below}
 use Rattle.crn_ctext.specs.Documents.{IsOneOf}
-use Rattle.crn_ctext.specs.Meaning.{meaning, number, lists, pairs_of, problems_by, sizes_of, shapes_of, verdict_of, proof_of}
+use Rattle.crn_ctext.specs.Meaning.{number, row, lists, pairs_of, sizes_of, shapes_of, proof_of}
 use Rattle.crn_check.specs.Facts.{asked}
-use Rattle.crn_document.specs.Inner.Answer.{AreSmall, AreSmallAt, row, verdict_of_head}
+use Rattle.crn_document.specs.Inner.Answer.{AreSmall, AreSmallAt, verdict_of_head}
 use Rattle.crn_document.specs.Inner.Answers.{FitAnswer, proof_of_head}
 use Rattle.crn_document.specs.Inner.Blocks.{HeadHolds, forms_below, parts_after}
 use Rattle.crn_document.specs.Inner.Heads.{known_of, head_forms, tagged, class_count}
@@ -34,11 +34,7 @@ pub record HeadFacts (net : Net) (earlier : Earlier) (n : ℕ) (h : Record) (t :
   pub ranks : length (linkage earlier) ≤ MAX_COMPLEXES → AreRanks (parts_after net earlier n t)
   pub may : HeadMayBe net earlier (asked n) (verdict_of_head (asked n) t [])
   pub below_is : below (asked n) (shapes_of (known_of net earlier)) h ≡ forms_below net earlier n t
-  pub said : (rs : List Record) → verdict_of (asked n) (sizes_of (known_of net earlier)) h rs ≡ verdict_of_head (asked n) t rs
   pub shown : (rs : List Record) → proof_of (asked n) (shapes_of (known_of net earlier)) h rs ≡ proof_of_head (asked n) (parts_after net earlier n t) t rs
-  pub heads_are : unless (is_open h) (head_tests net earlier (asked n) (verdict_of_head (asked n) t [])) ≡ head_tests net earlier (asked n) (verdict_of_head (asked n) t [])
-  pub rows_are : (rs : List Record) → unless (is_open h) (row_tests net earlier (asked n) (verdict_of_head (asked n) t rs) (proof_of_head (asked n) (parts_after net earlier n t) t rs)) ≡ row_tests net earlier (asked n) (verdict_of_head (asked n) t rs) (proof_of_head (asked n) (parts_after net earlier n t) t rs)
-  pub trees_are : problems_by (asked n) (known_of net earlier) (number t 0) ≡ problems meaning (asked n) (known_of net earlier) h
   pub head_parts : PartsWithin 7 (head_tests net earlier (asked n) (verdict_of_head (asked n) t []))
   pub fit : (rs : List Record) → HeadHolds net earlier n t → AllZip Fits (forms_below net earlier n t) rs → FitAnswer (asked n) t (parts_after net earlier n t) (lists rs)
   pub row_parts : (rs : List Record) → HeadHolds net earlier n t → AllZip Fits (forms_below net earlier n t) rs

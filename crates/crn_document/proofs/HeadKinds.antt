@@ -11,7 +11,8 @@ use Rattle.crn_cert.specs.Questions.{Earlier, Question}
 use Rattle.crn_cert.specs.Tests.{AllHold}
 use Rattle.crn_cert.specs.Valid.{head_tests}
 use Rattle.crn_cert.specs.Verdicts.{tight}
-use Rattle.crn_document.specs.Inner.Answer.{decided, kind_at, open_kinds, verdict_by}
+use Rattle.crn_ctext.specs.Questions.{decided, kind_at, open_kinds}
+use Rattle.crn_ctext.specs.Meaning.{verdict_by}
 
 later_kind : (xs ys : List HeadKind) (i : ℕ) → length xs ≤ i → slice_index_or ys (i - length xs) Rests ≡ slice_index_or (xs ++ ys) i Rests
 later_kind [] ys i le = ap (λ (k : ℕ). slice_index_or ys k Rests) (omega arith)

@@ -1,6 +1,6 @@
 -- What the head of question 13 says.
 use Rattle.std.proofs.Common.{◌≡◌, ◌≤◌, ◌<◌, ◌+◌, ◌^◌, ◌++◌, ◌∙◌, ℕ, List, [], ◌∷◌, length, map, refl, sym, subst, ap, inl, inr, arith}
-use Rattle.std.specs.Prelude.{ℤ, pos, negsuc, codes, nat_abs, slice_index_or}
+use Rattle.std.specs.Prelude.{ℤ, pos, negsuc, codes, nat_abs}
 use Rattle.crn_vec.specs.Lists.{IsIn}
 use Rattle.crn_vec.specs.Network.{Net, IsNetwork}
 use Rattle.crn_vec.specs.declared.limits.TheConstants.{MAX_BUDGET}
@@ -9,19 +9,17 @@ use Rattle.crn_cert.specs.Valid.{pair_places}
 use Rattle.crn_ctext.specs.Records.{Record, Form, AreRising, Fits}
 use Rattle.crn_ctext.specs.Kinds.{small, just, record_form, free_form}
 use Rattle.crn_ctext.specs.Questions.{Sizes, head, yes, no, wide, rests, spent, open_by}
-use Rattle.crn_ctext.specs.Meaning.{ints, lists, pairs_of, sizes_of, shapes_of}
-use Rattle.crn_document.specs.Inner.Answer.{row, turn_of}
+use Rattle.crn_ctext.specs.Meaning.{lists, pairs_of, proof_by, ranks_of, sizes_of, shapes_of}
 use Rattle.crn_document.specs.Inner.Heads.{known_of, head_forms}
 use Rattle.crn_document.proofs.Fields.{Holds, one_field, one_number}
 use Rattle.crn_document.proofs.HeadFacts.{Facts, one_small, wide_numbers, wide_small, wide_basis, same_facts, as_form, FactsAt, HeadFacts, head_with, FactsOf, ArePairs, IsWide}
 use Rattle.std.proofs.Common.{Bool, true, false}
-use Rattle.crn_cert.specs.declared.answer.Verdict.TheVariants.{YesSignal}
 use Rattle.crn_cert.specs.Formed.{IsWideGap}
-use Rattle.crn_ctext.proofs.CallerLemmas.{zip_long, spent_place, rests_place}
+use Rattle.crn_ctext.proofs.CallerLemmas.{zip_long, spent_place, rests_place, turn_is}
 use Rattle.crn_cert.specs.Says.{IsTurn}
 use Rattle.crn_cert.specs.Questions.{Q2, Q12, Q13, on, terminal_of}
 use Rattle.crn_ctext.specs.Records.{Small, Turn}
-use Rattle.crn_ctext.specs.Questions.{rows, wide_signal}
+use Rattle.crn_ctext.specs.Questions.{kind_at, rows, wide_signal}
 use Rattle.crn_ctext.specs.Blocks.{place_of}
 use Rattle.crn_ctext.specs.Meaning.{has_vector}
 use Rattle.crn_document.proofs.Linkages.{pairs_few}
@@ -37,10 +35,6 @@ turn_small : (turn : ℤ) → IsTurn turn → nat_abs turn < 2 ^ 32
 turn_small turn (inl e) = subst (λ (z : ℤ). nat_abs z < 2 ^ 32) (sym e) (omega arith)
 turn_small turn (inr e) = subst (λ (z : ℤ). nat_abs z < 2 ^ 32) (sym e) (omega arith)
 
-turn_is : (turn : ℤ) → IsTurn turn → turn_of turn ≡ turn
-turn_is turn (inl e) = subst (λ (z : ℤ). turn_of z ≡ z) (sym e) refl
-turn_is turn (inr e) = subst (λ (z : ℤ). turn_of z ≡ z) (sym e) refl
-
 signal_facts : (net : Net) (earlier : Earlier) (turn : ℤ) → IsTurn turn → Facts net earlier 13 (codes "q13" ∷ yes) (turn ∷ [])
 signal_facts net earlier turn is = record {
   small = (omega arith, (turn_small turn is, tt));
@@ -49,11 +43,7 @@ signal_facts net earlier turn is = record {
   few = omega arith;
   may = (subst IsTurn (sym (turn_is turn is)) is, tt);
   below_is = refl;
-  said = λ rs. ap (λ (z : ℤ). YesSignal z (ints (row (lists rs) 0)) (ints (row (lists rs) 1)) (slice_index_or (row (lists rs) 2) 0 (pos 0)) (ints (row (lists rs) 3))) (sym (turn_is turn is));
   shown = λ rs. refl;
-  heads_are = refl;
-  rows_are = λ rs. refl;
-  trees_are = refl;
   head_parts = (omega arith, tt);
   fit = λ rs hold z. (tt, tt);
   row_parts = λ rs hold z. let l = zip_long (signal_forms (terminal_of (on earlier Q2)) (length net.names) (length net.reactions)) rs z in (omega (arith, l), tt);
@@ -69,11 +59,7 @@ no_signal_facts net earlier = record {
   few = omega arith;
   may = tt;
   below_is = refl;
-  said = λ rs. refl;
   shown = λ rs. refl;
-  heads_are = refl;
-  rows_are = λ rs. refl;
-  trees_are = refl;
   head_parts = (omega arith, tt);
   fit = λ rs hold z. (tt, tt);
   row_parts = λ rs hold z. tt;
@@ -87,11 +73,7 @@ none_facts net earlier = record {
   few = omega arith;
   may = tt;
   below_is = refl;
-  said = λ rs. refl;
   shown = λ rs. refl;
-  heads_are = refl;
-  rows_are = λ rs. refl;
-  trees_are = refl;
   head_parts = (omega arith, tt);
   fit = λ rs hold z. (tt, tt);
   row_parts = λ rs hold z. tt;
@@ -109,11 +91,7 @@ wide_facts net earlier system columns height index basis fits some many low high
   few = omega arith;
   may = gap;
   below_is = refl;
-  said = λ rs. refl;
   shown = λ rs. refl;
-  heads_are = refl;
-  rows_are = λ rs. refl;
-  trees_are = refl;
   head_parts = tt;
   fit = λ rs hold z. (tt, tt);
   row_parts = λ rs hold z. tt;
@@ -134,11 +112,7 @@ spent_facts net earlier k range =
       few = omega arith;
       may = (range, tt);
       below_is = ap (λ (p : ℕ). rows Q13 (shapes_of known) p (pos k ∷ [])) place;
-      said = λ rs. refl;
-      shown = λ rs. refl;
-      heads_are = refl;
-      rows_are = λ rs. refl;
-      trees_are = refl;
+      shown = λ rs. ap (λ (p : ℕ). proof_by (kind_at Q13 p) Q13 (ranks_of (shapes_of known) (head_with (codes "q13" ∷ open_by (codes "budget")) (pos k ∷ [])) rs) (pos k ∷ []) (lists rs)) place;
       head_parts = tt;
       fit = λ rs hold z. (tt, tt);
       row_parts = λ rs hold z. tt;
@@ -155,11 +129,7 @@ rests_facts net earlier =
       few = omega arith;
       may = ((omega arith, omega arith), tt);
       below_is = ap (λ (p : ℕ). rows Q13 (shapes_of known) p (pos 12 ∷ [])) place;
-      said = λ rs. refl;
-      shown = λ rs. refl;
-      heads_are = refl;
-      rows_are = λ rs. refl;
-      trees_are = refl;
+      shown = λ rs. ap (λ (p : ℕ). proof_by (kind_at Q13 p) Q13 (ranks_of (shapes_of known) (head_with (codes "q13" ∷ open_by (codes "rests")) (pos 12 ∷ [])) rs) (pos 12 ∷ []) (lists rs)) place;
       head_parts = tt;
       fit = λ rs hold z. (tt, tt);
       row_parts = λ rs hold z. tt;

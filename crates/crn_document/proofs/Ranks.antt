@@ -24,7 +24,7 @@ use Rattle.crn_ctext.specs.Meaning.{lists, lengths, nums, rank_proof, class_proo
 use Rattle.crn_document.specs.declared.parts.Part.{Part}
 use Rattle.crn_document.specs.declared.rows.Row.{Row}
 use Rattle.crn_document.specs.declared.rows.Row.TheVariants.{Dual, Comb}
-use Rattle.crn_document.specs.Inner.Answer.{AreSmall, rank_proof_by}
+use Rattle.crn_document.specs.Inner.Answer.{AreSmall}
 use Rattle.crn_document.specs.Inner.Answers.{part_proofs}
 use Rattle.crn_document.specs.Inner.Parts.{FitParts, class_part, class_parts, members_of}
 use Rattle.crn_document.specs.Inner.Records.{part_rows, row_form}
@@ -106,7 +106,7 @@ rows_push rows i stop row old mid new differs le inside is m e =
 -- a base, duals and combinations, which come one after another
 pub rank_pieces : (rows : List (List ℤ)) (i rank middle stop : ℕ) (made : RankProof) → middle ≡ i + 1 + rank → middle ≤ stop → stop ≤ length rows
     → made.base ≡ nums (slice_index_or rows i []) → made.duals ≡ take (middle - (i + 1)) (drop (i + 1) rows) → made.combs ≡ take (stop - middle) (drop middle rows)
-    → made ≡ rank_proof_by rank (take (stop - i) (drop i rows))
+    → made ≡ rank_proof rank (take (stop - i) (drop i rows))
 rank_pieces rows i rank middle stop made mid le inside base duals combs =
     let k = stop - (i + 1) in
     let next : i + 1 ≡ suc i = omega arith in
@@ -122,7 +122,7 @@ rank_pieces rows i rank middle stop made mid le inside base duals combs =
     let back : made.combs ≡ drop rank (take k later) =
     combs ∙ ap (λ (j : ℕ). take (stop - middle) (drop j rows)) (sym place) ∙ ap (λ (t : List (List ℤ)). take (stop - middle) t) (sym (drop-drop rank (suc i) rows))
     ∙ sym (drop-take rank (stop - middle) later) ∙ ap (λ (j : ℕ). drop rank (take j later)) sum in
-    proof_is made (nums (slice_index_or rows i [])) _ _ base prefix back ∙ ap (λ (t : List (List ℤ)). rank_proof_by rank t) (sym all)
+    proof_is made (nums (slice_index_or rows i [])) _ _ base prefix back ∙ ap (λ (t : List (List ℤ)). rank_proof rank t) (sym all)
   where
     proof_is : (made : RankProof) (b : KeptNums) (d c : List (List ℤ)) → made.base ≡ b → made.duals ≡ d → made.combs ≡ c → made ≡ record { base = b; duals = d; combs = c }
     proof_is made b d c x y z = ap₂ (λ (b : KeptNums) (p : List (List ℤ) × List (List ℤ)). record { base = b; duals = p.0; combs = p.1 }) x (ap₂ (λ (d c : List (List ℤ)). (d, c)) y z)
@@ -172,7 +172,7 @@ rank_length z rank members le =
     let all = length-append (replicate rank (free_form (codes "dual") z.species)) (replicate (length members - rank) (free_form (codes "comb") (1 + rank))) in
     omega (arith, le, duals, combs, all)
 
-pub rank_formed : (net : Net) (z : Sizes) (rank : ℕ) (members : List ℕ) (rs : List Record) → z.species ≡ length net.names → AllZip Fits (rank_forms z rank members) rs → IsRankProof net members rank (rank_proof rank rs)
+pub rank_formed : (net : Net) (z : Sizes) (rank : ℕ) (members : List ℕ) (rs : List Record) → z.species ≡ length net.names → AllZip Fits (rank_forms z rank members) rs → IsRankProof net members rank (rank_proof rank (lists rs))
 rank_formed net z rank members [] s f = absurd f
 rank_formed net z rank members (r ∷ rs) s f =
     let dual = free_form (codes "dual") z.species in
@@ -243,7 +243,7 @@ pub class_proofs_are : (net : Net) (earlier : Earlier) (j : ℕ) (ds : List ℤ)
 class_proofs_are net earlier j [] rs = refl
 class_proofs_are net earlier j (d ∷ ds) rs =
     let p = class_part net (linkage earlier) (suc j) (nat_abs d) in
-    ap₂ (λ (x : RankProof) (t : List RankProof). x ∷ t) (ap (λ (x : List (List ℤ)). rank_proof_by p.rank x) (sym (lists_take (suc p.count) rs)))
+    ap₂ (λ (x : RankProof) (t : List RankProof). x ∷ t) (ap (λ (x : List (List ℤ)). rank_proof p.rank x) (sym (lists_take (suc p.count) rs)))
     (ap (λ (x : List (List ℤ)). part_proofs (class_parts net (linkage earlier) (suc (suc j)) ds) x) (sym (lists_drop (suc p.count) rs)) ∙ class_proofs_are net earlier (suc j) ds (drop (suc p.count) rs))
 
 rank_within : (d c n m : ℕ) → d + 2 ≤ c → c ≤ d + 1 + min n m → c - 1 - d ≤ m

@@ -12,7 +12,7 @@ use Rattle.crn_ctext.specs.Records.{Record}
 use Rattle.crn_ctext.specs.Kinds.{section_form}
 use Rattle.crn_ctext.specs.Questions.{heads}
 use Rattle.crn_ctext.specs.Course.{Course, Give, ◌>>=◌, Gives}
-use Rattle.crn_ctext.specs.Blocks.{AfterBlocks, asks, asks_all, asks_block, asks_blocks, asks_trees, after_sections, below, claims, has_tree, head_claims, problems, row_claims, sections}
+use Rattle.crn_ctext.specs.Blocks.{AfterBlocks, asks, asks_all, asks_block, asks_blocks, asks_trees, after_sections, below, claims, has_tree, sections}
 use Rattle.crn_ctext.specs.Meaning.{Known, learn_of, meaning, sizes_of, verdict_of, verdicts_said}
 use Rattle.crn_document.specs.Inner.Blocks.{after_at, end_course, head_course, rows_course}
 use Rattle.crn_document.proofs.Sections.{question_course}
@@ -33,7 +33,7 @@ IsAfterBlock q at h rs y = (y.known ≡ learn_of q at.known h rs) × (y.blocks �
 abbrev after : Question → AfterBlocks Known → Record → List Record → ℕ → AfterBlocks Known
 after q at h rs line = record {
   known = meaning.learn q at.known h rs;
-  by_tree = has_tree (problems meaning q at.known h);
+  by_tree = has_tree (meaning.problems q at.known h);
   line = line;
   blocks = at.blocks ++ (h ∷ rs) ∷ [];
 }
@@ -46,12 +46,12 @@ block_adds : (version : ℕ) (table : List (List ℤ)) (q : Question) (at y : Af
 block_adds version table q at y place rest p =
     let head = gives_parts (asks version at.line at.by_tree (heads q (sizes_of at.known))) (λ h. head_course version table q at h) place rest y p in
     let h = head.0 in
-    let tests = gives_parts (claims at.line (head_claims meaning q at.known h)) (λ x. rows_course version table q at h) head.1 rest y head.3 in
+    let tests = gives_parts (claims at.line (meaning.head_claims q at.known h)) (λ x. rows_course version table q at h) head.1 rest y head.3 in
     let rows = gives_parts (asks_all version (at.line + 1) false (below q (meaning.shapes at.known) h)) (λ rs. end_course version table q at h rs) tests.1 rest y tests.3 in
     let rs = rows.0 in
-    let end : Course (AfterBlocks Known) = asks_trees version table (problems meaning q at.known h) (at.line + 1 + length rs) >>= (λ line. Give (after q at h rs line)) in
-    let more = gives_parts (claims at.line (row_claims meaning q at.known h rs)) (λ x. end) rows.1 rest y rows.3 in
-    let trees = gives_parts (asks_trees version table (problems meaning q at.known h) (at.line + 1 + length rs)) (λ line. Give (after q at h rs line)) more.1 rest y more.3 in
+    let end : Course (AfterBlocks Known) = asks_trees version table (meaning.problems q at.known h) (at.line + 1 + length rs) >>= (λ line. Give (after q at h rs line)) in
+    let more = gives_parts (claims at.line (meaning.row_claims q at.known h rs)) (λ x. end) rows.1 rest y rows.3 in
+    let trees = gives_parts (asks_trees version table (meaning.problems q at.known h) (at.line + 1 + length rs)) (λ line. Give (after q at h rs line)) more.1 rest y more.3 in
     (h, rs, is_after q at y h rs trees.0 (give_is (after q at h rs trees.0) y trees.1 rest trees.3))
 
 -- lines that open sections leave what is known and read

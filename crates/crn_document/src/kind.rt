@@ -2,7 +2,7 @@ ghost use Rattle.std.specs.Prelude.{◌≡◌, slice_index_or};
 ghost use Rattle.crn_cert.specs.declared.head_kind.HeadKind.TheVariants.{Rests};
 ghost use Rattle.crn_check.specs.Check.{IsBuilt};
 ghost use Rattle.crn_check.specs.Facts.{asked};
-ghost use Rattle.crn_document.specs.Inner.Answer.{decided, kind_at, open_kinds};
+ghost use Rattle.crn_ctext.specs.Questions.{decided, kind_at, open_kinds};
 
 use crn_cert::HeadKind;
 

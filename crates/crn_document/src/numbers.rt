@@ -1,7 +1,7 @@
 ghost use Rattle.std.specs.Prelude.{◌≡◌, ◌≤◌, nat_abs, drop, length, pos, slice_index_or, IfOk};
-ghost use Rattle.crn_ctext.specs.Meaning.{number, nums, ints};
+ghost use Rattle.crn_ctext.specs.Meaning.{number, nums, ints, row};
 ghost use Rattle.crn_ctext.specs.Questions.{later_numbers};
-ghost use Rattle.crn_document.specs.Inner.Answer.{AreSmall, IsSmall, row};
+ghost use Rattle.crn_document.specs.Inner.Answer.{AreSmall, IsSmall};
 
 use crn_cert::Rows;
 use crn_vec::{Ints, NoMemory, Nums};

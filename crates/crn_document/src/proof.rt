@@ -1,9 +1,10 @@
 ghost use Rattle.std.specs.Prelude.{◌≡◌, ◌≤◌, ◌+◌, ◌-◌, ◌++◌, drop, length, map, take, IfOk, OnOk};
+ghost use Rattle.crn_ctext.specs.Meaning.{proof_by, rank_proof, row};
 ghost use Rattle.crn_ctext.specs.Questions.{later_numbers};
 ghost use Rattle.crn_check.specs.Check.{IsBuilt};
 ghost use Rattle.crn_check.specs.Facts.{asked};
-ghost use Rattle.crn_document.specs.Inner.Answer.{AreSmall, rank_proof_by, row};
-ghost use Rattle.crn_document.specs.Inner.Answers.{FitProof, part_proofs, proof_by};
+ghost use Rattle.crn_document.specs.Inner.Answer.{AreSmall};
+ghost use Rattle.crn_document.specs.Inner.Answers.{FitProof, part_proofs};
 ghost use Rattle.crn_document.specs.Inner.Parts.{FitParts};
 
 use crate::numbers::{later_numbers, number_of, nums_at};
@@ -54,7 +55,7 @@ fn rank_proof(
     requires inside { end ≤ length rows.now }
     requires small { AreSmall (row rows.now i) }
     ensures { IfOk result
-        (λ made. made ≡ rank_proof_by rank (take (end - i) (drop i rows.now))) }
+        (λ made. made ≡ rank_proof rank (take (end - i) (drop i rows.now))) }
 {
     let middle = i + 1 + rank as usize;
     Ok(RankProof {
@@ -141,8 +142,8 @@ pub(crate) fn proof_of(
     requires built { IsBuilt question }
     requires small { AreSmall head.now }
     requires fit { FitProof kind (asked question) parts.now head.now rows.now }
-    ensures { IfOk result
-        (λ p. p ≡ proof_by kind (asked question) parts.now head.now rows.now) }
+    ensures { IfOk result (λ p. p ≡ proof_by kind (asked question)
+        (part_proofs parts.now rows.now) head.now rows.now) }
 {
     match kind {
         HeadKind::Classes => Ok(Proof::Forest {

@@ -1,5 +1,6 @@
 ghost use Rattle.std.specs.Prelude.{◌≡◌, pos, slice_index_or, IfOk};
-ghost use Rattle.crn_document.specs.Inner.Answer.{AreSmall, AreSmallAt, kept, turn_of, verdict_by, wide_gap};
+ghost use Rattle.crn_ctext.specs.Meaning.{turn_of, verdict_by, wide_gap};
+ghost use Rattle.crn_document.specs.Inner.Answer.{AreSmall, AreSmallAt, kept};
 
 use crate::numbers::{
     after, entry_of, ints_at, later_numbers, number_of, nums_at, nums_of, row_at,

@@ -2,18 +2,17 @@
 -- of the records below it.
 -- Source: this project's own format. Shapes: the numbers of a head follow the place of its form,
 -- which counts from 1.
-use Rattle.std.specs.Prelude.{◌≤◌, suc, ℤ, List, [], ◌∷◌, drop, length, map, take}
+use Rattle.std.specs.Prelude.{◌≤◌, suc, ℤ, List, [], ◌∷◌, drop, length, take}
 use Rattle.crn_cert.specs.declared.answer.Proof.{Proof}
-use Rattle.crn_cert.specs.declared.answer.Proof.TheVariants as proof
 use Rattle.crn_cert.specs.declared.answer.RankProof.{RankProof}
 use Rattle.crn_cert.specs.declared.head_kind.HeadKind.{HeadKind}
-use Rattle.crn_cert.specs.declared.head_kind.HeadKind.TheVariants.{Classes, Strong, Rank, Deficiency, Yes, YesVec, OnlyZero}
-use Rattle.crn_cert.specs.Questions.{Question, Q3, Q11, Q12}
+use Rattle.crn_cert.specs.declared.head_kind.HeadKind.TheVariants.{Classes, Strong, Rank, Deficiency, Yes}
+use Rattle.crn_cert.specs.Questions.{Question, Q3}
 use Rattle.crn_ctext.specs.Records.{Record}
 use Rattle.crn_ctext.specs.Questions.{later_numbers}
-use Rattle.crn_ctext.specs.Meaning.{lists, number, nums}
+use Rattle.crn_ctext.specs.Meaning.{lists, number, rank_proof, row, proof_by}
 use Rattle.crn_document.specs.declared.parts.Part.{Part}
-use Rattle.crn_document.specs.Inner.Answer.{AreSmall, AreSmallAt, kept, kind_of, rank_proof_by, row}
+use Rattle.crn_document.specs.Inner.Answer.{AreSmall, AreSmallAt, kept, kind_of}
 use Rattle.crn_document.specs.Inner.Parts.{FitParts}
 
 -- the records are of small numbers that the proof below a head of this kind keeps as naturals, and
@@ -34,24 +33,10 @@ FitAnswer q head parts rows = AreSmallAt (kept (kind_of q head)) rows
 -- the proofs of these ranks, by the records one after another
 abbrev pub part_proofs : List Part → List (List ℤ) → List RankProof
 part_proofs [] rows = []
-part_proofs (p ∷ ps) rows = rank_proof_by p.rank (take (suc p.count) rows)
+part_proofs (p ∷ ps) rows = rank_proof p.rank (take (suc p.count) rows)
     ∷ part_proofs ps (drop (suc p.count) rows)
-
--- the proof below a head of this kind, but for trees
-abbrev pub proof_by : HeadKind → Question → List Part → (head : List ℤ) → List (List ℤ) → Proof
-proof_by Classes q parts n r = proof.Forest (nums (row r 1)) (nums (row r 2))
-proof_by Strong q parts n r =
-    proof.Strong (nums (row r 1)) (nums (row r 2)) (nums (row r 3)) (nums (row r 4))
-    (nums (row r 5))
-proof_by Rank q parts n r = proof.Rank (rank_proof_by (number n 0) r)
-proof_by Deficiency q parts n r = proof.Ranks (part_proofs parts r)
-proof_by Yes Q3 parts n r = proof.Back (nums (row r 0))
-proof_by Yes Q11 parts n r = proof.Sides (map later_numbers r)
-proof_by YesVec Q12 parts n r = proof.Ties (drop 1 r)
-proof_by OnlyZero q parts n r = proof.Ties r
-proof_by kind q parts n r = proof.Nothing
 
 -- the proof of an answer with this head
 abbrev pub proof_of_head : Question → List Part → List ℤ → List Record → Proof
 proof_of_head q parts head rs =
-    proof_by (kind_of q head) q parts (later_numbers head) (lists rs)
+    proof_by (kind_of q head) q (part_proofs parts (lists rs)) (later_numbers head) (lists rs)

@@ -12,7 +12,7 @@ use Rattle.crn_cert.specs.declared.answer.Verdict.TheVariants.{Yes}
 use Rattle.crn_shape.specs.Sides.{AreSides}
 use Rattle.crn_ctext.specs.Records.{Record, Form, Fits}
 use Rattle.crn_ctext.specs.Course.{Course, Give, ◌>>=◌}
-use Rattle.crn_ctext.specs.Blocks.{AfterBlocks, asks_all, asks_trees, below, claims, has_tree, head_claims, problems, row_claims}
+use Rattle.crn_ctext.specs.Blocks.{AfterBlocks, asks_all, asks_trees, below, claims, has_tree}
 use Rattle.crn_ctext.specs.Meaning.{Known, lists, meaning}
 use Rattle.crn_ctext.specs.Meaning as said
 use Rattle.crn_check.specs.Facts.{asked}
@@ -65,7 +65,7 @@ Learns net earlier question after h rs =
 abbrev pub tests_course : Net → Earlier → (question line : ℕ) → Record → List Record
     → Course (Unit {0})
 tests_course net earlier question line h rs =
-    claims line (row_claims meaning (asked question) (known_of net earlier) h rs)
+    claims line (meaning.row_claims (asked question) (known_of net earlier) h rs)
 
 -- lines that open sections were read, after a tree or not, and this says whether the next line
 -- still follows it
@@ -77,11 +77,11 @@ IsOpened old new by_tree still rs =
 abbrev pub end_course : (version : ℕ) → List (List ℤ) → Question → AfterBlocks Known → Record
     → List Record → Course (AfterBlocks Known)
 end_course version table q at h rows =
-    claims at.line (row_claims meaning q at.known h rows) >>= (λ x.
-    asks_trees version table (problems meaning q at.known h)
+    claims at.line (meaning.row_claims q at.known h rows) >>= (λ x.
+    asks_trees version table (meaning.problems q at.known h)
     (at.line + 1 + length rows) >>= (λ line. Give (record {
       known = meaning.learn q at.known h rows;
-      by_tree = has_tree (problems meaning q at.known h);
+      by_tree = has_tree (meaning.problems q at.known h);
       line = line;
       blocks = at.blocks ++ (h ∷ rows) ∷ [];
     })))
@@ -97,7 +97,7 @@ rows_course version table q at h =
 abbrev pub head_course : (version : ℕ) → List (List ℤ) → Question → AfterBlocks Known → Record
     → Course (AfterBlocks Known)
 head_course version table q at h =
-    claims at.line (head_claims meaning q at.known h) >>= (λ x. rows_course version table q at h)
+    claims at.line (meaning.head_claims q at.known h) >>= (λ x. rows_course version table q at h)
 
 -- the ranks that the records below a head prove, after these verdicts
 abbrev pub parts_after : Net → Earlier → (question : ℕ) → List ℤ → List Part

@@ -1,7 +1,7 @@
 use Rattle.std.proofs.Common.{◌≡◌, ◌++◌, ◌∷◌, ◌∙◌, [], Ok, Err, Bool, List, ℕ, refl, sym, subst, ap, arith}
 use Rattle.std.proofs.lemmas.Result.{err_from_is_err_and}
 use Rattle.crn_check.specs.Check.{shown_by_tree, tree_place}
-use Rattle.crn_ctext.specs.Blocks.{Problem, has_tree, problems}
+use Rattle.crn_ctext.specs.Blocks.{Problem, has_tree}
 use Rattle.crn_ctext.specs.Meaning.{meaning, problems_by}
 use Rattle.crn_check.specs.Facts.{asked}
 use Rattle.crn_document.specs.Inner.Blocks.{IsAfter, after_at, end_course, tests_course}
@@ -42,7 +42,7 @@ returns-in_err-accept_shown-clause-step g c = λ h rs blocks b.
     let one = sym c.number_of.ensures ∙ some.1 in
     let long = block_length net facts.earlier n head rows h rs b in
     let y = block_shown net n facts head rows h rs (facts.earlier ++ (asked n, shown_by_tree (asked n)) ∷ []) line c.requires.built c.requires.ready.known b some.0 one refl in
-    let trees : problems_by (asked n) (known_of net facts.earlier) (tree_place n) ≡ problems meaning (asked n) (known_of net facts.earlier) h = ap (λ (k : ℕ). problems_by (asked n) (known_of net facts.earlier) k) (sym one) ∙ trees_due net n facts head rows h rs c.requires.built c.requires.ready.known b in
+    let trees : problems_by (asked n) (known_of net facts.earlier) (tree_place n) ≡ meaning.problems (asked n) (known_of net facts.earlier) h = ap (λ (k : ℕ). problems_by (asked n) (known_of net facts.earlier) k) (sym one) ∙ trees_due net facts.earlier n head h b.is_head in
     step_exits _ _ _ e _ _ _ _ (err_from_is_err_and _ c.from_residual.ensures.1)
     (block_then net facts.earlier (facts.earlier ++ (asked n, shown_by_tree (asked n)) ∷ []) n line at.version (tree_place n) table h rs blocks (Err e) at last before now trees y.0 (omega (arith, long, c.requires.line)) refl
     (tests_give (tests_course net facts.earlier n line h rs) tt at.line at.lines before.left y.1) c.in_err-accept_shown.ensures.step)
@@ -65,7 +65,7 @@ returns-then-ends_in_tree-clause-step g c = λ h rs blocks b.
     let one = sym c.number_of.ensures ∙ some.1 in
     let long = block_length net facts.earlier n head rows h rs b in
     let y = block_shown net n facts head rows h rs new line c.requires.built c.requires.ready.known b some.0 one c.in_ok-accept_shown.ensures.accepted in
-    let trees : problems_by (asked n) (known_of net facts.earlier) (tree_place n) ≡ problems meaning (asked n) (known_of net facts.earlier) h = ap (λ (k : ℕ). problems_by (asked n) (known_of net facts.earlier) k) (sym one) ∙ trees_due net n facts head rows h rs c.requires.built c.requires.ready.known b in
+    let trees : problems_by (asked n) (known_of net facts.earlier) (tree_place n) ≡ meaning.problems (asked n) (known_of net facts.earlier) h = ap (λ (k : ℕ). problems_by (asked n) (known_of net facts.earlier) k) (sym one) ∙ trees_due net facts.earlier n head h b.is_head in
     subst (λ (t : Bool). StepIs (end_course at.version table (asked n) (after_at net facts.earlier line blocks) h rs) (λ (u : Unit {0}) y. IsAfter net new t last.line y) (Ok tt) at last before now) (tree_below n some.0 (known_of net facts.earlier))
     (block_then net facts.earlier new n line at.version (tree_place n) table h rs blocks (Ok tt) at last before now trees y.0 (omega (arith, long, c.requires.line)) refl
     (tests_give (tests_course net facts.earlier n line h rs) tt at.line at.lines before.left y.1) c.in_ok-accept_shown.ensures.step)
@@ -98,7 +98,7 @@ returns-clause-step g c = λ h rs blocks b.
     let a = c.in_ok-accept.ensures.step in
     let t = a h rs before b in
     let nothing : problems_by (asked n) (known_of net facts.earlier) place ≡ [] = no_tree_below n c.requires.built (known_of net facts.earlier) place (c.ends_in_tree.ensures.none c.if-ends_in_tree.false) in
-    let trees : problems_by (asked n) (known_of net facts.earlier) place ≡ problems meaning (asked n) (known_of net facts.earlier) h = ap (λ (k : ℕ). problems_by (asked n) (known_of net facts.earlier) k) c.number_of.ensures ∙ trees_due net n facts head rows h rs c.requires.built c.requires.ready.known b in
+    let trees : problems_by (asked n) (known_of net facts.earlier) place ≡ meaning.problems (asked n) (known_of net facts.earlier) h = ap (λ (k : ℕ). problems_by (asked n) (known_of net facts.earlier) k) c.number_of.ensures ∙ trees_due net facts.earlier n head h b.is_head in
     subst (λ (u : Bool). StepIs (end_course at.version table (asked n) (after_at net facts.earlier line blocks) h rs) (λ (v : Unit {0}) y. IsAfter net new u at.line y) (Ok tt) at at before before) (ap (λ (ps : List {1} Problem). has_tree ps) nothing)
     (block_then net facts.earlier new n line at.version place table h rs blocks (Ok tt) at at before before trees t.1 (omega (arith, long, c.requires.line)) refl t.2
     (trees_none at.version table (problems_by (asked n) (known_of net facts.earlier) place) at before nothing))
