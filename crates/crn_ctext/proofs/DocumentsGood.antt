@@ -16,7 +16,7 @@ use Rattle.crn_cert.specs.declared.answer.Verdict.{Verdict}
 use Rattle.crn_ctext.specs.Meaning.{Known, sizes_of, verdict_of, learn_of, verdicts_said, meaning, versions}
 use Rattle.crn_cert.specs.Built.{built}
 use Rattle.crn_cert.specs.Questions.{Question}
-use Rattle.crn_ctext.specs.Judged.{IsReadOf, IsGood, IsPrefixOf, ReadDocumentsAreGood}
+use Rattle.crn_ctext.specs.Judged.{IsReadOf, IsGood, IsPrefixOf, ReadDocumentsAreGood, records_of}
 use Rattle.crn_ctext.proofs.Settled.{HaveTitles, course_settled}
 use Rattle.crn_ctext.proofs.MeaningDecided.{OfNetwork, meaning_decided}
 use Rattle.crn_ctext.proofs.MeaningShort.{IsSmall, networks_are_small, meaning_short}
@@ -28,7 +28,9 @@ use Rattle.crn_ctext.proofs.BlocksRead.{AreVersions, ArePrefixesOf}
 use Rattle.crn_ctext.proofs.BlocksWritten.{all_of, parted, table_part}
 use Rattle.crn_ctext.proofs.DocumentsWritten.{IsTable, text_of, document_is_read}
 use Rattle.crn_ctext.proofs.DocumentTexts.{parted_first, parted_second, parted_cuts, parted_plain, written_alone, written_plain, table_plain}
-use Rattle.crn_ctext.proofs.DocumentsRead.{IsGoodBy, read_is_good}
+use Rattle.crn_ctext.proofs.DocumentsRead.{Good, IsGoodBy, read_is_good}
+use Rattle.crn_ctext.proofs.RecordsLinked.{records_answered}
+use Rattle.crn_ctext.proofs.AnswersLinked.{answers_valid, records_valid}
 
 are_versions : AreVersions versions
 are_versions version (inl one) = inl one
@@ -58,8 +60,29 @@ settled = course_settled none_own meaning OfNetwork versions built (λ net n. n)
 pub read_documents_are_good_by : (bytes : List ℕ) (read : ReadOf) → IsReadOf bytes read → IsGoodBy meaning versions built bytes read
 read_documents_are_good_by bytes read p = read_is_good meaning IsSmall versions built are_versions meaning_short networks_are_small bytes read p.0 p.1
 
+-- a document is good by its answers if and only if it is by their records
+good_answered : (bytes : List ℕ) (g : Good meaning versions built bytes) → (good : IsGood bytes) × (good.net ≡ g.net) × (records_of good.net good.answers ≡ g.answers)
+good_answered bytes g =
+    let a = records_answered g.net g.answers (valid_are_formed meaning built (meaning.start g.net) g.answers g.valid) in
+    let valid = subst (λ (rs : List (List Record)). AreValid meaning built (meaning.start g.net) rs) (sym a.2) g.valid in (
+      record {
+        short = g.short;
+        net = g.net;
+        network = g.network;
+        answers = a.0;
+        formed = a.1;
+        valid = records_valid g.net a.0 a.1 valid;
+        document = subst (λ (rs : List (List Record)). IsDocumentOf versions built g.net rs bytes) (sym a.2) g.document;
+      },
+      refl,
+      a.2,
+    )
+
+good_recorded : (bytes : List ℕ) → IsGood bytes → Good meaning versions built bytes
+good_recorded bytes g = record { short = g.short; net = g.net; network = g.network; answers = records_of g.net g.answers; valid = answers_valid g.net g.answers g.formed g.valid; document = g.document }
+
 pub read_documents_are_good : (bytes : List ℕ) (read : ReadOf) → IsReadOf bytes read → IsGood bytes
-read_documents_are_good bytes read p = (read_documents_are_good_by bytes read p).0
+read_documents_are_good bytes read p = (good_answered bytes (read_documents_are_good_by bytes read p).0).0
 
 -- a text of a version is read, if its leaves fit
 text_is_read : (version : ℕ) (table : List (List ℤ)) (leaf : List ℕ) (net : Net) (answers : List (List Record)) (bytes : List ℕ) → IsIn version versions → version ≤ 2 → IsVersion version table → length table ≤ MAX_SHARED → AllByRecursion IsShareable table
@@ -83,8 +106,8 @@ no_leaves : (us : List (List ℤ)) → (leaf : List ℕ) × AllZip (IsNamed []) 
 no_leaves [] = ([], tt)
 no_leaves (u ∷ us) = let more = no_leaves us in (0 ∷ more.0, (tt, more.1))
 
-pub good_documents_are_read : (bytes : List ℕ) → IsGood bytes → (read : ReadOf) × IsReadOf bytes read
-good_documents_are_read bytes g = by g.document
+recorded_documents_are_read : (bytes : List ℕ) → Good meaning versions built bytes → (read : ReadOf) × IsReadOf bytes read
+recorded_documents_are_read bytes g = by g.document
   where
     plain : AllByRecursion AllPlain g.answers
     plain = valid_are_plain meaning IsSmall built (meaning.start g.net) g.answers meaning_short (networks_are_small g.net g.network) g.valid
@@ -109,6 +132,9 @@ good_documents_are_read bytes g = by g.document
     by : IsDocumentOf versions built g.net g.answers bytes → (read : ReadOf) × IsReadOf bytes read
     by (inl one) = first one.1
     by (inr two) = second two.1.0 two.1.1 two.1.2
+
+pub good_documents_are_read : (bytes : List ℕ) → IsGood bytes → (read : ReadOf) × IsReadOf bytes read
+good_documents_are_read bytes g = recorded_documents_are_read bytes (good_recorded bytes g)
 
 -- ---- what is read
 
@@ -139,4 +165,9 @@ prefixes_are (q ∷ qs) known (block ∷ blocks) (rs ∷ more) z =
 pub read_is_of : ReadDocumentsAreGood
 read_is_of bytes read p =
     let g = read_documents_are_good_by bytes read p in
-    (g.0, g.1, prefixes_are built (meaning.start read.net) read.blocks g.0.answers g.2, prefixes_say built (meaning.start read.net) read.blocks g.0.answers g.2)
+    let a = good_answered bytes g.0 in (
+      a.0,
+      a.1 ∙ g.1,
+      subst (λ (rs : List (List Record)). AllZip IsPrefixOf read.blocks rs) (sym a.2) (prefixes_are built (meaning.start read.net) read.blocks g.0.answers g.2),
+      ap (λ (rs : List (List Record)). verdicts_said built (meaning.start read.net) rs) a.2 ∙ prefixes_say built (meaning.start read.net) read.blocks g.0.answers g.2,
+    )

@@ -12,18 +12,13 @@ use Rattle.crn_cert.specs.Formed.{AreFormed}
 use Rattle.crn_cert.specs.TreeSizes.{HaveFewNodes}
 use Rattle.crn_cert.specs.Valid.{AreValid}
 use Rattle.crn_ctext.specs.Records.{Record}
-use Rattle.crn_ctext.specs.Documents as documents
-use Rattle.crn_ctext.specs.Answers.{all_records}
+pub use Rattle.crn_ctext.specs.Judged.{records_of}
 use Rattle.crn_ctext.specs.Meaning.{meaning, verdicts_said}
 use Rattle.crn_cert.specs.Built.{built}
 use Rattle.crn_ctext.specs.Blocks.{ReadOf}
-use Rattle.crn_ctext.specs.Documents.{Share, FitsShare, share_of, document, document2}
+use Rattle.crn_ctext.specs.Documents.{AreValid as AreValidRecords, Share, FitsShare, share_of, document, document2}
 use Rattle.crn_ctext.specs.Same.{AreSame}
 use Rattle.crn_ctext.specs.Judged.{AreFormedOf, IsReadOf, IsGoodOf}
-
--- the records of answers to the built questions
-abbrev pub records_of : Net → List Answer → List (List Record)
-records_of net answers = all_records meaning built (meaning.start net) answers
 
 -- formed answers have formed records
 abbrev pub FormedAnswersHaveFormedRecords : Type 0
@@ -36,7 +31,7 @@ abbrev pub ValidAnswersHaveValidRecords : Type 0
 ValidAnswersHaveValidRecords =
     (net : Net) (answers : List Answer) → AreFormed net [] built answers
     → AreValid net [] built answers
-    ↔ documents.AreValid meaning built (meaning.start net) (records_of net answers)
+    ↔ AreValidRecords meaning built (meaning.start net) (records_of net answers)
 
 -- formed records are those of formed answers, whose verdicts are the ones that the records say
 abbrev pub FormedRecordsAreOfAnswers : Type 0
@@ -55,7 +50,7 @@ AreSound net (q ∷ qs) (v ∷ vs) = IsTrueOrOpen net q v × AreSound net qs vs
 abbrev pub ValidRecordsAreTrue : Type 0
 ValidRecordsAreTrue =
     (net : Net) (answers : List (List Record)) → IsNetwork net
-    → documents.AreValid meaning built (meaning.start net) answers
+    → AreValidRecords meaning built (meaning.start net) answers
     → AreSound net built (verdicts_said built (meaning.start net) answers)
 
 -- what is read of a document is a network, and verdicts that are true of it or open
@@ -69,7 +64,7 @@ abbrev pub WrittenDocumentsAreGood : Type 0
 WrittenDocumentsAreGood =
     (net : Net) (answers : List Answer) → IsNetwork net → AreFormed net [] built answers
     → AreValid net [] built answers → HaveFewNodes MAX_BUDGET answers
-    → IsGoodOf net (records_of net answers) (document net (records_of net answers))
+    → IsGoodOf net answers (document net (records_of net answers))
 
 -- so it is with each share that fits the answers
 abbrev pub SharedDocumentsAreGood : Type 0
@@ -77,7 +72,7 @@ SharedDocumentsAreGood =
     (net : Net) (answers : List Answer) (share : Share) → IsNetwork net
     → AreFormed net [] built answers → AreValid net [] built answers
     → HaveFewNodes MAX_BUDGET answers → FitsShare (records_of net answers) share
-    → IsGoodOf net (records_of net answers) (document2 built net (records_of net answers) share)
+    → IsGoodOf net answers (document2 built net (records_of net answers) share)
 
 -- the share that `certify` writes fits formed answers of a network
 abbrev pub SharesFit : Type 0

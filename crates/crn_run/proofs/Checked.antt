@@ -3,14 +3,12 @@ use Rattle.std.proofs.Common.{◌≡◌, ℕ, List, [], ◌∷◌, Option, Some,
 use Rattle.std.specs.Prelude.{IfSome}
 use Rattle.crn_vec.specs.Network.{Net}
 use Rattle.crn_cert.specs.declared.answer.Verdict.{Verdict}
-use Rattle.crn_cert.specs.Questions.{Question}
 use Rattle.crn_cert.specs.Built.{built}
 use Rattle.crn_cert.specs.FormedVerdicts.{AreFormedVerdicts}
 use Rattle.crn_ctext.specs.Records.{Record}
-use Rattle.crn_ctext.specs.Documents as documents
-use Rattle.crn_ctext.specs.Meaning.{Known, meaning}
 use Rattle.crn_ctext.specs.Judged.{AreFormedOf, IsGood, IsReadOf, ReadDocumentsAreGood}
-use Rattle.crn_ctext.specs.Linked.{AreSound, FormedRecordsAreOfAnswers}
+use Rattle.crn_ctext.specs.Linked.{AreSound, FormedRecordsAreOfAnswers, records_of}
+use Rattle.crn_ctext.proofs.CallerLemmas.{answers_formed as records_formed}
 use Rattle.crn_render.specs.Length.{Has32Bits}
 use Rattle.crn_render.specs.Report.{render}
 use Rattle.crn_document.specs.Check.{Accepts, CheckGives, Rejects}
@@ -28,13 +26,14 @@ use Rattle.crn_run.proofs.Outputs.{answers_formed}
 
 -- ---- an accepted document
 
-checked_of : (text : List ℕ) (net : Net) (blocks : List (List Record)) (good : IsGood text) → good.net ≡ net → verdicts_in net good.answers ≡ verdicts_in net blocks → AreSound net built (verdicts_in net blocks) → IsCheckOf text (render built net (verdicts_in net blocks))
+checked_of : (text : List ℕ) (net : Net) (blocks : List (List Record)) (good : IsGood text) → good.net ≡ net → verdicts_in net (records_of good.net good.answers) ≡ verdicts_in net blocks → AreSound net built (verdicts_in net blocks) → IsCheckOf text (render built net (verdicts_in net blocks))
 checked_of text net blocks good net_is says sound =
-    let here : AreSound good.net built (verdicts_in good.net good.answers) =
-    subst (λ (n : Net). AreSound n built (verdicts_in n good.answers)) (sym net_is) (subst (λ (vs : List Verdict). AreSound net built vs) (sym says) sound) in
-    let own : IsCheckOf text (render built good.net (verdicts_in good.net good.answers)) = record { good = good; sound = here; written = refl } in
+    let records = records_of good.net good.answers in
+    let here : AreSound good.net built (verdicts_in good.net records) =
+    subst (λ (n : Net). AreSound n built (verdicts_in n records)) (sym net_is) (subst (λ (vs : List Verdict). AreSound net built vs) (sym says) sound) in
+    let own : IsCheckOf text (render built good.net (verdicts_in good.net records)) = record { good = good; sound = here; written = refl } in
     subst (λ (vs : List Verdict). IsCheckOf text (render built net vs)) says
-    (subst (λ (n : Net). IsCheckOf text (render built n (verdicts_in n good.answers))) net_is own)
+    (subst (λ (n : Net). IsCheckOf text (render built n (verdicts_in n records))) net_is own)
 
 pub checked : ReadDocumentsAreGood → (text : List ℕ) (net : Net) (blocks : List (List Record)) (vs : List Verdict) → IsReadOf text (record { net = net; blocks = blocks }) → vs ≡ verdicts_in net blocks
     → AreSound net built vs → IsCheckOf text (render built net vs)
@@ -78,18 +77,13 @@ failed_ends words old new said g same =
 
 -- ---- what is read is formed
 
-pub valid_formed : (qs : List Question) (known : Known) (answers : List (List Record)) → documents.AreValid meaning qs known answers → documents.AreFormed meaning qs known answers
-unfolding documents.AreValid documents.AreFormed
-valid_formed [] known answers v = v
-valid_formed (q ∷ qs) known [] v = v
-valid_formed (q ∷ qs) known (rs ∷ more) (p, formed, valid, rest) = (p, formed, valid_formed qs (meaning.learn q known p.head p.rows) more rest)
-
 -- the verdicts that are read are those of formed records
 pub read_formed : ReadDocumentsAreGood → (text : List ℕ) (net : Net) (blocks : List (List Record)) → IsReadOf text (record { net = net; blocks = blocks })
     → (answers : List (List Record)) × AreFormedOf net answers × (verdicts_in net answers ≡ verdicts_in net blocks)
 read_formed same text net blocks is =
     let (good, net_is, prefixes, says) = same text (record { net = net; blocks = blocks }) is in
-    (good.answers, subst (λ (n : Net). AreFormedOf n good.answers) net_is (valid_formed built (meaning.start good.net) good.answers good.valid), says)
+    let records = records_of good.net good.answers in
+    (records, subst (λ (n : Net). AreFormedOf n records) net_is (records_formed good.net good.answers good.formed), says)
 
 -- the verdicts of an accepted document are formed
 pub accepted_formed : FormedRecordsAreOfAnswers → (net : Net) (blocks : List (List Record)) (vs : List Verdict)

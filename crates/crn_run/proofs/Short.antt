@@ -11,8 +11,8 @@ use Rattle.crn_cert.specs.Built.{built}
 use Rattle.crn_cert.specs.Answers.{verdicts_of}
 use Rattle.crn_cert.specs.declared.answer.Answer.{Answer}
 use Rattle.crn_cert.specs.declared.answer.Verdict.{Verdict}
-use Rattle.crn_ctext.specs.Meaning.{meaning}
-use Rattle.crn_ctext.proofs.CallerLemmas.{records_answered}
+use Rattle.crn_ctext.specs.Judged.{records_of}
+use Rattle.crn_ctext.proofs.CallerLemmas.{answers_formed, records_answered}
 use Rattle.crn_render.specs.Faults.{usage_line}
 use Rattle.crn_render.specs.Length.{Has32Bits}
 use Rattle.crn_render.specs.Report.{render}
@@ -24,7 +24,6 @@ use Rattle.crn_run.specs.declared.words.Command.{Command}
 use Rattle.crn_run.specs.declared.words.Command.TheVariants.{Report, Certify, Check, Sample}
 use Rattle.crn_run.specs.declared.status.Status.{Status}
 use Rattle.crn_run.specs.declared.status.Status.TheVariants.{Done, OpenLeft, Refused, Rejected, Usage, ReadFault, WriteFault, NoMemory}
-use Rattle.crn_run.proofs.Checked.{valid_formed}
 
 -- ---- lines of faults
 
@@ -88,7 +87,7 @@ summary_short number budget out answers lt r = subst (λ (t : List ℕ). length 
 check_short : (text out : List ℕ) → IsCheckOf text out → length out < MAX_DOCUMENT
 check_short text out r =
     let good = r.good in
-    let given = records_answered good.net good.answers (valid_formed built (meaning.start good.net) good.answers good.valid) in
+    let given = records_answered good.net (records_of good.net good.answers) (answers_formed good.net good.answers good.formed) in
     let here = reports_are_short good.net given.0 good.network given.1 in
     subst (λ (t : List ℕ). length t < MAX_DOCUMENT) (sym r.written) (subst (λ (vs : List Verdict). length (render built good.net vs) < MAX_DOCUMENT) (sym given.3) here)
 

@@ -105,12 +105,12 @@ pub record IsSummaryOf (number budget : ℕ) (out : List ℕ) (answers : List An
 abbrev pub verdicts_in : Net → List (List Record) → List Verdict
 verdicts_in net answers = verdicts_said built (meaning.start net) answers
 
--- the text is a good document, and this the report of its network and of the verdicts that its
--- records say, each true or open
+-- the text is a good document, and this the report of its network and of the verdicts that the
+-- records of its answers say, each true or open
 pub record IsCheckOf (text out : List ℕ) : Type 0 where
   pub good : IsGood text
-  pub sound : AreSound good.net built (verdicts_in good.net good.answers)
-  pub written : out ≡ render built good.net (verdicts_in good.net good.answers)
+  pub sound : AreSound good.net built (verdicts_in good.net (records_of good.net good.answers))
+  pub written : out ≡ render built good.net (verdicts_in good.net (records_of good.net good.answers))
 
 -- the line that says a fault of a network text
 abbrev pub refused_line : TextCode → (line : ℕ) → List ℕ
