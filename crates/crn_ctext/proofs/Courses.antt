@@ -5,7 +5,7 @@ use Rattle.crn_io.specs.Lines.{Place, IsLineAt, BreaksLine, document_too_long, l
 use Rattle.crn_ctext.specs.Course.{Course, Code, Kind, Own, Give, Line, Test, End, IsCode, IsReported, number_of, ◌>>=◌, Gives, FailsFirst}
 use Rattle.crn_ctext.specs.Courses.{IsSettled}
 use Rattle.crn_io.proofs.CallerLemmas.{line_or_not, breaks_or_not, line_is_there, line_breaks_none, line_is_one, break_is_one}
-use Rattle.crn_cert.specs.Faults.{Fault, DocumentTooLong, LineTooLong, EndsEarly, AfterEnd, TreeEndsEarly, fault_number}
+use Rattle.crn_cert.specs.Faults.{DocumentTooLong, LineTooLong, EndsEarly, AfterEnd, TreeEndsEarly}
 
 -- whether something is left is decided
 more_or_not : (at : Place) → HasMore at ⊎ (HasMore at → ⊥)

@@ -12,7 +12,7 @@ use Rattle.crn_cert.specs.Data.{IsBasisOf}
 use Rattle.crn_cert.specs.Says.{IsShelf}
 use Rattle.crn_cert.specs.Questions.{Question, Q1, Q2, Q3, Q4, Q5, Q6, Q7, Q8, Q9, Q10, Q11, Q12, Q13, Q14, Q15}
 use Rattle.crn_ctext.specs.Records as records
-use Rattle.crn_ctext.specs.Records.{Record, Form, AreOf, AreBetween, Small, Rising}
+use Rattle.crn_ctext.specs.Records.{Form, AreOf, AreBetween, Small, Rising}
 use Rattle.crn_ctext.specs.Kinds.{small, just}
 use Rattle.crn_ctext.specs.Answers.{head_word}
 use Rattle.crn_ctext.specs.Documents.{IsOneOf}

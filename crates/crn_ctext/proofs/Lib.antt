@@ -24,7 +24,6 @@ mod StepsThen
 mod Image
 mod Shared
 mod TreesWritten
-mod RowsWritten
 mod FormKinds
 mod BlocksWritten
 mod DocumentsWritten

@@ -31,9 +31,6 @@ first_of left (z ∷ zs) lt (t ∷ texts, h, e) = record { text = t; number = z;
 drop_one : (left rest : List ℕ) → left ≡ 32 ∷ rest → drop 1 left ≡ rest
 drop_one left rest e = ap (λ (t : List ℕ). drop 1 t) e
 
-pub came_none : (bytes : List ℕ) → Came bytes bytes []
-came_none bytes = record { adds = λ ys h. h; only = λ ys h. (ys, refl, h) }
-
 -- no numbers are left if none can be
 pub came_fails : (before left : List ℕ) (zs : List ℤ) → Came before left zs → ((ys : List ℤ) → SaysNumbers left ys → ⊥) → (ys : List ℤ) → SaysNumbers before ys → ⊥
 came_fails before left zs c none ys h = let m = c.only ys h in none m.0 m.2

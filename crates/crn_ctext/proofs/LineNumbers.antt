@@ -150,19 +150,6 @@ natural_is bytes value count h lt ne ends =
       is = h.is ∙ ap (λ (n : ℕ). min n WIDE_SOLUTION) m.1;
     }
 
-pub none_by_count : (bytes : List ℕ) (value count : ℕ) → HasDigits bytes value count → count ≡ 0 → HasNoNatural bytes
-none_by_count bytes value count h zero_is = λ word n b p.
-    let run = natural_run bytes word value count n h b p in
-    let none : word ≡ [] = run.0 ∙ ap (λ k. take k bytes) zero_is in
-    let d = p.digits in
-    let len : length word ≡ 0 = ap length none in omega (arith, d.0, len)
-
-pub none_by_zero : (bytes : List ℕ) → get_or bytes 0 0 ≡ 48 → HasNoNatural bytes
-none_by_zero bytes e = λ word n b p.
-    let cut = begins_tail bytes word b in
-    let d = p.digits in
-    (let c = p.canonical in c) (first_byte bytes word cut.0 d.0 cut.1 ∙ e)
-
 pub none_by_end : (bytes : List ℕ) (value count : ℕ) → HasDigits bytes value count → (EndsAt bytes count → ⊥) → HasNoNatural bytes
 none_by_end bytes value count h none = λ word n b p. none (natural_run bytes word value count n h b p).1
 
@@ -201,23 +188,9 @@ minus_no_natural bytes e = λ word n b p.
     no_first [] lt d first = omega (arith, lt)
     no_first (c ∷ cs) lt d first = no_digit c (inl (omega (arith, first))) d.0
 
-pub zero_none : (bytes : List ℕ) → get_or bytes 0 0 ≡ 48 → (EndsAt bytes 1 → ⊥) → HasNoNumber bytes
-zero_none bytes e none = begins_none bytes (none_by_zero bytes e) (λ m. absurd (omega (arith, e, m))) (λ z. none)
-
 pub minus_none : (bytes : List ℕ) → get_or bytes 0 0 ≡ 45 → HasNoNatural (drop 1 bytes) → HasNoNumber bytes
 minus_none bytes e none =
     begins_none bytes (minus_no_natural bytes e) (λ m rest is. subst HasNoNatural (ap (λ (t : List ℕ). drop 1 t) is) none) (λ z. absurd (omega (arith, e, z)))
-
-pub plain_none : (bytes : List ℕ) → get_or bytes 0 0 ≢ 48 → get_or bytes 0 0 ≢ 45 → HasNoNatural bytes → HasNoNumber bytes
-plain_none bytes a b none = begins_none bytes none (λ m. absurd (b m)) (λ z. absurd (a z))
-
-pub empty_none : (bytes : List ℕ) → length bytes ≡ 0 → HasNoNumber bytes
-empty_none [] e = begins_none [] (λ word n b p. let cut = begins_tail [] word b in let d = p.digits in no_word word cut.0 d.0 cut.1) (λ m. absurd (omega (arith, m))) (λ z. absurd (omega (arith, z)))
-  where
-    no_word : (word left : List ℕ) → 0 < length word → [] ≡ word ++ left → ⊥
-    no_word [] left lt e = omega (arith, lt)
-    no_word (x ∷ word) left lt e = cc
-empty_none (b ∷ bytes) e = absurd (omega (arith, e))
 
 -- a size that is held, as a signed number
 held_is : (n : ℕ) → n ≤ WIDE_SOLUTION → to_z w128 n ≡ pos n

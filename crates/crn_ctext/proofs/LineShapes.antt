@@ -1,5 +1,5 @@
 -- The numbers of a record, one after another.
-use Rattle.std.proofs.Common.{◌≡◌, ◌≢◌, ◌⊎◌, ◌≤◌, ◌<◌, ◌+◌, ◌++◌, ◌↔◌, ℕ, suc, List, [], ◌∷◌, length, map, drop, get_or, refl, sym, ap, ap₂, subst, ◌∙◌, inl, inr, arith}
+use Rattle.std.proofs.Common.{◌≡◌, ◌≢◌, ◌≤◌, ◌<◌, ◌+◌, ◌++◌, ◌↔◌, ℕ, suc, List, [], ◌∷◌, length, map, drop, get_or, refl, sym, ap, ap₂, subst, ◌∙◌, inl, inr, arith}
 use Rattle.std.specs.Prelude.{ℤ, pos, negsuc, ◌≤ℤ◌, ◌<ℤ◌, slice_index}
 use Rattle.std.proofs.lemmas.List.{append-nil, drop_more, drop_all}
 use Rattle.std.proofs.lemmas.Bool.{cases_lt}
@@ -17,18 +17,6 @@ use Rattle.crn_ctext.specs.Inner.Shapes.{AreMembers}
 abbrev pub RisesAbove : (k greatest : ℕ) → List ℤ → Type 0
 RisesAbove k greatest zs = (ns : List ℕ) × (zs ≡ map pos ns) × IsAbove k ns × AreBetween (pos 1) (pos greatest) zs
 
-pub rises_from_zero : (greatest : ℕ) (zs : List ℤ) → RisesAbove 0 greatest zs ↔ AreRising greatest zs
-rises_from_zero greatest zs = ((λ h. (h.0, h.1, down h.0 h.2, h.3)), (λ h. (h.0, h.1, up h.0 zs h.1 h.2 h.3, h.3)))
-  where
-    down : (ns : List ℕ) → IsAbove 0 ns → IsAscending ns
-    down [] h = tt
-    down (n ∷ ns) h = h.1
-
-    up : (ns : List ℕ) (zs : List ℤ) → zs ≡ map pos ns → IsAscending ns → AreBetween (pos 1) (pos greatest) zs → IsAbove 0 ns
-    up [] zs e a b = tt
-    up (n ∷ ns) [] e a b = absurd cc
-    up (n ∷ ns) (z ∷ zs) e a b = (let is : z ≡ pos n = cc in let low : pos 1 ≤ℤ pos n = subst (λ x. pos 1 ≤ℤ x) is b.0.0 in omega (arith, ints, low), a)
-
 pub rises_more : (k greatest : ℕ) (z : ℤ) (zs : List ℤ) → pos k <ℤ z → z ≤ℤ pos greatest → (m : ℕ) × (z ≡ pos m) × (RisesAbove m greatest zs ↔ RisesAbove k greatest (z ∷ zs))
 rises_more k greatest (negsuc n) zs low high = absurd (omega (arith, ints, low))
 rises_more k greatest (pos m) zs low high = (m, refl, ((λ h. (m ∷ h.0, ap (λ t. pos m ∷ t) h.1, (omega (arith, ints, low), h.2), ((omega (arith, ints, low), high), h.3))), (λ h. back h.0 h.1 h.2 h.3)))
@@ -43,9 +31,6 @@ rises_low k greatest z zs le h = none h.0 h.1 h.2
     none : (ns : List ℕ) → z ∷ zs ≡ map pos ns → IsAbove k ns → ⊥
     none [] e a = cc
     none (n ∷ ns) e a = let is : z ≡ pos n = cc in let low : pos n ≤ℤ pos k = subst (λ x. x ≤ℤ pos k) is le in omega (arith, ints, low, a.0)
-
-pub rises_high : (k greatest : ℕ) (z : ℤ) (zs : List ℤ) → pos greatest <ℤ z → RisesAbove k greatest (z ∷ zs) → ⊥
-rises_high k greatest z zs lt h = omega (arith, ints, lt, h.3.0.1)
 
 -- ---- ascending members
 
@@ -91,17 +76,6 @@ member_passed m ms zs a ne = (
       | inr later ↦ (later, stronger n m ms ns (let lt = above_in m ms a n later in omega (arith, lt)) b h.1)
     ]
 
-pub no_members : (zs : List ℤ) → AreMembers [] zs → length zs ≡ 0
-no_members zs h = none h.0 h.1 h.3
-  where
-    none : (ns : List ℕ) → zs ≡ map pos ns → AllByRecursion (λ n. IsIn n []) ns → length zs ≡ 0
-    none [] e a = ap length e
-    none (n ∷ ns) e a = absurd a.0
-
-pub members_of_none : (members : List ℕ) (zs : List ℤ) → length zs ≡ 0 → AreMembers members zs
-members_of_none members [] e = ([], refl, tt, tt)
-members_of_none members (z ∷ zs) e = absurd (omega (arith, e))
-
 pub rest_ascends : (members : List ℕ) (i : ℕ) → i < length members → IsAscending (drop i members) → IsAscending (drop (i + 1) members)
 rest_ascends members i lt a = ascending_tail (get_or members i 0) (drop (i + 1) members) (rw (drop_more members i 0 lt) at a)
 
@@ -122,9 +96,6 @@ members_passed members numbers i j lt a none = rw (drop_more members i 0 lt)
 
 pub chain : {P Q R : Type 0} → P ↔ Q → Q ↔ R → P ↔ R
 chain a b = ((λ p. b.0 (a.0 p)), (λ r. a.1 (b.1 r)))
-
-pub swapped : {P Q : Type 0} → P ↔ Q → Q ↔ P
-swapped a = (a.1, a.0)
 
 -- what an answer says of the rest it says of the whole
 pub through : {P Q R : Type 0} → P ↔ Q → R ↔ Q → P ↔ R
@@ -158,34 +129,6 @@ class_known species reactions k rest lt = ((λ h. on h.0 h.1 h.2 h.3 h.4), (λ h
         let up : n ≤ species + slice_index reactions k = subst (λ i. n ≤ species + slice_index reactions i) same high in
         let more : AreRising (species + slice_index reactions k) basis = subst (λ i. AreRising (species + slice_index reactions i) basis) same rises in
         (pos n ∷ [], basis, is, (refl, ((omega (arith, ints, low), omega (arith, ints, up)), tt)), (alone (Rising species (species + slice_index reactions k)) basis).1 (len, more))
-
--- a number of the range comes off at the start
-pub first_taken : (least greatest : ℕ) (z : ℤ) (zs : List ℤ) → pos least ≤ℤ z → z ≤ℤ pos greatest → (fields : List Field)
-    → AreOf Takes (small 1 least greatest ∷ fields) (z ∷ zs) ↔ AreOf Takes fields zs
-first_taken least greatest z zs low high fields = ((λ h. on h.0 h.1 h.2 h.3 h.4), (λ h. (z ∷ [], zs, refl, (refl, ((low, high), tt)), h)))
-  where
-    on : (prefix back : List ℤ) → z ∷ zs ≡ prefix ++ back → Takes (small 1 least greatest) prefix → AreOf Takes fields back → AreOf Takes fields zs
-    on [] back e t h = absurd (let one : 0 ≡ 1 = t.0 in omega (arith, one))
-    on (y ∷ []) back e t h = subst (AreOf Takes fields) (let same : zs ≡ back = cc in sym same) h
-    on (y ∷ x ∷ prefix) back e t h = absurd (let one : length (y ∷ x ∷ prefix) ≡ 1 = t.0 in omega (arith, one))
-
-pub first_missed : (least greatest : ℕ) (z : ℤ) (zs : List ℤ) → (z <ℤ pos least) ⊎ (pos greatest <ℤ z) → (fields : List Field)
-    → AreOf Takes (small 1 least greatest ∷ fields) (z ∷ zs) → ⊥
-first_missed least greatest z zs out fields h = none h.0 h.1 h.2 h.3
-  where
-    none : (prefix back : List ℤ) → z ∷ zs ≡ prefix ++ back → Takes (small 1 least greatest) prefix → ⊥
-    none [] back e t = let one : 0 ≡ 1 = t.0 in omega (arith, one)
-    none (y ∷ prefix) back e t = let same : y ≡ z = cc in
-        let low : pos least ≤ℤ z = subst (λ x. pos least ≤ℤ x) same t.1.0.0 in
-        let high : z ≤ℤ pos greatest = subst (λ x. x ≤ℤ pos greatest) same t.1.0.1 in
-        elim out [ inl lt ↦ omega (arith, ints, lt, low) | inr gt ↦ omega (arith, ints, gt, high) ]
-
-pub first_lacks : (least greatest : ℕ) (fields : List Field) → AreOf Takes (small 1 least greatest ∷ fields) [] → ⊥
-first_lacks least greatest fields h = none h.0 h.1 h.2 h.3
-  where
-    none : (prefix back : List ℤ) → [] ≡ prefix ++ back → Takes (small 1 least greatest) prefix → ⊥
-    none [] back e t = let one : 0 ≡ 1 = t.0 in omega (arith, one)
-    none (y ∷ prefix) back e t = cc
 
 pub class_wide : (species : ℕ) (reactions : List ℕ) (numbers : List ℤ) (k : ℕ) (rest : List ℤ) → 0 < length numbers → get_or numbers 0 (pos 0) ≡ pos (suc k) → k < length reactions → rest ≡ drop 1 numbers
     → AreOf Takes (small 1 1 (species + slice_index reactions k) ∷ Rising species (species + slice_index reactions k) ∷ []) rest ↔ Takes (ClassWide species reactions) numbers

@@ -2,7 +2,7 @@
 use Rattle.std.proofs.Common.{◌≡◌, ◌⊎◌, ◌≤◌, ◌<◌, ◌+◌, ◌++◌, ◌∷◌, ◌&&◌, ℕ, zero, suc, Bool, true, false, List, [], length, take, refl, sym, ap, ap₂, subst, ◌∙◌, inl, inr, lit≤, arith}
 use Rattle.std.specs.Prelude.{ℤ, not, slice_index_or, ◌==◌}
 use Rattle.std.proofs.lemmas.Bool.{cases_Bool}
-use Rattle.std.proofs.lemmas.List.{take_more, take_all}
+use Rattle.std.proofs.lemmas.List.{take_more}
 use Rattle.std.specs.List.{list_any}
 use Rattle.std.specs.Str.{bytes_eq}
 use Rattle.crn_vec.specs.Lists.{IsIn}
@@ -71,9 +71,6 @@ more_tried tried.TooWide tried.TooWide place forms form line read ne h t =
 pub tried_next : (so_far t : Tried) (place : ℕ) (forms : List Form) (i : ℕ) (line : List ℕ) (read : List ℤ) → i < length forms → (t ≡ tried.Fits → ⊥) → AreTried so_far (take i forms) line → IsTried t place (slice_index_or forms i no_form) line read
     → AreTried (worst_of so_far t) (take (i + 1) forms) line
 tried_next so_far t place forms i line read lt ne h k = rw (take_more forms i no_form lt) (more_tried so_far t place (take i forms) (slice_index_or forms i no_form) line read ne h k)
-
-pub all_tried : (so_far : Tried) (forms : List Form) (i : ℕ) (line : List ℕ) → length forms ≤ i → AreTried so_far (take i forms) line → AreTried so_far forms line
-all_tried so_far forms i line le h = rw (take_all i forms le) at h
 
 -- ---- words that are due
 

@@ -1,8 +1,8 @@
 -- Runs of numbers, and a line of a part that is tried.
-use Rattle.std.proofs.Common.{◌≡◌, ◌≤◌, ◌<◌, ◌+◌, ◌++◌, ℕ, Bool, true, false, List, [], ◌∷◌, length, map, take, drop, refl, sym, ap, ap₂, subst, ◌∙◌, inl, inr, arith}
+use Rattle.std.proofs.Common.{◌≡◌, ◌<◌, ◌+◌, ◌++◌, ℕ, Bool, true, false, List, [], ◌∷◌, length, map, take, drop, refl, sym, ap, ap₂, subst, ◌∙◌, inl, inr, arith}
 use Rattle.std.specs.Prelude.{ℤ, unsigned_abs, if◌then◌else◌, slice_index_or}
 use Rattle.std.specs.List.{AllByRecursion, join_with_byte}
-use Rattle.std.proofs.lemmas.List.{length-append, length-map, take-append-drop, take-append-le, take_all, drop_at, get_or-map}
+use Rattle.std.proofs.lemmas.List.{length-map, get_or-map}
 use Rattle.std.specs.Borrow.{Bor}
 use Rattle.crn_vec.specs.Kept.{KeptInts}
 use Rattle.crn_ctext.specs.Inner.Forms.{no_form}
@@ -210,36 +210,6 @@ part_read words due runs c line read a i t =
     }
 
 -- ---- runs one after another
-
-run_long : (f : Run) (xs : List ℤ) → Takes (field_of f) xs → length xs ≡ f.count
-run_long f xs t = by f.free f.ascending t
-  where
-    by : (a b : Bool) → Takes (if a then Free f.count else (if b then Rising f.count (unsigned_abs f.greatest) else Small f.count f.least f.greatest)) xs → length xs ≡ f.count
-    by true b h = h
-    by false true h = h.0
-    by false false h = h.0
-
--- the first run and the others
-pub record AreSplit (f : Run) (fs : List Field) (zs : List ℤ) : Type 0 where
-  pub few : f.count ≤ length zs
-  pub first : Takes (field_of f) (take f.count zs)
-  pub others : AreOf Takes fs (drop f.count zs)
-
-pub runs_split : (f : Run) (fs : List Field) (zs : List ℤ) → AreOf Takes (field_of f ∷ fs) zs → AreSplit f fs zs
-runs_split f fs zs t =
-    let p : List ℤ = t.0 in
-    let b : List ℤ = t.1 in
-    let long : length p ≡ f.count = run_long f p t.3 in
-    let whole : take f.count zs ≡ p = ap₂ (λ (n : ℕ) (l : List ℤ). take n l) (sym long) t.2 ∙ take-append-le (length p) p b (omega arith) ∙ take_all (length p) p (omega arith) in
-    let rest : drop f.count zs ≡ b = ap₂ (λ (n : ℕ) (l : List ℤ). drop n l) (sym long) t.2 ∙ drop_at p b (length p) refl in
-    record {
-      few = omega (arith, long, ap (λ (l : List ℤ). length l) t.2, length-append p b);
-      first = subst (Takes (field_of f)) (sym whole) t.3;
-      others = subst (AreOf Takes fs) (sym rest) t.4;
-    }
-
-pub runs_joined : (f : Run) (fs : List Field) (zs p b : List ℤ) → p ≡ take f.count zs → b ≡ drop f.count zs → Takes (field_of f) p → AreOf Takes fs b → AreOf Takes (field_of f ∷ fs) zs
-runs_joined f fs zs p b e d t r = (p, b, sym (take-append-drop f.count zs) ∙ ap₂ (λ (x y : List ℤ). x ++ y) (sym e) (sym d), t, r)
 
 -- ---- choices
 

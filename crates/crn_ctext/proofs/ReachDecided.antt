@@ -14,7 +14,7 @@ use Rattle.crn_vec.specs.NetSignals.{top_at, AreTops}
 use Rattle.crn_vec.proofs.CallerLemmas.{inside_at, reaction_in, reached_marks, leads_here, leads_keeps, leads_back, strong_here, strong_then, strong_back, terminal_on, top_inside, some_is, none_some, filter_from, filter_has, filter_ascending, range_ascending, in_range, free_back, is_between, below_or}
 use Rattle.crn_cert.proofs.CallerLemmas.{side_marks, side_inside}
 use Rattle.crn_ctext.proofs.Decided.{IsDecided, both_decided, one_decided, not_decided, if_decided, moved, nat_decided, lt_decided}
-use Rattle.crn_ctext.proofs.TestsDecided.{each_below, some_below, pair_decided, reacts_decided}
+use Rattle.crn_ctext.proofs.TestsDecided.{each_below, some_below, reacts_decided}
 
 -- ---- walks
 
@@ -51,12 +51,6 @@ terminal_decided net n y lt = moved (λ h z w. h z (reaches_inside net n y z lt 
     (each_below (λ z. Reaches net.reactions y z → Reaches net.reactions z y) (λ z. if_decided (reaches_decided net n y z) (reaches_decided net n z y)) (length net.complexes))
 
 -- ---- sides
-
-free_inside : (net : Net) → IsNetwork net → (a b y z : ℕ) → IsFreeStep net.reactions a b y z → (y < length net.complexes) × (z < length net.complexes)
-free_inside net n a b y z f = elim f.0 [
-  | inl i ↦ inside_at (length net.complexes) net.reactions n.partial.apart y z i
-  | inr i ↦ let h = inside_at (length net.complexes) net.reactions n.partial.apart z y i in (h.1, h.0)
-]
 
 linked_decided : (rs : List (ℕ × ℕ)) (y z : ℕ) → IsDecided (IsLinked rs y z)
 linked_decided rs y z = one_decided (reacts_decided rs y z) (reacts_decided rs z y)
@@ -267,9 +261,6 @@ networks_have_tops net w =
     (t.tops, t.count, record { long = t.long; inside = t.inside; outside = t.outside; same = t.same; together = t.together; numbered = t.numbered; below = t.below; each = t.each })
 
 -- ---- linked pairs
-
-reaction_decided : (rs : List (ℕ × ℕ)) (r y z : ℕ) → IsDecided (IsReaction rs r y z)
-reaction_decided rs r y z = both_decided (lt_decided r (length rs)) (pair_decided (slice_index_or rs r (0, 0)) (y, z))
 
 terminal_pair_decided : (net : Net) → IsNetwork net → (y z : ℕ) → y < length net.complexes → IsDecided (IsTerminalPair net.reactions y z)
 terminal_pair_decided net n y z lt = moved (λ h. record { linked = h.0; within = h.1.0; terminal = h.1.1 }) (λ p. (p.linked, (p.within, p.terminal)))

@@ -1,10 +1,10 @@
 -- The records of answers, block by block: which of them are no cut leaves, and how they are written one after another.
-use Rattle.std.proofs.Common.{Some, slice_get, take_all, ◌≡◌, ℕ, zero, suc, ◌+◌, ◌-◌, ◌<◌, ◌≤◌, ℤ, Bool, true, false, List, [], ◌∷◌, ◌++◌, length, map, take, get_or, codes, refl, sym, ap, ◌∙◌, append_assoc, add-one, arith}
+use Rattle.std.proofs.Common.{Some, slice_get, take_all, ◌≡◌, ℕ, zero, suc, ◌+◌, ◌-◌, ◌<◌, ℤ, Bool, true, false, List, [], ◌∷◌, ◌++◌, length, map, take, get_or, codes, refl, sym, ap, ◌∙◌, append_assoc, add-one, arith}
 use Rattle.std.specs.List.{AllByRecursion, flat_map}
 use Rattle.std.proofs.lemmas.List.{append-nil}
 use Rattle.crn_cert.specs.Questions.{Question, Q1, Q2, Q3, Q4, Q5, Q6, Q7, Q8, Q9, Q10, Q11, Q12, Q13, Q14, Q15, number}
 use Rattle.crn_cert.specs.Built.{built}
-use Rattle.crn_cert.proofs.CallerLemmas.{numbered, some_number, few_numbers}
+use Rattle.crn_cert.proofs.CallerLemmas.{numbered}
 use Rattle.crn_cert.specs.declared.answer.Verdict.{Verdict}
 use Rattle.crn_cert.specs.declared.answer.Verdict.TheVariants.{Classes, Strong, Rank, Deficiency, Yes, YesWeak, YesVec, YesSignal, No, NoReaction, NoVec, NoNumber, NoTerminal, NoClass, NoSum, NoDependence, NoCycle, NoPair, NotRegular, OnlyZero, Plane, NotApplicable, Unknown}
 use Rattle.crn_cert.specs.declared.answer.RankProof.{RankProof}
@@ -241,13 +241,6 @@ blocks_short sections pairs (q ∷ qs) (a ∷ xs) = ap (λ (t : List Record). bl
 -- the question of the number at a place
 pub at_question : (k n : ℕ) → n ≡ number (get_or built (k + 1 - 1) Q1) → question_at n ≡ get_or built k Q1
 at_question k n e = ap question_at e ∙ numbered (get_or built (k + 1 - 1) Q1) ∙ ap (λ (j : ℕ). get_or built j Q1) (before_one k)
-
--- a number of a question is from 1 to 15
-pub number_some : (q : Question) (n : ℕ) → n ≡ number q → 1 ≤ n
-number_some q n e = omega (arith, e, some_number q)
-
-pub number_few : (q : Question) (n : ℕ) → n ≡ number q → n ≤ 15
-number_few q n e = omega (arith, e, few_numbers q)
 
 at_answer : (xs : List Answer) (k : ℕ) (a : Answer) → slice_get xs (k + 1 - 1) ≡ Some a → (k < length xs) × (get_or xs k a ≡ a)
 at_answer xs k a e = element_at xs k a (ap (λ (j : ℕ). slice_get xs j) (sym (before_one k)) ∙ e)

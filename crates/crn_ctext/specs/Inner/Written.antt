@@ -4,7 +4,6 @@
 -- that is still to be written the number of its list, or 0; beyond its end each is 0.
 use Rattle.std.specs.Prelude.{ℕ, ℤ, ◌-◌, ◌^◌, Some, None, Bool, true, false, if◌then◌else◌, List, [], ◌∷◌, ◌++◌, length, map, take, drop, codes, slice_index_or}
 use Rattle.std.specs.List.{flat_map}
-use Rattle.std.specs.Fmt.{signed_decimal}
 use Rattle.crn_io.specs.Device.{SinkSeen}
 use Rattle.crn_vec.specs.Network.{Net}
 use Rattle.crn_cert.specs.Questions.{Question, Q1, questions}
