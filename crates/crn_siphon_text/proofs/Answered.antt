@@ -2,7 +2,6 @@
 use Rattle.std.proofs.Common.{◌≡◌, ◌+◌, ◌-◌, ◌++◌, ℕ, zero, suc, Bool, true, false, List, [], ◌∷◌, length, map, refl, sym, ap, subst, ◌∙◌, inl, inr, arith}
 use Rattle.std.specs.Prelude.{ℤ, pos, codes}
 use Rattle.std.specs.Str.{bytes_eq}
-use Rattle.std.specs.List.{AllZip}
 use Rattle.std.proofs.lemmas.List.{append-nil, length-append, map-append}
 use Rattle.crn_vec.specs.Lists.{IsIn}
 use Rattle.crn_vec.specs.Network.{Net, IsNetwork}
@@ -16,10 +15,10 @@ use Rattle.crn_ctext.specs.Kinds.{record_form, small_form, free_form}
 use Rattle.crn_ctext.specs.Course.{Course, Give, ◌>>=◌, test_own}
 use Rattle.crn_ctext.specs.Courses.{IsWrittenBy}
 use Rattle.crn_ctext.specs.Blocks.{either, word_of}
-use Rattle.crn_ctext.specs.Documents.{one_word}
+use Rattle.crn_ctext.specs.Documents.{IsOneOf, one_word}
 use Rattle.crn_ctext.specs.Answers.{small_record}
 use Rattle.crn_ctext.specs.Parts.{asks_part}
-use Rattle.crn_ctext.proofs.CallerLemmas.{AllPlain, IsPlain, IsBounded, fitting_is_plain, slim_are_short, short_both, free_fits, free_row, number_fits, give_back, written_cuts, written_then, HasNoEnd, no_end_then, give_no_end, part_record_is_written, written_is_part_record, part_no_end, test_no_end, words_yes, are_words, words_fit, in_by_test, plain_is_line, IsAnswered}
+use Rattle.crn_ctext.proofs.CallerLemmas.{AllPlain, IsPlain, IsBounded, fitting_is_plain, short_both, free_fits, free_row, number_fits, give_back, written_cuts, written_then, HasNoEnd, no_end_then, give_no_end, part_no_end, test_no_end, are_words, in_by_test, plain_is_line, IsAnswered, IsFirst, first_back, Say, only, one_said, none_said, line_on, given, test_back, test_on, either_no_end, bare_back, one_back, bits_back, bits_fit, species_row, reactions_row, bare_row, plain_bare}
 use Rattle.crn_siphon_check.specs.Siphons.{IsSiphon, Covers, IsSemiLaw, IsZeroOutside, set_of}
 use Rattle.crn_siphon_check.specs.Prefixes.{IsBad, IsVoid}
 use Rattle.crn_siphon_check.specs.Trees.{IsValidTree, IsFormedTree}
@@ -29,48 +28,7 @@ use Rattle.crn_siphon_check.specs.Answers.{Said, Yes as SaysYes, NoLaw, NoSiphon
 use Rattle.crn_siphon_check.specs.declared.answer.Outcome.{Outcome}
 use Rattle.crn_siphon_check.specs.declared.answer.Outcome.TheVariants.{Yes, No, Undecided}
 use Rattle.crn_siphon_text.specs.Document.{words, wide_form, verdict_forms, no_forms, node_forms, Node, Forks, IsBadBy, HasLaw, Voids, node_of, leaf, asks_node, goes_on, asks_tree, asks_yes, asks_cover, asks_none, asks_no, asks_rest, asks_persist, part, tree_records, records, outcome_of, meant}
-use Rattle.crn_siphon_text.proofs.Nodes.{FitsOne, bare_back, one_back, bits_back, bits_fit, wide_back, wide_fits, IsGood, leaf_back, leaf_on, IsNode, node_back, species_row, reactions_row, marks_row, bad_row, spent_row, bare_row, wide_first, wide_second}
-
--- ---- lines
-
--- one line that is due, and then others
-pub record IsFirst {A : Type 0} (forms : List Form) (f : Record → Course A) (ls : List (List ℕ)) (y : A) : Type 0 where
-  pub line : List ℕ
-  pub first : Record
-  pub more : List (List ℕ)
-  pub are : ls ≡ line ∷ more
-  pub says : Says line first
-  pub fits : FitsOne forms first
-  pub rest : IsWrittenBy (f first) more y
-
-first_back : {A : Type 0} (n : ℕ) (forms : List Form) (f : Record → Course A) (ls : List (List ℕ)) (y : A) → IsWrittenBy (asks_part words n forms >>= f) ls y → IsFirst forms f ls y
-first_back n forms f ls y h =
-    let a = written_cuts (asks_part words n forms) f ls y h in
-    let b = written_is_part_record words n forms a.1 a.0 a.4 in
-    record { line = b.0; first = a.0; more = a.2; are = a.3 ∙ ap (λ (t : List (List ℕ)). t ++ a.2) b.1; says = b.2; fits = b.3; rest = a.5 }
-
--- the lines say these records
-abbrev Say : List (List ℕ) → List Record → Type 0
-Say ls rs = AllZip Says ls rs
-
-only : (form : Form) (r : Record) → FitsOne (form ∷ []) r → Fits form r
-only form r (f, inl e, fits) = subst (λ (x : Form). Fits x r) e fits
-only form r (f, inr none, fits) = absurd none
-
-one_said : (ls more : List (List ℕ)) (line : List ℕ) (r : Record) (rs : List Record) → ls ≡ line ∷ more → Says line r → Say more rs → Say ls (r ∷ rs)
-one_said ls more line r rs e s m = subst (λ (t : List (List ℕ)). Say t (r ∷ rs)) (sym e) (s, m)
-
-none_said : (ls : List (List ℕ)) → ls ≡ [] → Say ls []
-none_said ls e = subst (λ (t : List (List ℕ)). Say t []) (sym e) tt
-
--- a record's line is written, and then others
-line_on : {A : Type 0} (n : ℕ) (forms : List Form) (form : Form) (r : Record) (f : Record → Course A) (ms : List (List ℕ)) (y : A) → IsIn form forms → are_words form.words ≡ true → IsIn (kind_of form) words → IsBounded form → Fits form r
-    → IsWrittenBy (f r) ms y → IsWrittenBy (asks_part words n forms >>= f) (record_text r ∷ ms) y
-line_on n forms form r f ms y i w known b fits more =
-    let plain = fitting_is_plain form r b fits in
-    let numbers = plain.numbers in
-    written_then (asks_part words n forms) f (record_text r ∷ []) ms r y (part_no_end words n forms)
-    (part_record_is_written words n forms form r i (words_yes form.words w) known fits (slim_are_short r.numbers numbers)) more
+use Rattle.crn_siphon_text.proofs.Nodes.{wide_back, wide_fits, IsGood, leaf_back, leaf_on, IsNode, node_back, marks_row, bad_row, spent_row, wide_first, wide_second}
 
 -- ---- trees
 
@@ -122,7 +80,7 @@ goes_back net more prefix n ls ms line r y Voids e reads are s d is h = let b = 
 node_first : {A : Type 0} (net : Net) (n : ℕ) (f : Node → Course A) (ls : List (List ℕ)) (y : A) → IsWrittenBy (asks_node net n >>= f) ls y → IsFirst (node_forms net) (λ r. f (node_of r)) ls y
 node_first net n f ls y h =
     let a = written_cuts (asks_node net n) f ls y h in
-    let b = first_back n (node_forms net) (λ r. Give (node_of r)) a.1 a.0 a.4 in
+    let b = first_back words n (node_forms net) (λ r. Give (node_of r)) a.1 a.0 a.4 in
     let g = give_back (node_of b.first) a.0 b.more b.rest in
     record {
       line = b.line;
@@ -145,10 +103,6 @@ tree_back net (suc more) prefix n ls y e h =
     goes_back net more prefix n ls b.more b.line b.first y (node_of b.first) e (λ p k ms z l w. tree_back net more p k ms z l w) b.are b.says (node_back net b.first b.fits) refl b.rest
 
 -- ---- no end within
-
-given : {A : Type 0} (x : A) → IsWrittenBy (Give x) [] x
-unfolding IsWrittenBy
-given x = (refl, refl)
 
 node_no_end : (net : Net) (n : ℕ) → HasNoEnd (asks_node net n)
 node_no_end net n = no_end_then (asks_part words n (node_forms net)) (λ r. Give (node_of r)) (part_no_end words n (node_forms net)) (λ r. give_no_end (node_of r))
@@ -178,7 +132,7 @@ IsOn net more prefix n tree = (k : ℕ) × IsWrittenBy (asks_tree net more prefi
 node_on : {A : Type 0} (net : Net) (n : ℕ) (form : Form) (r : Record) (f : Node → Course A) (ms : List (List ℕ)) (y : A) → IsIn form (node_forms net) → are_words form.words ≡ true → IsIn (kind_of form) words → IsBounded form → Fits form r
     → IsWrittenBy (f (node_of r)) ms y → IsWrittenBy (asks_node net n >>= f) (record_text r ∷ ms) y
 node_on net n form r f ms y i w known b fits more =
-    written_then (asks_node net n) f (record_text r ∷ []) ms (node_of r) y (node_no_end net n) (line_on n (node_forms net) form r (λ q. Give (node_of q)) [] (node_of r) i w known b fits (given (node_of r))) more
+    written_then (asks_node net n) f (record_text r ∷ []) ms (node_of r) y (node_no_end net n) (line_on words n (node_forms net) form r (λ q. Give (node_of q)) [] (node_of r) i w known b fits (given (node_of r))) more
 
 -- a node without children that is good goes on without more lines
 goes_leaf : (net : Net) (prefix : List Bool) (n : ℕ) (node : Node) (below : Course ℕ) → IsGood net prefix node → IsWrittenBy (goes_on net prefix n node below) [] (n + 1)
@@ -225,16 +179,6 @@ tree_plain net chosen (Bad r) w f = (fitting_is_plain (small_form (codes "bad") 
 tree_plain net chosen (Law x) w f = (fitting_is_plain (free_form (codes "law") (length net.names)) (one_word (codes "law") x) (species_row net (codes "law") w refl) (free_fits (codes "law") (length net.names) x f), tt)
 tree_plain net chosen Void w f = (fitting_is_plain (record_form (codes "void") []) (one_word (codes "void") []) (bare_row (codes "void") refl) (refl, refl), tt)
 
--- ---- tests
-
-test_back : {A : Type 0} (n code : ℕ) (P : Type 0) (f : Unit {0} → Course A) (ls : List (List ℕ)) (y : A) → IsWrittenBy (test_own n code P >>= f) ls y → P × IsWrittenBy (f tt) ls y
-unfolding IsWrittenBy
-test_back n code P f ls y w = (w.1, w.2)
-
-test_on : {A : Type 0} (n code : ℕ) (P : Type 0) (f : Unit {0} → Course A) (ls : List (List ℕ)) (y : A) → P → IsWrittenBy (f tt) ls y → IsWrittenBy (test_own n code P >>= f) ls y
-unfolding IsWrittenBy
-test_on n code P f ls y p w = (tt, p, w)
-
 -- ---- answers of lines
 
 -- the lines say the records of a formed answer whose tests hold, of which this is read
@@ -248,7 +192,7 @@ IsAfter net first ls read = (rs : List Record) × Say ls rs × ((answer : Said) 
 yes_back : (net : Net) (n : ℕ) (ls : List (List ℕ)) (y : ℕ × Outcome) → IsWrittenBy (asks_yes net n) ls y → IsAfter net (one_word (codes "yes") []) ls y.1
 yes_back net n ls y h =
     let form = free_form (codes "vec") (length net.names) in
-    let b = first_back n (form ∷ []) (λ law. test_own n 53 (IsConservationLaw net law.numbers) >>= (λ x. tree_course)) ls y h in
+    let b = first_back words n (form ∷ []) (λ law. test_own n 53 (IsConservationLaw net law.numbers) >>= (λ x. tree_course)) ls y h in
     let r = b.first in
     let f = free_row (codes "vec") (length net.names) r (only form r b.fits) in
     let t = test_back n 53 (IsConservationLaw net r.numbers) (λ x. tree_course) b.more y b.rest in
@@ -274,7 +218,7 @@ cover_back : (net : Net) (n : ℕ) (marks : List ℤ) (ls : List (List ℕ)) (y 
     → (cover : List ℤ) × AreFree (length net.reactions) cover × IsSiphon net (set_of marks) × Covers net (set_of marks) cover × Say ls (one_word (codes "mult") cover ∷ []) × (y.1 ≡ No)
 cover_back net n marks ls y h =
     let form = free_form (codes "mult") (length net.reactions) in
-    let b = first_back n (form ∷ []) (λ cover. test_own (n - 1) 51 (IsSiphon net (set_of marks)) >>= (λ x. test_own n 52 (Covers net (set_of marks) cover.numbers) >>= (λ z. Give (n + 1, No)))) ls y h in
+    let b = first_back words n (form ∷ []) (λ cover. test_own (n - 1) 51 (IsSiphon net (set_of marks)) >>= (λ x. test_own n 52 (Covers net (set_of marks) cover.numbers) >>= (λ z. Give (n + 1, No)))) ls y h in
     let r = b.first in
     let f = free_row (codes "mult") (length net.reactions) r (only form r b.fits) in
     let s = test_back (n - 1) 51 (IsSiphon net (set_of marks)) (λ x. test_own n 52 (Covers net (set_of marks) r.numbers) >>= (λ z. Give (n + 1, No))) b.more y b.rest in
@@ -289,9 +233,9 @@ no_back net n ls y h = by b.fits
     after r = either (bytes_eq (word_of r) (codes "cut")) (asks_none net n r.numbers) (asks_cover net (n + 1) r.numbers)
 
     b : IsFirst (no_forms net) after ls y
-    b = first_back n (no_forms net) after ls y h
+    b = first_back words n (no_forms net) after ls y h
 
-    by : FitsOne (no_forms net) b.first → IsAfter net (one_word (codes "no") []) ls y.1
+    by : IsOneOf (no_forms net) b.first → IsAfter net (one_word (codes "no") []) ls y.1
     by (form, inl e, f) =
         let r = free_row (codes "cut") (length net.reactions) b.first (subst (λ (x : Form). Fits x b.first) e f) in
         let cut = b.first.numbers in
@@ -315,7 +259,7 @@ pub lines_back : (net : Net) (n : ℕ) (ls : List (List ℕ)) (y : ℕ × Outcom
 lines_back net n ls y h = by b.fits
   where
     b : IsFirst (verdict_forms net) (λ r. asks_rest net (n + 1) r) ls y
-    b = first_back n (verdict_forms net) (λ r. asks_rest net (n + 1) r) ls y h
+    b = first_back words n (verdict_forms net) (λ r. asks_rest net (n + 1) r) ls y h
 
     -- what follows this first record
     rest : (r : Record) → b.first ≡ r → IsWrittenBy (asks_rest net (n + 1) r) b.more y
@@ -329,7 +273,7 @@ lines_back net n ls y h = by b.fits
         let g = give_back (n + 1, Undecided) y b.more w in
         after r e ([], none_said b.more g.1, (answer, formed, valid, are, sym (ap (λ (q : ℕ × Outcome). q.1) g.0) ∙ sym out))
 
-    by : FitsOne (verdict_forms net) b.first → IsAnswerOf net ls y.1
+    by : IsOneOf (verdict_forms net) b.first → IsAnswerOf net ls y.1
     by (form, inl e, f) =
         let r = bare_back (codes "yes") b.first (subst (λ (x : Form). Fits x b.first) e f) in
         after (one_word (codes "yes") []) r (yes_back net (n + 1) b.more y (rest (one_word (codes "yes") []) r))
@@ -358,7 +302,7 @@ IsRead net n answer = (k : ℕ) × IsWrittenBy (asks_persist net n) (map record_
 
 head_on : (net : Net) (n : ℕ) (form : Form) (r : Record) (ms : List (List ℕ)) (y : ℕ × Outcome) → IsIn form (verdict_forms net) → are_words form.words ≡ true → IsIn (kind_of form) words → IsBounded form → Fits form r
     → IsWrittenBy (asks_rest net (n + 1) r) ms y → IsWrittenBy (asks_persist net n) (record_text r ∷ ms) y
-head_on net n form r ms y i w known b f more = line_on n (verdict_forms net) form r (λ q. asks_rest net (n + 1) q) ms y i w known b f more
+head_on net n form r ms y i w known b f more = line_on words n (verdict_forms net) form r (λ q. asks_rest net (n + 1) q) ms y i w known b f more
 
 pub lines_on : (net : Net) (n : ℕ) (answer : Said) → IsNetwork net → IsFormed net answer → IsValid net answer → IsRead net n answer
 lines_on net n (SaysYes law tree) w f v =
@@ -369,7 +313,7 @@ lines_on net n (SaysYes law tree) w f v =
     let last : IsWrittenBy rest ms (t.0, Yes) = subst (λ (ls : List (List ℕ)). IsWrittenBy rest ls (t.0, Yes)) (append-nil ms)
     (written_then (asks_tree net (length net.names) [] (n + 1 + 1)) (λ line. Give (line, Yes)) ms [] t.0 (t.0, Yes) (tree_no_end net (length net.names) [] (n + 1 + 1)) t.1 (given (t.0, Yes))) in
     let vec : IsWrittenBy (asks_yes net (n + 1)) (record_text (one_word (codes "vec") law) ∷ ms) (t.0, Yes) =
-    line_on (n + 1) (form ∷ []) form (one_word (codes "vec") law) (λ q. test_own (n + 1) 53 (IsConservationLaw net q.numbers) >>= (λ x. rest)) ms (t.0, Yes) (inl refl) refl (in_by_test (codes "vec") words refl) (species_row net (codes "vec") w refl)
+    line_on words (n + 1) (form ∷ []) form (one_word (codes "vec") law) (λ q. test_own (n + 1) 53 (IsConservationLaw net q.numbers) >>= (λ x. rest)) ms (t.0, Yes) (inl refl) refl (in_by_test (codes "vec") words refl) (species_row net (codes "vec") w refl)
     (free_fits (codes "vec") (length net.names) law f.0) (test_on (n + 1) 53 (IsConservationLaw net law) (λ x. rest) ms (t.0, Yes) v.0 last) in
     (t.0, head_on net n (record_form (codes "yes") []) (one_word (codes "yes") []) (record_text (one_word (codes "vec") law) ∷ ms) (t.0, Yes) (inl refl) refl (in_by_test (codes "yes") words refl) (bare_row (codes "yes") refl) (refl, refl) vec)
 lines_on net n (NoLaw cut) w f v =
@@ -377,7 +321,7 @@ lines_on net n (NoLaw cut) w f v =
     let form = free_form (codes "cut") (length net.reactions) in
     let after : Record → Course (ℕ × Outcome) = λ r. either (bytes_eq (word_of r) (codes "cut")) (asks_none net k r.numbers) (asks_cover net (k + 1) r.numbers) in
     let line : IsWrittenBy (asks_no net k) (record_text (one_word (codes "cut") cut) ∷ []) (k + 1, No) =
-    line_on k (no_forms net) form (one_word (codes "cut") cut) after [] (k + 1, No) (inl refl) refl (in_by_test (codes "cut") words refl) (reactions_row net (codes "cut") w refl) (free_fits (codes "cut") (length net.reactions) cut f)
+    line_on words k (no_forms net) form (one_word (codes "cut") cut) after [] (k + 1, No) (inl refl) refl (in_by_test (codes "cut") words refl) (reactions_row net (codes "cut") w refl) (free_fits (codes "cut") (length net.reactions) cut f)
     (test_on k 53 (RuleOutConservation net cut) (λ x. Give (k + 1, No)) [] (k + 1, No) v (given (k + 1, No))) in
     (k + 1, head_on net n (record_form (codes "no") []) (one_word (codes "no") []) (record_text (one_word (codes "cut") cut) ∷ []) (k + 1, No) (inr (inl refl)) refl (in_by_test (codes "no") words refl) (bare_row (codes "no") refl) (refl, refl) line)
 lines_on net n (NoSiphon marks cover) w f v =
@@ -388,11 +332,11 @@ lines_on net n (NoSiphon marks cover) w f v =
     let mult = record_text (one_word (codes "mult") cover) in
     let after : Record → Course (ℕ × Outcome) = λ r. either (bytes_eq (word_of r) (codes "cut")) (asks_none net k r.numbers) (asks_cover net m r.numbers) in
     let last : IsWrittenBy (asks_cover net m marks) (mult ∷ []) (m + 1, No) =
-    line_on m (form ∷ []) form (one_word (codes "mult") cover) (λ q. test_own (m - 1) 51 (IsSiphon net set) >>= (λ x. test_own m 52 (Covers net set q.numbers) >>= (λ z. Give (m + 1, No)))) [] (m + 1, No) (inl refl) refl (in_by_test (codes "mult") words refl)
+    line_on words m (form ∷ []) form (one_word (codes "mult") cover) (λ q. test_own (m - 1) 51 (IsSiphon net set) >>= (λ x. test_own m 52 (Covers net set q.numbers) >>= (λ z. Give (m + 1, No)))) [] (m + 1, No) (inl refl) refl (in_by_test (codes "mult") words refl)
     (reactions_row net (codes "mult") w refl) (free_fits (codes "mult") (length net.reactions) cover f.1)
     (test_on (m - 1) 51 (IsSiphon net set) (λ x. test_own m 52 (Covers net set cover) >>= (λ z. Give (m + 1, No))) [] (m + 1, No) v.0 (test_on m 52 (Covers net set cover) (λ z. Give (m + 1, No)) [] (m + 1, No) v.1 (given (m + 1, No)))) in
     let line : IsWrittenBy (asks_no net k) (record_text (one_word (codes "siphon") marks) ∷ mult ∷ []) (m + 1, No) =
-    line_on k (no_forms net) (small_form (codes "siphon") (length net.names) 0 1) (one_word (codes "siphon") marks) after (mult ∷ []) (m + 1, No) (inr (inl refl)) refl (in_by_test (codes "siphon") words refl) (marks_row net w)
+    line_on words k (no_forms net) (small_form (codes "siphon") (length net.names) 0 1) (one_word (codes "siphon") marks) after (mult ∷ []) (m + 1, No) (inr (inl refl)) refl (in_by_test (codes "siphon") words refl) (marks_row net w)
     (bits_fit (codes "siphon") (length net.names) marks f.0) last in
     (m + 1, head_on net n (record_form (codes "no") []) (one_word (codes "no") []) (record_text (one_word (codes "siphon") marks) ∷ mult ∷ []) (m + 1, No) (inr (inl refl)) refl (in_by_test (codes "no") words refl) (bare_row (codes "no") refl) (refl, refl) line)
 lines_on net n (Wide system index basis) w (inl f) v =
@@ -407,9 +351,6 @@ lines_on net n (Spent nodes) w f v =
     (n + 1, head_on net n (small_form (codes "spent") 1 1 MAX_BUDGET) (one_word (codes "spent") (pos nodes ∷ [])) [] (n + 1, Undecided) (inr (inr (inr (inr (inl refl))))) refl (in_by_test (codes "spent") words refl) spent_row (refl, number_fits MAX_BUDGET nodes f.0 f.1) (given (n + 1, Undecided)))
 
 -- ---- plain records
-
-plain_bare : (word : List ℕ) → words_fit (word ∷ []) ≡ true → IsPlain (one_word word [])
-plain_bare word w = fitting_is_plain (record_form word []) (one_word word []) (bare_row word w) (refl, refl)
 
 pub records_plain : (net : Net) (answer : Said) → IsNetwork net → IsFormed net answer → AllPlain (records answer)
 records_plain net (SaysYes law tree) w f = (plain_bare (codes "yes") refl, (fitting_is_plain (free_form (codes "vec") (length net.names)) (one_word (codes "vec") law) (species_row net (codes "vec") w refl) (free_fits (codes "vec") (length net.names) law f.0), tree_plain net 0 tree w f.1))
@@ -446,10 +387,6 @@ cover_no_end net n marks =
   where
     last : Record → Course (ℕ × Outcome)
     last cover = test_own n 52 (Covers net (set_of marks) cover.numbers) >>= (λ z. Give (n + 1, No))
-
-either_no_end : {A : Type 0} (b : Bool) (this that : Course A) → HasNoEnd this → HasNoEnd that → HasNoEnd (either b this that)
-either_no_end true this that p q = p
-either_no_end false this that p q = q
 
 no_no_end : (net : Net) (n : ℕ) → HasNoEnd (asks_no net n)
 no_no_end net n = no_end_then (asks_part words n (no_forms net)) (λ r. either (bytes_eq (word_of r) (codes "cut")) (asks_none net n r.numbers) (asks_cover net (n + 1) r.numbers)) (part_no_end words n (no_forms net))

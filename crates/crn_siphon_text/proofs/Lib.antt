@@ -6,6 +6,5 @@ mod LinesRead
 mod NodesRead
 mod TreesRead
 mod VerdictsRead
-mod DocumentsRead
 mod Written
 mod ShortDocuments

@@ -1,42 +1,19 @@
 -- A node's line, and the tree of a prefix, as they are read.
-use Rattle.std.proofs.Common.{◌≡◌, ◌≤◌, ◌<◌, ◌⊎◌, ℕ, zero, suc, Bool, List, [], ◌∷◌, length, refl, sym, ap, subst, ◌∙◌, inl, inr, arith}
-use Rattle.std.specs.Prelude.{ℤ, pos, codes, if◌then◌else◌, slice_index_or}
-use Rattle.std.specs.Str.{bytes_eq}
+use Rattle.std.proofs.Common.{◌≡◌, ◌≤◌, ◌⊎◌, ℕ, Bool, List, [], ◌∷◌, length, refl, sym, ap, subst, ◌∙◌, inl, inr, arith}
+use Rattle.std.specs.Prelude.{ℤ, pos, codes}
 use Rattle.crn_vec.specs.Lists.{IsIn}
 use Rattle.crn_cert.specs.Ranges.{AreFree}
 use Rattle.crn_io.specs.Lines.{Place}
 use Rattle.crn_ctext.specs.Course.{Gives, FailsFirst}
 use Rattle.crn_ctext.specs.Blocks.{word_of}
 use Rattle.crn_ctext.specs.Documents.{one_word}
-use Rattle.crn_ctext.proofs.CallerLemmas.{free_row}
-use Rattle.crn_siphon_text.proofs.Nodes.{bare_back, one_back, IsGood}
+use Rattle.crn_ctext.proofs.CallerLemmas.{free_row, bare_back, one_back}
+use Rattle.crn_reading.proofs.CallerLemmas.{find, place_is}
+use Rattle.crn_siphon_text.proofs.Nodes.{IsGood}
 use Rattle.crn_vec.specs.Network.{Net}
 use Rattle.crn_ctext.specs.Records.{Record, Form, Fits}
 use Rattle.crn_reading.specs.Records.{IsPartSaid}
 use Rattle.crn_siphon_text.specs.Document.{words, node_forms, Node, Forks, IsBadBy, HasLaw, Voids, node_of, leaf}
-
--- ---- the place of a word
-
-unfoldable pub find : List ℕ → List (List ℕ) → ℕ
-find w [] = 0
-find w (v ∷ vs) = if bytes_eq v w then 0 else suc (find w vs)
-
-pub place_is : (place : ℕ) (w : List ℕ) → place < 13 → slice_index_or words place [] ≡ w → find w words ≡ place
-unfolding find
-place_is zero w lt e = subst (λ (v : List ℕ). find v words ≡ zero) e refl
-place_is (suc zero) w lt e = subst (λ (v : List ℕ). find v words ≡ suc zero) e refl
-place_is (suc (suc zero)) w lt e = subst (λ (v : List ℕ). find v words ≡ suc (suc zero)) e refl
-place_is (suc (suc (suc zero))) w lt e = subst (λ (v : List ℕ). find v words ≡ suc (suc (suc zero))) e refl
-place_is (suc (suc (suc (suc zero)))) w lt e = subst (λ (v : List ℕ). find v words ≡ suc (suc (suc (suc zero)))) e refl
-place_is (suc (suc (suc (suc (suc zero))))) w lt e = subst (λ (v : List ℕ). find v words ≡ suc (suc (suc (suc (suc zero))))) e refl
-place_is (suc (suc (suc (suc (suc (suc zero)))))) w lt e = subst (λ (v : List ℕ). find v words ≡ suc (suc (suc (suc (suc (suc zero)))))) e refl
-place_is (suc (suc (suc (suc (suc (suc (suc zero))))))) w lt e = subst (λ (v : List ℕ). find v words ≡ suc (suc (suc (suc (suc (suc (suc zero))))))) e refl
-place_is (suc (suc (suc (suc (suc (suc (suc (suc zero)))))))) w lt e = subst (λ (v : List ℕ). find v words ≡ suc (suc (suc (suc (suc (suc (suc (suc zero)))))))) e refl
-place_is (suc (suc (suc (suc (suc (suc (suc (suc (suc zero))))))))) w lt e = subst (λ (v : List ℕ). find v words ≡ suc (suc (suc (suc (suc (suc (suc (suc (suc zero))))))))) e refl
-place_is (suc (suc (suc (suc (suc (suc (suc (suc (suc (suc zero)))))))))) w lt e = subst (λ (v : List ℕ). find v words ≡ suc (suc (suc (suc (suc (suc (suc (suc (suc (suc zero)))))))))) e refl
-place_is (suc (suc (suc (suc (suc (suc (suc (suc (suc (suc (suc zero))))))))))) w lt e = subst (λ (v : List ℕ). find v words ≡ suc (suc (suc (suc (suc (suc (suc (suc (suc (suc (suc zero))))))))))) e refl
-place_is (suc (suc (suc (suc (suc (suc (suc (suc (suc (suc (suc (suc zero)))))))))))) w lt e = subst (λ (v : List ℕ). find v words ≡ suc (suc (suc (suc (suc (suc (suc (suc (suc (suc (suc (suc zero)))))))))))) e refl
-place_is (suc (suc (suc (suc (suc (suc (suc (suc (suc (suc (suc (suc (suc (k)))))))))))))) w lt e = absurd (omega (arith, lt))
 
 -- what a record of a node says, by the place of its word
 abbrev pub NodeSaid : Net → ℕ → List ℤ → Node → Type 0
@@ -49,7 +26,7 @@ unfolding find
 node_said net place read r s = by s.form
   where
     at : (w : List ℕ) (numbers : List ℤ) → r ≡ one_word w numbers → find w words ≡ place
-    at w numbers e = place_is place w s.inside (sym s.kind ∙ ap (λ (q : Record). word_of q) e)
+    at w numbers e = place_is words place w refl s.inside (sym s.kind ∙ ap (λ (q : Record). word_of q) e)
 
     by : (form : Form) × IsIn form (node_forms net) × Fits form r → NodeSaid net place read (node_of r)
     by (form, inl e, f) =

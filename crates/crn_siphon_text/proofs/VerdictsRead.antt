@@ -13,33 +13,25 @@ use Rattle.crn_io.specs.Device.{SourceSeen}
 use Rattle.crn_ctext.specs.Records.{Record, Form, Fits}
 use Rattle.crn_ctext.specs.Course.{Course, Give, ◌>>=◌, test_own}
 use Rattle.crn_ctext.specs.Blocks.{either, word_of}
-use Rattle.crn_ctext.specs.Documents.{one_word}
+use Rattle.crn_ctext.specs.Documents.{IsOneOf, one_word}
 use Rattle.crn_ctext.specs.Parts.{asks_part}
-use Rattle.crn_ctext.specs.Steps.{StepGives}
-use Rattle.crn_ctext.proofs.CallerLemmas.{free_row}
+use Rattle.crn_ctext.proofs.CallerLemmas.{free_row, bare_back, one_back, bits_back}
 use Rattle.crn_reading.specs.Steps.{CanRead, StepIs, StopIs}
 use Rattle.crn_reading.specs.Records.{IsPartSaid}
 use Rattle.crn_reading.specs.declared.reading.Reading.{Reading}
 use Rattle.crn_reading.specs.declared.fault.CheckStop.{CheckStop}
 use Rattle.crn_reading.specs.declared.fault.CheckStop.TheVariants.{Rejected}
-use Rattle.crn_reading.proofs.CallerLemmas.{step_then_is, step_gives, step_map, stop_first, stop_after}
+use Rattle.crn_reading.proofs.CallerLemmas.{step_then_is, step_gives, step_map, stop_first, stop_after, IsGiven, find, placed, own_holds, own_fails}
 use Rattle.crn_siphon_check.specs.Siphons.{IsSiphon, Covers, set_of}
 use Rattle.crn_siphon_check.specs.declared.answer.Outcome.{Outcome}
 use Rattle.crn_siphon_check.specs.declared.answer.Outcome.TheVariants.{Yes, No, Undecided}
 use Rattle.crn_siphon_text.specs.Document.{words, verdict_forms, law_forms, no_forms, cover_forms, asks_tree, asks_yes, asks_cover, asks_none, asks_no, asks_rest, asks_persist}
 use Rattle.crn_siphon_text.specs.Inner.LinesRead.{ReadsOutcome}
-use Rattle.crn_siphon_text.proofs.Nodes.{FitsOne, bare_back, one_back, bits_back, wide_back}
-use Rattle.crn_siphon_text.proofs.NodesRead.{find, place_is}
-use Rattle.crn_siphon_text.proofs.LinesRead.{own_holds, own_fails}
+use Rattle.crn_siphon_text.proofs.Nodes.{wide_back}
 
 -- the outcome, and the number of the line that is due next
 abbrev Says : (line : ℕ) → Outcome → ℕ × Outcome → Type 0
 Says line outcome y = y ≡ (line, outcome)
-
--- a line was read, and this is its record
-abbrev pub IsGiven : List Form → Record → (old mid : Reading) → (before between : SourceSeen) → Type 0
-IsGiven forms r old mid before between =
-    StepGives (asks_part words old.line forms) r old.line mid.line old.lines mid.lines before.left between.left × (between.faults ≡ before.faults)
 
 -- ---- a yes
 
@@ -56,18 +48,18 @@ yes_stop net e old before now s = stop_first (asks_part words old.line (law_form
 pub law_free : (net : Net) (place : ℕ) (read : List ℤ) (r : Record) → IsPartSaid words (law_forms net) place read r → AreFree (length net.names) read
 law_free net place read r s = by s.form
   where
-    by : FitsOne (law_forms net) r → AreFree (length net.names) read
+    by : IsOneOf (law_forms net) r → AreFree (length net.names) read
     by (form, inl e, f) = subst (AreFree (length net.names)) (sym s.numbers) (free_row (codes "vec") (length net.names) r (subst (λ (x : Form). Fits x r) e f)).1
     by (form, inr none, f) = absurd none
 
-pub yes_refused : (net : Net) (place : ℕ) (r : Record) (old mid : Reading) (before now : SourceSeen) → IsGiven (law_forms net) r old mid before now → IsPartSaid words (law_forms net) place mid.numbers.list r
+pub yes_refused : (net : Net) (place : ℕ) (r : Record) (old mid : Reading) (before now : SourceSeen) → IsGiven words (law_forms net) r old mid before now → IsPartSaid words (law_forms net) place mid.numbers.list r
     → mid.line ≡ old.line + 1 → (IsConservationLaw net mid.numbers.list → ⊥) → CanRead mid → StopIs (asks_yes net old.line) (Rejected 53 (mid.line - 1)) old before now
 yes_refused net place r old mid before now s said e none can =
     stop_after (asks_part words old.line (law_forms net)) (after_law net old.line) r (Rejected 53 (mid.line - 1)) old mid before now now s.0 s.1
     (own_fails old.line (mid.line - 1) 53 (IsConservationLaw net r.numbers) (λ x. after_test net old.line) mid now (omega (arith, e)) (λ h. none (subst (IsConservationLaw net) (sym said.numbers) h)) can)
 
 -- the law holds, and the tree is what follows
-law_holds : (net : Net) (place : ℕ) (r : Record) (result : Result Outcome CheckStop) (old mid new : Reading) (before between now : SourceSeen) → IsGiven (law_forms net) r old mid before between → IsPartSaid words (law_forms net) place mid.numbers.list r
+law_holds : (net : Net) (place : ℕ) (r : Record) (result : Result Outcome CheckStop) (old mid new : Reading) (before between now : SourceSeen) → IsGiven words (law_forms net) r old mid before between → IsPartSaid words (law_forms net) place mid.numbers.list r
     → mid.line ≡ old.line + 1 → IsConservationLaw net mid.numbers.list → StepIs (asks_tree net (length net.names) [] mid.line >>= (λ line. Give (line, Yes))) (Says new.line) result mid new between now → ReadsOutcome (asks_yes net old.line) result old new before now
 law_holds net place r result old mid new before between now s said e law t =
     let says : Outcome → ℕ × Outcome → Type 0 = Says new.line in
@@ -75,7 +67,7 @@ law_holds net place r result old mid new before between now s said e law t =
     (own_holds old.line 53 (IsConservationLaw net r.numbers) (λ x. after_test net old.line) says result mid new between now (subst (IsConservationLaw net) said.numbers law)
     (subst (λ (k : ℕ). StepIs (asks_tree net (length net.names) [] k >>= (λ line. Give (line, Yes))) says result mid new between now) e t))
 
-pub yes_then : (net : Net) (place : ℕ) (r : Record) (old mid new : Reading) (before between now : SourceSeen) → IsGiven (law_forms net) r old mid before between → IsPartSaid words (law_forms net) place mid.numbers.list r
+pub yes_then : (net : Net) (place : ℕ) (r : Record) (old mid new : Reading) (before between now : SourceSeen) → IsGiven words (law_forms net) r old mid before between → IsPartSaid words (law_forms net) place mid.numbers.list r
     → mid.line ≡ old.line + 1 → IsConservationLaw net mid.numbers.list → StepIs {T = Unit {0}} (asks_tree net (length net.names) [] mid.line) (λ _ line. line ≡ new.line) (Ok tt) mid new between now → ReadsOutcome (asks_yes net old.line) (Ok Yes) old new before now
 yes_then net place r old mid new before between now s said e law t =
     let is : Outcome → ℕ → Type 0 = λ outcome line. line ≡ new.line in
@@ -83,7 +75,7 @@ yes_then net place r old mid new before between now s said e law t =
     law_holds net place r (Ok Yes) old mid new before between now s said e law
     (step_map (asks_tree net (length net.names) [] mid.line) (λ (line : ℕ). (line, Yes)) is (λ (outcome : Outcome) (y : ℕ × Outcome). y ≡ (new.line, Yes)) (Ok Yes) mid new between now (λ outcome line same. ap (λ (k : ℕ). (k, Yes)) same) tree)
 
-pub yes_stops : (net : Net) (place : ℕ) (r : Record) (stop : CheckStop) (old mid : Reading) (before between now : SourceSeen) → IsGiven (law_forms net) r old mid before between → IsPartSaid words (law_forms net) place mid.numbers.list r
+pub yes_stops : (net : Net) (place : ℕ) (r : Record) (stop : CheckStop) (old mid : Reading) (before between now : SourceSeen) → IsGiven words (law_forms net) r old mid before between → IsPartSaid words (law_forms net) place mid.numbers.list r
     → mid.line ≡ old.line + 1 → IsConservationLaw net mid.numbers.list → StopIs (asks_tree net (length net.names) [] mid.line) stop mid between now → StopIs (asks_yes net old.line) stop old before now
 yes_stops net place r stop old mid before between now s said e law t =
     law_holds net place r (Err stop) old mid mid before between now s said e law (stop_first (asks_tree net (length net.names) [] mid.line) (λ line. Give (line, Yes)) stop mid between now t)
@@ -102,31 +94,31 @@ cover_stop net marks e old before now s = stop_first (asks_part words old.line (
 pub cover_free : (net : Net) (place : ℕ) (read : List ℤ) (r : Record) → IsPartSaid words (cover_forms net) place read r → AreFree (length net.reactions) read
 cover_free net place read r s = by s.form
   where
-    by : FitsOne (cover_forms net) r → AreFree (length net.reactions) read
+    by : IsOneOf (cover_forms net) r → AreFree (length net.reactions) read
     by (form, inl e, f) = subst (AreFree (length net.reactions)) (sym s.numbers) (free_row (codes "mult") (length net.reactions) r (subst (λ (x : Form). Fits x r) e f)).1
     by (form, inr none, f) = absurd none
 
-pub cover_no_siphon : (net : Net) (marks : List ℤ) (r : Record) (old mid : Reading) (before now : SourceSeen) → IsGiven (cover_forms net) r old mid before now
+pub cover_no_siphon : (net : Net) (marks : List ℤ) (r : Record) (old mid : Reading) (before now : SourceSeen) → IsGiven words (cover_forms net) r old mid before now
     → mid.line ≡ old.line + 1 → (IsSiphon net (set_of marks) → ⊥) → CanRead mid → StopIs (asks_cover net old.line marks) (Rejected 51 (mid.line - 2)) old before now
 cover_no_siphon net marks r old mid before now s e none can =
     stop_after (asks_part words old.line (cover_forms net)) (after_cover net old.line marks) r (Rejected 51 (mid.line - 2)) old mid before now now s.0 s.1
     (own_fails (old.line - 1) (mid.line - 2) 51 (IsSiphon net (set_of marks)) (λ x. last_test net old.line marks r) mid now (omega (arith, e)) none can)
 
 -- the marks are those of a siphon, and the last test is what follows
-siphon_holds : (net : Net) (marks : List ℤ) (r : Record) (result : Result Outcome CheckStop) (old mid : Reading) (before now : SourceSeen) → IsGiven (cover_forms net) r old mid before now → IsSiphon net (set_of marks)
+siphon_holds : (net : Net) (marks : List ℤ) (r : Record) (result : Result Outcome CheckStop) (old mid : Reading) (before now : SourceSeen) → IsGiven words (cover_forms net) r old mid before now → IsSiphon net (set_of marks)
     → StepIs (last_test net old.line marks r) (Says mid.line) result mid mid now now → ReadsOutcome (asks_cover net old.line marks) result old mid before now
 siphon_holds net marks r result old mid before now s siphon t =
     let says : Outcome → ℕ × Outcome → Type 0 = Says mid.line in
     step_then_is (asks_part words old.line (cover_forms net)) (after_cover net old.line marks) r says result old mid mid before now now s.0 s.1
     (own_holds (old.line - 1) 51 (IsSiphon net (set_of marks)) (λ x. last_test net old.line marks r) says result mid mid now now siphon t)
 
-pub cover_refused : (net : Net) (marks : List ℤ) (place : ℕ) (r : Record) (old mid : Reading) (before now : SourceSeen) → IsGiven (cover_forms net) r old mid before now → IsPartSaid words (cover_forms net) place mid.numbers.list r
+pub cover_refused : (net : Net) (marks : List ℤ) (place : ℕ) (r : Record) (old mid : Reading) (before now : SourceSeen) → IsGiven words (cover_forms net) r old mid before now → IsPartSaid words (cover_forms net) place mid.numbers.list r
     → mid.line ≡ old.line + 1 → IsSiphon net (set_of marks) → (Covers net (set_of marks) mid.numbers.list → ⊥) → CanRead mid → StopIs (asks_cover net old.line marks) (Rejected 52 (mid.line - 1)) old before now
 cover_refused net marks place r old mid before now s said e siphon none can =
     siphon_holds net marks r (Err (Rejected 52 (mid.line - 1))) old mid before now s siphon
     (own_fails old.line (mid.line - 1) 52 (Covers net (set_of marks) r.numbers) (λ z. Give (old.line + 1, No)) mid now (omega (arith, e)) (λ h. none (subst (Covers net (set_of marks)) (sym said.numbers) h)) can)
 
-pub cover_then : (net : Net) (marks : List ℤ) (place : ℕ) (r : Record) (old mid : Reading) (before now : SourceSeen) → IsGiven (cover_forms net) r old mid before now → IsPartSaid words (cover_forms net) place mid.numbers.list r
+pub cover_then : (net : Net) (marks : List ℤ) (place : ℕ) (r : Record) (old mid : Reading) (before now : SourceSeen) → IsGiven words (cover_forms net) r old mid before now → IsPartSaid words (cover_forms net) place mid.numbers.list r
     → mid.line ≡ old.line + 1 → IsSiphon net (set_of marks) → Covers net (set_of marks) mid.numbers.list → ReadsOutcome (asks_cover net old.line marks) (Ok No) old mid before now
 cover_then net marks place r old mid before now s said e siphon covers =
     let says : Outcome → ℕ × Outcome → Type 0 = Says mid.line in
@@ -144,21 +136,17 @@ abbrev pub DenialSaid : Net → ℕ → List ℤ → Record → Type 0
 DenialSaid net place read r = ((place ≡ 5) × AreFree (length net.reactions) read × (r ≡ one_word (codes "cut") read))
     ⊎ ((place ≡ 6) × AreBits (length net.names) read × (r ≡ one_word (codes "siphon") read))
 
--- a record of this word has its place
-pub placed : (forms : List Form) (place : ℕ) (read : List ℤ) (r : Record) (w : List ℕ) → IsPartSaid words forms place read r → word_of r ≡ w → find w words ≡ place
-placed forms place read r w s e = place_is place w s.inside (sym s.kind ∙ e)
-
 pub denial_said : (net : Net) (place : ℕ) (read : List ℤ) (r : Record) → IsPartSaid words (no_forms net) place read r → DenialSaid net place read r
 unfolding find
 denial_said net place read r s = by s.form
   where
-    by : FitsOne (no_forms net) r → DenialSaid net place read r
+    by : IsOneOf (no_forms net) r → DenialSaid net place read r
     by (form, inl e, f) =
         let b = free_row (codes "cut") (length net.reactions) r (subst (λ (x : Form). Fits x r) e f) in
-        inl (sym (placed (no_forms net) place read r (codes "cut") s (ap word_of b.0)), subst (AreFree (length net.reactions)) (sym s.numbers) b.1, b.0 ∙ ap (λ (xs : List ℤ). one_word (codes "cut") xs) (sym s.numbers))
+        inl (sym (placed words (no_forms net) place read r (codes "cut") refl s (ap word_of b.0)), subst (AreFree (length net.reactions)) (sym s.numbers) b.1, b.0 ∙ ap (λ (xs : List ℤ). one_word (codes "cut") xs) (sym s.numbers))
     by (form, inr (inl e), f) =
         let b = bits_back (codes "siphon") (length net.names) r (subst (λ (x : Form). Fits x r) e f) in
-        inr (sym (placed (no_forms net) place read r (codes "siphon") s (ap word_of b.0)), subst (AreBits (length net.names)) (sym s.numbers) b.1, b.0 ∙ ap (λ (xs : List ℤ). one_word (codes "siphon") xs) (sym s.numbers))
+        inr (sym (placed words (no_forms net) place read r (codes "siphon") refl s (ap word_of b.0)), subst (AreBits (length net.names)) (sym s.numbers) b.1, b.0 ∙ ap (λ (xs : List ℤ). one_word (codes "siphon") xs) (sym s.numbers))
     by (form, inr (inr none), f) = absurd none
 
 -- the line has marks
@@ -187,7 +175,7 @@ pub no_stop : (net : Net) (e : CheckStop) (old : Reading) (before now : SourceSe
 no_stop net e old before now s = stop_first (asks_part words old.line (no_forms net)) (after_denial net old.line) e old before now s
 
 -- the marks were read, and their cover is what follows
-pub no_covered : (net : Net) (read : List ℤ) (r : Record) (result : Result Outcome CheckStop) (old mid new : Reading) (before between now : SourceSeen) → IsGiven (no_forms net) r old mid before between → r ≡ one_word (codes "siphon") read
+pub no_covered : (net : Net) (read : List ℤ) (r : Record) (result : Result Outcome CheckStop) (old mid new : Reading) (before between now : SourceSeen) → IsGiven words (no_forms net) r old mid before between → r ≡ one_word (codes "siphon") read
     → mid.line ≡ old.line + 1 → ReadsOutcome (asks_cover net mid.line read) result mid new between now → ReadsOutcome (asks_no net old.line) result old new before now
 no_covered net read r result old mid new before between now s is e t =
     let says : Outcome → ℕ × Outcome → Type 0 = Says new.line in
@@ -196,19 +184,19 @@ no_covered net read r result old mid new before between now s is e t =
     (subst (λ (q : Record). StepIs (after_denial net old.line q) says result mid new between now) (sym is) here)
 
 -- numbers were read, and their test is what follows
-cut_then : (net : Net) (read : List ℤ) (r : Record) (result : Result Outcome CheckStop) (old mid : Reading) (before now : SourceSeen) → IsGiven (no_forms net) r old mid before now → r ≡ one_word (codes "cut") read
+cut_then : (net : Net) (read : List ℤ) (r : Record) (result : Result Outcome CheckStop) (old mid : Reading) (before now : SourceSeen) → IsGiven words (no_forms net) r old mid before now → r ≡ one_word (codes "cut") read
     → StepIs (asks_none net old.line read) (Says mid.line) result mid mid now now → ReadsOutcome (asks_no net old.line) result old mid before now
 cut_then net read r result old mid before now s is t =
     let says : Outcome → ℕ × Outcome → Type 0 = Says mid.line in
     step_then_is (asks_part words old.line (no_forms net)) (after_denial net old.line) r says result old mid mid before now now s.0 s.1
     (subst (λ (q : Record). StepIs (after_denial net old.line q) says result mid mid now now) (sym is) t)
 
-pub no_refused : (net : Net) (read : List ℤ) (r : Record) (old mid : Reading) (before now : SourceSeen) → IsGiven (no_forms net) r old mid before now → r ≡ one_word (codes "cut") read
+pub no_refused : (net : Net) (read : List ℤ) (r : Record) (old mid : Reading) (before now : SourceSeen) → IsGiven words (no_forms net) r old mid before now → r ≡ one_word (codes "cut") read
     → mid.line ≡ old.line + 1 → (RuleOutConservation net read → ⊥) → CanRead mid → StopIs (asks_no net old.line) (Rejected 53 (mid.line - 1)) old before now
 no_refused net read r old mid before now s is e none can =
     cut_then net read r (Err (Rejected 53 (mid.line - 1))) old mid before now s is (own_fails old.line (mid.line - 1) 53 (RuleOutConservation net read) (λ x. Give (old.line + 1, No)) mid now (omega (arith, e)) none can)
 
-pub no_cut : (net : Net) (read : List ℤ) (r : Record) (old mid : Reading) (before now : SourceSeen) → IsGiven (no_forms net) r old mid before now → r ≡ one_word (codes "cut") read
+pub no_cut : (net : Net) (read : List ℤ) (r : Record) (old mid : Reading) (before now : SourceSeen) → IsGiven words (no_forms net) r old mid before now → r ≡ one_word (codes "cut") read
     → mid.line ≡ old.line + 1 → RuleOutConservation net read → ReadsOutcome (asks_no net old.line) (Ok No) old mid before now
 no_cut net read r old mid before now s is e rules =
     let says : Outcome → ℕ × Outcome → Type 0 = Says mid.line in
@@ -234,9 +222,9 @@ unfolding find
 verdict_said net place read r s = by s.form
   where
     at : (w : List ℕ) → word_of r ≡ w → find w words ≡ place
-    at w e = placed (verdict_forms net) place read r w s e
+    at w e = placed words (verdict_forms net) place read r w refl s e
 
-    by : FitsOne (verdict_forms net) r → VerdictSaid place r
+    by : IsOneOf (verdict_forms net) r → VerdictSaid place r
     by (form, inl e, f) =
         let is = bare_back (codes "yes") r (subst (λ (x : Form). Fits x r) e f) in
         inl (sym (at (codes "yes") (ap word_of is)), is)
@@ -265,14 +253,14 @@ pub answer_stop : (net : Net) (e : CheckStop) (old : Reading) (before now : Sour
 answer_stop net e old before now s = stop_first (asks_part words old.line (verdict_forms net)) (λ r. asks_rest net (old.line + 1) r) e old before now s
 
 -- the line of the verdict was read, and this is what follows
-pub rest_then : (net : Net) (r : Record) (result : Result Outcome CheckStop) (old mid new : Reading) (before between now : SourceSeen) → IsGiven (verdict_forms net) r old mid before between
+pub rest_then : (net : Net) (r : Record) (result : Result Outcome CheckStop) (old mid new : Reading) (before between now : SourceSeen) → IsGiven words (verdict_forms net) r old mid before between
     → mid.line ≡ old.line + 1 → ReadsOutcome (asks_rest net mid.line r) result mid new between now → ReadsOutcome (asks_persist net old.line) result old new before now
 rest_then net r result old mid new before between now s e t =
     let says : Outcome → ℕ × Outcome → Type 0 = Says new.line in
     step_then_is (asks_part words old.line (verdict_forms net)) (λ q. asks_rest net (old.line + 1) q) r says result old mid new before between now s.0 s.1
     (subst (λ (k : ℕ). StepIs (asks_rest net k r) says result mid new between now) e t)
 
-pub answer_yes : (net : Net) (place : ℕ) (r : Record) (result : Result Outcome CheckStop) (old mid new : Reading) (before between now : SourceSeen) → place ≡ 0 → IsPartSaid words (verdict_forms net) place mid.numbers.list r → IsGiven (verdict_forms net) r old mid before between
+pub answer_yes : (net : Net) (place : ℕ) (r : Record) (result : Result Outcome CheckStop) (old mid new : Reading) (before between now : SourceSeen) → place ≡ 0 → IsPartSaid words (verdict_forms net) place mid.numbers.list r → IsGiven words (verdict_forms net) r old mid before between
     → mid.line ≡ old.line + 1 → ReadsOutcome (asks_yes net mid.line) result mid new between now → ReadsOutcome (asks_persist net old.line) result old new before now
 answer_yes net place r result old mid new before between now zero said s e t = by (verdict_said net place mid.numbers.list r said)
   where
@@ -282,7 +270,7 @@ answer_yes net place r result old mid new before between now zero said s e t = b
     by (inr (inr (inl h, is))) = absurd (omega (arith, zero, h))
     by (inr (inr (inr h, is))) = absurd (omega (arith, zero, h))
 
-pub answer_no : (net : Net) (place : ℕ) (r : Record) (result : Result Outcome CheckStop) (old mid new : Reading) (before between now : SourceSeen) → place ≡ 1 → IsPartSaid words (verdict_forms net) place mid.numbers.list r → IsGiven (verdict_forms net) r old mid before between
+pub answer_no : (net : Net) (place : ℕ) (r : Record) (result : Result Outcome CheckStop) (old mid new : Reading) (before between now : SourceSeen) → place ≡ 1 → IsPartSaid words (verdict_forms net) place mid.numbers.list r → IsGiven words (verdict_forms net) r old mid before between
     → mid.line ≡ old.line + 1 → ReadsOutcome (asks_no net mid.line) result mid new between now → ReadsOutcome (asks_persist net old.line) result old new before now
 answer_no net place r result old mid new before between now one said s e t = by (verdict_said net place mid.numbers.list r said)
   where
@@ -292,7 +280,7 @@ answer_no net place r result old mid new before between now one said s e t = by 
     by (inr (inr (inl h, is))) = absurd (omega (arith, one, h))
     by (inr (inr (inr h, is))) = absurd (omega (arith, one, h))
 
-pub answer_open : (net : Net) (place : ℕ) (r : Record) (old mid : Reading) (before now : SourceSeen) → (place ≡ 0 → ⊥) → (place ≡ 1 → ⊥) → IsPartSaid words (verdict_forms net) place mid.numbers.list r → IsGiven (verdict_forms net) r old mid before now
+pub answer_open : (net : Net) (place : ℕ) (r : Record) (old mid : Reading) (before now : SourceSeen) → (place ≡ 0 → ⊥) → (place ≡ 1 → ⊥) → IsPartSaid words (verdict_forms net) place mid.numbers.list r → IsGiven words (verdict_forms net) r old mid before now
     → mid.line ≡ old.line + 1 → ReadsOutcome (asks_persist net old.line) (Ok Undecided) old mid before now
 answer_open net place r old mid before now none other said s e = by (verdict_said net place mid.numbers.list r said)
   where

@@ -1,16 +1,15 @@
 ghost use Rattle.std.specs.Prelude.{◌≡◌, ◌+◌, ◌∷◌, [], OnOk};
 ghost use Rattle.crn_vec.specs.declared.limits.TheConstants.{MAX_BUDGET};
-ghost use Rattle.crn_ctext.specs.Records.{Free, Rising};
-ghost use Rattle.crn_ctext.specs.Kinds.{end_form, small as small_field};
-ghost use Rattle.crn_ctext.specs.PartLines.{AreChoices, IsRun, field_of, forms_in, texts_of};
+ghost use Rattle.crn_ctext.specs.Kinds.{end_form};
+ghost use Rattle.crn_ctext.specs.PartLines.{AreChoices, forms_in, texts_of};
 ghost use Rattle.crn_reading.specs.Steps.{GoesOn};
+ghost use Rattle.crn_reading.specs.Records.{ReadsPart};
 ghost use Rattle.crn_siphon_text.specs.Document.{cover_forms, law_forms, no_forms, node_forms, verdict_forms, words};
-ghost use Rattle.crn_siphon_text.specs.Inner.LinesRead.{ReadsOne};
 
 use crn_ctext::{Choice, Field};
 use crn_io::Source;
 use crn_net::Network;
-use crn_reading::{CheckStop, Reading, next_part_record};
+use crn_reading::{CheckStop, Reading, free_run, next_part_record, rising_run, small_run};
 use crn_vec::MAX_BUDGET;
 
 // The words of the lines.
@@ -23,48 +22,6 @@ fn words() -> [&'static [u8]; 13]
     ]
 }
 
-// This many numbers from the least to the greatest.
-fn some(count: u32, least: u32, greatest: u32) -> Field
-    ensures field { field_of result ≡ small_field count least greatest }
-    ensures run { IsRun result }
-{
-    Field {
-        count,
-        least: i128::from(least),
-        greatest: i128::from(greatest),
-        free: false,
-        ascending: false,
-    }
-}
-
-// This many free numbers.
-fn free(count: u32) -> Field
-    ensures field { field_of result ≡ Free count }
-    ensures run { IsRun result }
-{
-    Field {
-        count,
-        least: 0,
-        greatest: 0,
-        free: true,
-        ascending: false,
-    }
-}
-
-// This many ascending numbers from 1 to the greatest.
-fn rising(count: u32, greatest: u32) -> Field
-    ensures field { field_of result ≡ Rising count greatest }
-    ensures run { IsRun result }
-{
-    Field {
-        count,
-        least: 1,
-        greatest: i128::from(greatest),
-        free: false,
-        ascending: true,
-    }
-}
-
 // The next line, which has to be one of these. It answers the place of its word.
 fn next_of<S: Source>(
     source: &mut S,
@@ -74,7 +31,7 @@ fn next_of<S: Source>(
 ) -> Result<u32, CheckStop>
     requires goes { GoesOn at.old }
     requires due { AreChoices words due.now runs.now }
-    ensures step { ReadsOne (forms_in words due.now runs.now) result at.old at.new
+    ensures step { ReadsPart words (forms_in words due.now runs.now) result at.old at.new
         (S.seen source.old) (S.seen source.new) }
     ensures goes { OnOk result (GoesOn at.new) }
     ensures line { OnOk result (at.new.line ≡ at.old.line + 1) }
@@ -90,7 +47,7 @@ pub(crate) fn next_verdict<S: Source>(
     net: &Network,
 ) -> Result<u32, CheckStop>
     requires { GoesOn at.old }
-    ensures step { ReadsOne (verdict_forms net.now) result at.old at.new
+    ensures step { ReadsPart words (verdict_forms net.now) result at.old at.new
         (S.seen source.old) (S.seen source.new) }
     ensures goes { OnOk result (GoesOn at.new) }
     ensures line { OnOk result (at.new.line ≡ at.old.line + 1) }
@@ -100,13 +57,13 @@ pub(crate) fn next_verdict<S: Source>(
     let reactions = net.reactions() as u32;
     let all = species + reactions;
     let runs = [
-        some(1, 1, 1),
-        some(1, 1, all),
-        rising(species, all),
-        some(1, 2, 2),
-        some(1, 1, all),
-        rising(reactions, all),
-        some(1, 1, MAX_BUDGET),
+        small_run(1, 1, 1),
+        small_run(1, 1, all),
+        rising_run(species, all),
+        small_run(1, 2, 2),
+        small_run(1, 1, all),
+        rising_run(reactions, all),
+        small_run(1, 1, MAX_BUDGET),
     ];
     let due = [
         Choice {
@@ -145,13 +102,13 @@ pub(crate) fn next_law<S: Source>(
     net: &Network,
 ) -> Result<u32, CheckStop>
     requires { GoesOn at.old }
-    ensures step { ReadsOne (law_forms net.now) result at.old at.new
+    ensures step { ReadsPart words (law_forms net.now) result at.old at.new
         (S.seen source.old) (S.seen source.new) }
     ensures goes { OnOk result (GoesOn at.new) }
     ensures line { OnOk result (at.new.line ≡ at.old.line + 1) }
 {
     net.meets_definition();
-    let runs = [free(net.species() as u32)];
+    let runs = [free_run(net.species() as u32)];
     let due = [Choice {
         word: 4,
         first: 0,
@@ -167,15 +124,15 @@ pub(crate) fn next_denial<S: Source>(
     net: &Network,
 ) -> Result<u32, CheckStop>
     requires { GoesOn at.old }
-    ensures step { ReadsOne (no_forms net.now) result at.old at.new
+    ensures step { ReadsPart words (no_forms net.now) result at.old at.new
         (S.seen source.old) (S.seen source.new) }
     ensures goes { OnOk result (GoesOn at.new) }
     ensures line { OnOk result (at.new.line ≡ at.old.line + 1) }
 {
     net.meets_definition();
     let runs = [
-        free(net.reactions() as u32),
-        some(net.species() as u32, 0, 1),
+        free_run(net.reactions() as u32),
+        small_run(net.species() as u32, 0, 1),
     ];
     let due = [
         Choice {
@@ -199,13 +156,13 @@ pub(crate) fn next_multipliers<S: Source>(
     net: &Network,
 ) -> Result<u32, CheckStop>
     requires { GoesOn at.old }
-    ensures step { ReadsOne (cover_forms net.now) result at.old at.new
+    ensures step { ReadsPart words (cover_forms net.now) result at.old at.new
         (S.seen source.old) (S.seen source.new) }
     ensures goes { OnOk result (GoesOn at.new) }
     ensures line { OnOk result (at.new.line ≡ at.old.line + 1) }
 {
     net.meets_definition();
-    let runs = [free(net.reactions() as u32)];
+    let runs = [free_run(net.reactions() as u32)];
     let due = [Choice {
         word: 7,
         first: 0,
@@ -221,15 +178,15 @@ pub(crate) fn next_node<S: Source>(
     net: &Network,
 ) -> Result<u32, CheckStop>
     requires { GoesOn at.old }
-    ensures step { ReadsOne (node_forms net.now) result at.old at.new
+    ensures step { ReadsPart words (node_forms net.now) result at.old at.new
         (S.seen source.old) (S.seen source.new) }
     ensures goes { OnOk result (GoesOn at.new) }
     ensures line { OnOk result (at.new.line ≡ at.old.line + 1) }
 {
     net.meets_definition();
     let runs = [
-        some(1, 1, net.reactions() as u32),
-        free(net.species() as u32),
+        small_run(1, 1, net.reactions() as u32),
+        free_run(net.species() as u32),
     ];
     let due = [
         Choice {
@@ -259,7 +216,7 @@ pub(crate) fn next_node<S: Source>(
 /// The last line.
 pub(crate) fn next_last<S: Source>(source: &mut S, at: &mut Reading) -> Result<u32, CheckStop>
     requires { GoesOn at.old }
-    ensures step { ReadsOne (end_form ∷ []) result at.old at.new
+    ensures step { ReadsPart words (end_form ∷ []) result at.old at.new
         (S.seen source.old) (S.seen source.new) }
     ensures goes { OnOk result (GoesOn at.new) }
 {

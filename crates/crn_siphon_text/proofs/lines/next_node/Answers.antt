@@ -1,13 +1,14 @@
 use Rattle.std.proofs.Common.{ℕ, ap, ◌∙◌}
 use Rattle.crn_ctext.specs.Kinds.{small}
 use Rattle.crn_ctext.specs.Records.{Free}
-use Rattle.crn_siphon_text.specs.Document.{node_forms}
-use Rattle.crn_siphon_text.proofs.LinesRead.{node_forms_are, forms_named}
+use Rattle.crn_siphon_text.specs.Document.{words, node_forms}
+use Rattle.crn_reading.proofs.CallerLemmas.{forms_named}
+use Rattle.crn_siphon_text.proofs.LinesRead.{node_forms_are}
 use Rattle.crn_siphon_text.proofs.lines.next_node.Goals as goal
 
 pub returns-clause-step : goal.returns-clause-step
 returns-clause-step g c =
     let net = c.args.net.now in
-    let bad = c.some.ensures.field ∙ ap (λ (n : ℕ). small 1 1 n) c.reactions.ensures.count in
-    let law = c.free.ensures.field ∙ ap (λ (n : ℕ). Free n) c.species.ensures.count in
-    forms_named _ (node_forms net) c.next_of.result c.args.at.now c.next_of.new.at _ _ (node_forms_are net c.some.result c.free.result bad law) c.next_of.ensures.step
+    let bad = c.small_run.ensures.field ∙ ap (λ (n : ℕ). small 1 1 n) c.reactions.ensures.count in
+    let law = c.free_run.ensures.field ∙ ap (λ (n : ℕ). Free n) c.species.ensures.count in
+    forms_named words _ (node_forms net) c.next_of.result c.args.at.now c.next_of.new.at _ _ (node_forms_are net c.small_run.result c.free_run.result bad law) c.next_of.ensures.step

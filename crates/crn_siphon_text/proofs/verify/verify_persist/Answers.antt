@@ -1,11 +1,13 @@
-use Rattle.crn_siphon_text.proofs.DocumentsRead.{document_gives, document_answered}
+use Rattle.crn_reading.proofs.CallerLemmas.{document_gives, document_answered}
+use Rattle.crn_siphon_text.specs.Document.{IsOutcomeOf, part}
+use Rattle.crn_siphon_text.proofs.Settled.{course_settled}
 use Rattle.crn_siphon_text.proofs.verify.verify_persist.Goals as goal
 
 pub returns-clause-gives : goal.returns-clause-gives
-returns-clause-gives g c = document_gives c.next_document.result c.in_ok-at.at _ _ c.in_ok-at.ensures c.next_document.ensures
+returns-clause-gives g c = document_gives part IsOutcomeOf c.next_document.result c.in_ok-at.at _ _ c.in_ok-at.ensures c.next_document.ensures
 
 pub returns-clause-answered : goal.returns-clause-answered
 returns-clause-answered g c =
     let before = g.S.Source.seen c.args.source.now in
     let now = g.S.Source.seen c.next_document.new.source in
-    document_answered c.next_document.result before now (document_gives c.next_document.result c.in_ok-at.at before now c.in_ok-at.ensures c.next_document.ensures)
+    document_answered part IsOutcomeOf c.next_document.result before now course_settled (document_gives part IsOutcomeOf c.next_document.result c.in_ok-at.at before now c.in_ok-at.ensures c.next_document.ensures)
