@@ -1,3 +1,4 @@
+pub mod CallerLemmas
 mod TestsDecided
 mod Settled
 mod Nodes
