@@ -2,7 +2,9 @@
 
 from .runs import DONE, OPEN_LEFT, USAGE, ends_so, has_in_turn, run
 
-USAGE_LINE = "usage: crnt report | certify | check | sample K, with --budget N except for check\n"
+USAGE_LINE = (
+    "usage: crnt report | certify | check | sample K | prove PART | verify PART, with --budget N except for check and verify\n"
+)
 
 # Command lines that say no command, with the name of the program first.
 USAGES = [
@@ -51,6 +53,35 @@ USAGES = [
     "crnt sample 1 --budget 5 --budget 6",
     "crnt 1 sample",
     "crnt check 1",
+    "crnt prove",
+    "crnt verify",
+    "crnt prove ",
+    "crnt verify ",
+    "crnt prove nothing",
+    "crnt verify nothing",
+    "crnt prove Persist",
+    "crnt prove persist1",
+    "crnt Prove persist",
+    "crnt persist",
+    "crnt persist prove",
+    "crnt report persist",
+    "crnt check persist",
+    "crnt sample persist",
+    "crnt prove 1",
+    "crnt prove persist persist",
+    "crnt prove persist 7",
+    "crnt prove -- persist",
+    "crnt prove persist --",
+    "crnt prove --budget 7",
+    "crnt prove persist --budget",
+    "crnt prove persist --budget 0",
+    "crnt prove persist --budget 100001",
+    "crnt prove persist --budget 6 --budget 7",
+    "crnt verify persist persist",
+    "crnt verify -- persist",
+    "crnt verify persist --budget 7",
+    "crnt verify --budget=7 persist",
+    "crnt --budget 7 verify persist",
     "",
 ]
 

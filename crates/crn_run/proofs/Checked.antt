@@ -18,7 +18,8 @@ use Rattle.crn_reading.specs.declared.fault.CheckStop.TheVariants.{Failed}
 use Rattle.crn_run.specs.Run.{Devices, IsCheckOf, RunGives, rejected_line, verdicts_in}
 use Rattle.crn_run.specs.Words.{IsCommand}
 use Rattle.crn_run.specs.Inner.Steps.{LineGives}
-use Rattle.crn_run.specs.declared.words.Command.TheVariants.{Check}
+use Rattle.crn_run.specs.declared.words.Command.TheVariants.{Check, Verify}
+use Rattle.crn_run.proofs.WordsSaid.{one_command}
 use Rattle.crn_run.specs.declared.status.Status.{Status}
 use Rattle.crn_run.specs.declared.status.Status.TheVariants.{Done, ReadFault, Rejected}
 use Rattle.crn_run.proofs.Runs.{output_ends, read_out}
@@ -44,7 +45,7 @@ checked same text net blocks vs is said sound =
 
 -- ---- runs
 
-left_of : (left : Option (List ℕ)) (pulled text : List ℕ) → IsTextOf left pulled text → IfSome left (λ l. l ≡ text)
+pub left_of : (left : Option (List ℕ)) (pulled text : List ℕ) → IsTextOf left pulled text → IfSome left (λ l. l ≡ text)
 left_of None pulled text is = tt
 left_of (Some l) pulled text is = sym is
 
@@ -73,7 +74,7 @@ reject_ends status words code line old new line_short code_short said g writes =
 -- the source failed while the fault was open
 pub failed_ends : (words : List (List ℕ)) (old new : Devices) → IsCommand words Check → CheckGives (Err Failed) old.source new.source → new.sink ≡ old.sink → RunGives ReadFault words old new
 failed_ends words old new said g same =
-    record { command = (Check, said); within = inl (Check, said, g.0); source = g.2; later = g.3; undecided = λ check. g.1; sink = same }
+    record { command = (Check, said); within = inl (Check, said, g.0); source = g.2; later = g.3; undecided = λ check. g.1; awaited = λ part verify. absurd (let e = one_command words Check (Verify part) said verify in cc); sink = same }
 
 -- ---- what is read is formed
 

@@ -14,7 +14,9 @@ use Rattle.clap.specs.Kinds.{Kinds, or_else}
 use Rattle.clap.specs.Faults.{check_fault, defaults_fault, entered_fault, settle_fault, turn_fault, use_fault, walk_fault}
 use Rattle.clap.specs.Words.{fault_of, matches_of}
 use Rattle.crn_run.specs.Inner.Parse.{Gives, IsRead, crnt_app, is_two_dashes}
-use Rattle.crn_run.specs.Words.{AreWithBudget, WriteBudget}
+use Rattle.crn_run.specs.Words.{AreWithBudget, WriteBudget, part_name}
+use Rattle.crn_run.specs.declared.words.PartName.{PartName}
+use Rattle.crn_run.specs.declared.words.PartName.TheVariants.{Persist}
 use Rattle.crn_run.proofs.ClapWords.{IsValue, at, budget, budget_rule, first_none, holding, joined, joined_fault, joined_walked, none_then, parted, parted_fault, parted_walked, rules, second_none, shape, value_of}
 use Rattle.crn_run.proofs.ClapSteps.{IsPlace, first_place, second_place, waiting_fault, waiting_walked}
 use Rattle.crn_run.proofs.ClapReads.{Asked, SayAsked, reads_asked, rows_in, words_of}
@@ -127,6 +129,16 @@ check_plain = (refl, value_of (codes "check") refl refl refl)
 
 pub sample_plain : IsPlain (codes "sample")
 sample_plain = (refl, value_of (codes "sample") refl refl refl)
+
+pub prove_plain : IsPlain (codes "prove")
+prove_plain = (refl, value_of (codes "prove") refl refl refl)
+
+pub verify_plain : IsPlain (codes "verify")
+verify_plain = (refl, value_of (codes "verify") refl refl refl)
+
+-- so are those of parts
+pub part_plain : (part : PartName) → IsPlain (part_name part)
+part_plain Persist = (refl, value_of (codes "persist") refl refl refl)
 
 -- a count is a value, if there is one
 abbrev pub IsPlainIfSome : Option Text → Type 0

@@ -15,12 +15,17 @@ use Rattle.crn_ctext.proofs.CallerLemmas.{settled, gives_or_fails, first_is_one,
 use Rattle.crn_cert.specs.Built.{built}
 use Rattle.crn_render.specs.Faults.{usage_line}
 use Rattle.crn_render.specs.Report.{render}
-use Rattle.crn_run.specs.Run.{Devices, refused_line, rejected_line, WasLeft, IsRefusalOf, IsRejectionOf, IsCheckOf, verdicts_in, IsOutput, IsAllowed, IsReadForOutput, RunGives, EndsWritten, AskOfNetwork, AskOfDocument, AskOfSample, IsSpelled, IsFaulty, IsFaultyDocument, IsComplete, IsQuiet}
+use Rattle.crn_cert.specs.Answers.{verdicts_of}
+use Rattle.crn_run.specs.Parts.{IsFaultyOf, IsGoodOf}
+use Rattle.crn_run.specs.Run.{Devices, HasOpen, refused_line, rejected_line, WasLeft, IsRefusalOf, IsRejectionOf, IsCheckOf, verdicts_in, IsOutput, IsAllowed, IsReadForOutput, OrRejected, ReadsNetwork, RunGives, Shows, EndsWritten, IsSpelled, IsFaulty, IsFaultyDocument, IsComplete, IsQuiet}
 use Rattle.crn_run.specs.Words.{IsCommand, SayACommand}
 use Rattle.crn_run.specs.declared.words.Command.{Command}
-use Rattle.crn_run.specs.declared.words.Command.TheVariants.{Report, Certify, Check, Sample}
+use Rattle.crn_run.specs.declared.words.Command.TheVariants.{Check, Sample, Verify}
+use Rattle.crn_run.specs.declared.words.PartName.{PartName}
 use Rattle.crn_run.specs.declared.status.Status.{Status}
 use Rattle.crn_run.specs.declared.status.Status.TheVariants.{Done, OpenLeft, Refused, Rejected, Usage, ReadFault, WriteFault, NoMemory}
+use Rattle.crn_run.proofs.PartFacts.{good_or_faulty_of, one_of_verdicts, rejection_faulty, verdict_good}
+use Rattle.crn_run.proofs.Statuses.{IsAnswered, left_answered, refused_or_says, rejected_or, says_answered, says_spelled}
 use Rattle.crn_run.proofs.WordsSaid.{one_command}
 
 -- ---- one text
@@ -56,24 +61,24 @@ one_check text out other p q =
     let same = good_one text p.good q.good in
     p.written ∙ ap₂ (λ (net : Net) (answers : List (List Record)). render built net (verdicts_in net answers)) same.0 same.1 ∙ sym q.written
 
+-- what the words write that say this command
+said_output : (words : List (List ℕ)) (command : Command) (text out : List ℕ) → IsCommand words command → IsAllowed words text out → (status : Status) × IsOutput command status text out
+said_output words command text out said (inl (other, status, another, says)) = (status, subst (λ (c : Command). IsOutput c status text out) (one_command words other command another said) says)
+said_output words command text out said (inr (none, is)) = absurd (none (command, said))
+
 -- what `check` writes for a document
 abbrev Checks : (text out : List ℕ) → Type 0
 Checks text out = IsCheckOf text out ⊎ IsRejectionOf text out
 
-check_writes : (status : Status) (text out : List ℕ) → IsOutput Check status text out → Checks text out
-check_writes Done text out g = inl g
-check_writes OpenLeft text out g = absurd g
-check_writes Refused text out g = absurd g
-check_writes Rejected text out g = inr g
-check_writes Usage text out g = absurd g
-check_writes ReadFault text out g = absurd g
-check_writes WriteFault text out g = absurd g
-check_writes NoMemory text out g = absurd g
+-- one of two things, without its status
+either_of : {Good Bad : Type 0} (status : Status) → OrRejected status Good Bad → Good ⊎ Bad
+either_of status g = elim (rejected_or status _ _ g) [
+  | inl done ↦ inl done.1
+  | inr rejected ↦ inr rejected.1
+]
 
 checks : (words : List (List ℕ)) (text out : List ℕ) → IsCommand words Check → IsAllowed words text out → Checks text out
-checks words text out said (inl (command, status, other, says)) =
-    check_writes status text out (subst (λ (c : Command). IsOutput c status text out) (one_command words command Check other said) says)
-checks words text out said (inr (none, is)) = absurd (none (Check, said))
+checks words text out said p = let g = said_output words Check text out said p in either_of g.0 g.1
 
 one_of_checks : (text out other : List ℕ) → Checks text out → Checks text other → out ≡ other
 one_of_checks text out other (inl p) (inl q) = one_check text out other p q
@@ -84,74 +89,27 @@ one_of_checks text out other (inr p) (inr q) = one_rejection text out other p q
 pub one_checked : (words : List (List ℕ)) (text out other : List ℕ) → IsCommand words Check → IsAllowed words text out → IsAllowed words text other → out ≡ other
 one_checked words text out other said p q = one_of_checks text out other (checks words text out said p) (checks words text other said q)
 
+-- so it is for `verify`
+pub one_verified : (words : List (List ℕ)) (part : PartName) (text out other : List ℕ) → IsCommand words (Verify part) → IsAllowed words text out → IsAllowed words text other → out ≡ other
+one_verified words part text out other said p q =
+    let g = said_output words (Verify part) text out said p in
+    let h = said_output words (Verify part) text other said q in
+    one_of_verdicts part text out other (either_of g.0 g.1) (either_of h.0 h.1)
+
 -- a text that spells a network has no fault
 spelled_or_faulty : (text : List ℕ) → IsSpelled text → IsFaulty text → ⊥
 spelled_or_faulty text (net, spells) (line, code, fault) = no_fault text net line code spells fault
-
--- what a command reads: 0 a network text, 1 a document, 2 nothing
-abbrev Family : Command → ℕ
-Family (Report n) = 0
-Family (Certify n) = 0
-Family Check = 1
-Family (Sample k n) = 2
-
--- the words say a command of this family
-abbrev Says : ℕ → List (List ℕ) → Type 0
-Says family words = (command : Command) × IsCommand words command × (Family command ≡ family)
-
--- no words say commands of two families
-one_family : (words : List (List ℕ)) (n m : ℕ) → Says n words → Says m words → n ≡ m
-one_family words n m p q = sym p.2 ∙ ap Family (one_command words p.0 q.0 p.1 q.1) ∙ q.2
-
--- the status of a run that wrote answers
-abbrev IsAnswered : Status → Type 0
-IsAnswered status = (status ≡ Done) ⊎ (status ≡ OpenLeft)
 
 answered_or_not : (status : Status) → IsAnswered status → (status ≡ Done) ⊎ (status ≡ OpenLeft) ⊎ (status ≡ NoMemory)
 answered_or_not status (inl is) = inl is
 answered_or_not status (inr is) = inr (inl is)
 
--- what an output with this status says of its command and of the text
-abbrev Kind : Command → Status → List ℕ → Type 0
-Kind command status text = ((Family command ≡ 0) × IsAnswered status × IsSpelled text)
-    ⊎ ((Family command ≡ 0) × (status ≡ Refused) × IsFaulty text)
-    ⊎ ((Family command ≡ 1) × (status ≡ Done) × IsGood text)
-    ⊎ ((Family command ≡ 1) × (status ≡ Rejected) × IsFaultyDocument text)
-    ⊎ ((Family command ≡ 2) × IsAnswered status)
-
-kind : (command : Command) (status : Status) (text out : List ℕ) → IsOutput command status text out → Kind command status text
-kind (Report n) Done text out g = inl (refl, inl refl, (g.2.net, g.2.says.spells))
-kind (Report n) OpenLeft text out g = inl (refl, inr refl, (g.2.net, g.2.says.spells))
-kind (Report n) Refused text out g = inr (inl (refl, refl, (g.line, g.code, g.fault)))
-kind (Report n) Rejected text out g = absurd g.1
-kind (Report n) Usage text out g = absurd g.1
-kind (Report n) ReadFault text out g = absurd g.1
-kind (Report n) WriteFault text out g = absurd g.1
-kind (Report n) NoMemory text out g = absurd g.1
-kind (Certify n) Done text out g = inl (refl, inl refl, (g.2.net, g.2.says.spells))
-kind (Certify n) OpenLeft text out g = inl (refl, inr refl, (g.2.net, g.2.says.spells))
-kind (Certify n) Refused text out g = inr (inl (refl, refl, (g.line, g.code, g.fault)))
-kind (Certify n) Rejected text out g = absurd g.1
-kind (Certify n) Usage text out g = absurd g.1
-kind (Certify n) ReadFault text out g = absurd g.1
-kind (Certify n) WriteFault text out g = absurd g.1
-kind (Certify n) NoMemory text out g = absurd g.1
-kind Check Done text out g = inr (inr (inl (refl, refl, g.good)))
-kind Check OpenLeft text out g = absurd g
-kind Check Refused text out g = absurd g
-kind Check Rejected text out g = inr (inr (inr (inl (refl, refl, (g.line, g.code, g.fault)))))
-kind Check Usage text out g = absurd g
-kind Check ReadFault text out g = absurd g
-kind Check WriteFault text out g = absurd g
-kind Check NoMemory text out g = absurd g
-kind (Sample k n) Done text out g = inr (inr (inr (inr (refl, inl refl))))
-kind (Sample k n) OpenLeft text out g = inr (inr (inr (inr (refl, inr refl))))
-kind (Sample k n) Refused text out g = absurd g.1
-kind (Sample k n) Rejected text out g = absurd g.1
-kind (Sample k n) Usage text out g = absurd g.1
-kind (Sample k n) ReadFault text out g = absurd g.1
-kind (Sample k n) WriteFault text out g = absurd g.1
-kind (Sample k n) NoMemory text out g = absurd g.1
+-- what a command that reads a network text writes for one that spells a network, or has a fault
+network_output : (command : Command) (status : Status) (text out : List ℕ) → ReadsNetwork command → IsOutput command status text out → (IsAnswered status × IsSpelled text) ⊎ ((status ≡ Refused) × IsFaulty text)
+network_output command status text out reads g = elim (refused_or_says command status text out reads g) [
+  | inl refused ↦ inr (let r = refused.1 in (refused.0, (r.line, r.code, r.fault)))
+  | inr says ↦ inl (says_answered command status text out says, says_spelled command status text out says)
+]
 
 -- ---- completeness
 
@@ -163,71 +121,43 @@ shown_is (Some t) shown text e p = let h : t ≡ shown = cc in sym h ∙ p
 shows : (P : List ℕ → Type 0) (old : Devices) (text shown : List ℕ) → old.source.left ≡ Some shown → WasLeft old text → P shown → P text
 shows P old text shown e left p = subst P (shown_is old.source.left shown text e left) p
 
--- the words say the command that is asked for
-says_network : (P : List ℕ → Type 0) (words : List (List ℕ)) (old : Devices) → AskOfNetwork P words old → Says 0 words
-says_network P words old (n, inl said, shown) = (Report n, said, refl)
-says_network P words old (n, inr said, shown) = (Certify n, said, refl)
-
-says_document : (P : List ℕ → Type 0) (words : List (List ℕ)) (old : Devices) → AskOfDocument P words old → Says 1 words
-says_document P words old (said, shown) = (Check, said, refl)
-
-says_sample : (words : List (List ℕ)) → AskOfSample words → Says 2 words
-says_sample words (k, n, said) = (Sample k n, said, refl)
-
 written_complete : (status : Status) (words : List (List ℕ)) (old new : Devices) → EndsWritten status words old new → IsComplete status words old new
-written_complete status words old new g = by (kind g.command status g.text g.out g.says)
+written_complete status words old new g = record {
+  spelled = λ quiet (command, reads, said, shown). elim (network_output command status g.text g.out reads (written command said)) [
+    | inl spelled ↦ answered_or_not status spelled.0
+    | inr faulty ↦ absurd (spelled_or_faulty g.text (left IsSpelled shown) faulty.1)
+  ];
+  refused = λ quiet (command, reads, said, shown). elim (network_output command status g.text g.out reads (written command said)) [
+    | inl spelled ↦ absurd (spelled_or_faulty g.text spelled.1 (left IsFaulty shown))
+    | inr faulty ↦ inl faulty.0
+  ];
+  accepted = λ quiet (said, shown). elim (rejected_or status _ _ (written Check said)) [
+    | inl done ↦ inl done.0
+    | inr rejected ↦ absurd (let r = rejected.1 in good_or_faulty g.text (left IsGood shown) (r.line, r.code, r.fault))
+  ];
+  rejected = λ quiet (said, shown). elim (rejected_or status _ _ (written Check said)) [
+    | inl done ↦ absurd (let r = done.1 in good_or_faulty g.text r.good (left IsFaultyDocument shown))
+    | inr rejected ↦ inl rejected.0
+  ];
+  verified = λ quiet (part, said, shown). elim (rejected_or status _ _ (written (Verify part) said)) [
+    | inl done ↦ inl done.0
+    | inr rejected ↦ absurd (good_or_faulty_of part g.text (left (IsGoodOf part) shown) (rejection_faulty part g.text g.out rejected.1))
+  ];
+  unverified = λ quiet (part, said, shown). elim (rejected_or status _ _ (written (Verify part) said)) [
+    | inl done ↦ absurd (good_or_faulty_of part g.text (verdict_good part g.text g.out done.1) (left (IsFaultyOf part) shown))
+    | inr rejected ↦ inl rejected.0
+  ];
+  sampled = λ quiet (number, budget, said). (let says = written (Sample number budget) said in answered_or_not status (left_answered (HasOpen (verdicts_of says.0)) status says.1));
+  usage = λ quiet none. absurd (none (g.command, g.said));
+}
   where
-    no_command : {X : Type 0} → (SayACommand words → ⊥) → X
-    no_command none = absurd (none (g.command, g.said))
+    -- what was written is what the words ask for
+    written : (command : Command) → IsCommand words command → IsOutput command status g.text g.out
+    written command said = subst (λ (c : Command). IsOutput c status g.text g.out) (one_command words g.command command g.said said) g.says
 
-    other : {X : Type 0} (n m : ℕ) → Family g.command ≡ n → (n ≡ m → ⊥) → Says m words → X
-    other n m e apart says = absurd (apart (one_family words n m (g.command, g.said, e) says))
-
-    by : Kind g.command status g.text → IsComplete status words old new
-    by (inl (e, is, spelled)) = record {
-      spelled = λ quiet ask. answered_or_not status is;
-      refused = λ quiet ask. absurd (spelled_or_faulty g.text spelled (shows IsFaulty old g.text ask.2.0 ask.2.1 g.left ask.2.2));
-      accepted = λ quiet ask. other 0 1 e (λ h. cc) (says_document IsGood words old ask);
-      rejected = λ quiet ask. other 0 1 e (λ h. cc) (says_document IsFaultyDocument words old ask);
-      sampled = λ quiet ask. answered_or_not status is;
-      usage = λ quiet none. no_command none;
-    }
-    by (inr (inl (e, is, faulty))) = record {
-      spelled = λ quiet ask. absurd (spelled_or_faulty g.text (shows IsSpelled old g.text ask.2.0 ask.2.1 g.left ask.2.2) faulty);
-      refused = λ quiet ask. inl is;
-      accepted = λ quiet ask. other 0 1 e (λ h. cc) (says_document IsGood words old ask);
-      rejected = λ quiet ask. other 0 1 e (λ h. cc) (says_document IsFaultyDocument words old ask);
-      sampled = λ quiet ask. other 0 2 e (λ h. cc) (says_sample words ask);
-      usage = λ quiet none. no_command none;
-    }
-    by (inr (inr (inl (e, is, good)))) = record {
-      spelled = λ quiet ask. other 1 0 e (λ h. cc) (says_network IsSpelled words old ask);
-      refused = λ quiet ask. other 1 0 e (λ h. cc) (says_network IsFaulty words old ask);
-      accepted = λ quiet ask. inl is;
-      rejected = λ quiet ask. absurd (good_or_faulty g.text good (shows IsFaultyDocument old g.text ask.1.0 ask.1.1 g.left ask.1.2));
-      sampled = λ quiet ask. other 1 2 e (λ h. cc) (says_sample words ask);
-      usage = λ quiet none. no_command none;
-    }
-    by (inr (inr (inr (inl (e, is, faulty))))) = record {
-      spelled = λ quiet ask. other 1 0 e (λ h. cc) (says_network IsSpelled words old ask);
-      refused = λ quiet ask. other 1 0 e (λ h. cc) (says_network IsFaulty words old ask);
-      accepted = λ quiet ask. absurd (good_or_faulty g.text (shows IsGood old g.text ask.1.0 ask.1.1 g.left ask.1.2) faulty);
-      rejected = λ quiet ask. inl is;
-      sampled = λ quiet ask. other 1 2 e (λ h. cc) (says_sample words ask);
-      usage = λ quiet none. no_command none;
-    }
-    by (inr (inr (inr (inr (e, is))))) = record {
-      spelled = λ quiet ask. answered_or_not status is;
-      refused = λ quiet ask. other 2 0 e (λ h. cc) (says_network IsFaulty words old ask);
-      accepted = λ quiet ask. other 2 1 e (λ h. cc) (says_document IsGood words old ask);
-      rejected = λ quiet ask. other 2 1 e (λ h. cc) (says_document IsFaultyDocument words old ask);
-      sampled = λ quiet ask. answered_or_not status is;
-      usage = λ quiet none. no_command none;
-    }
-
--- some command of this family is said
-some_command : (words : List (List ℕ)) (n : ℕ) → Says n words → SayACommand words
-some_command words n says = (says.0, says.1)
+    -- the text that is shown is the one that was left
+    left : (P : List ℕ → Type 0) → Shows P old → P g.text
+    left P (shown, e, p) = shows P old g.text shown e g.left p
 
 pub run_complete : (status : Status) (words : List (List ℕ)) (old new : Devices) → RunGives status words old new → IsComplete status words old new
 run_complete Done words old new g = written_complete Done words old new g
@@ -235,11 +165,13 @@ run_complete OpenLeft words old new g = written_complete OpenLeft words old new 
 run_complete Refused words old new g = written_complete Refused words old new g
 run_complete Rejected words old new g = written_complete Rejected words old new g
 run_complete Usage words old new g = record {
-  spelled = λ quiet ask. absurd (g.command (some_command words 0 (says_network IsSpelled words old ask)));
-  refused = λ quiet ask. absurd (g.command (some_command words 0 (says_network IsFaulty words old ask)));
-  accepted = λ quiet ask. absurd (g.command (Check, ask.0));
-  rejected = λ quiet ask. absurd (g.command (Check, ask.0));
-  sampled = λ quiet ask. absurd (g.command (some_command words 2 (says_sample words ask)));
+  spelled = λ quiet (command, reads, said, shown). absurd (g.command (command, said));
+  refused = λ quiet (command, reads, said, shown). absurd (g.command (command, said));
+  accepted = λ quiet (said, shown). absurd (g.command (Check, said));
+  rejected = λ quiet (said, shown). absurd (g.command (Check, said));
+  verified = λ quiet (part, said, shown). absurd (g.command (Verify part, said));
+  unverified = λ quiet (part, said, shown). absurd (g.command (Verify part, said));
+  sampled = λ quiet (number, budget, said). absurd (g.command (Sample number budget, said));
   usage = λ quiet none. inl refl;
 }
 run_complete ReadFault words old new g = record {
@@ -247,6 +179,8 @@ run_complete ReadFault words old new g = record {
   refused = λ quiet ask. absurd (quiet.source g.source);
   accepted = λ quiet ask. absurd (quiet.source g.source);
   rejected = λ quiet ask. absurd (quiet.source g.source);
+  verified = λ quiet ask. absurd (quiet.source g.source);
+  unverified = λ quiet ask. absurd (quiet.source g.source);
   sampled = λ quiet ask. absurd (quiet.source g.source);
   usage = λ quiet none. absurd (quiet.source g.source);
 }
@@ -255,6 +189,8 @@ run_complete WriteFault words old new g = record {
   refused = λ quiet ask. absurd (quiet.sink g.sink.rose);
   accepted = λ quiet ask. absurd (quiet.sink g.sink.rose);
   rejected = λ quiet ask. absurd (quiet.sink g.sink.rose);
+  verified = λ quiet ask. absurd (quiet.sink g.sink.rose);
+  unverified = λ quiet ask. absurd (quiet.sink g.sink.rose);
   sampled = λ quiet ask. absurd (quiet.sink g.sink.rose);
   usage = λ quiet none. absurd (quiet.sink g.sink.rose);
 }
@@ -263,6 +199,8 @@ run_complete NoMemory words old new g = record {
   refused = λ quiet ask. inr refl;
   accepted = λ quiet ask. inr refl;
   rejected = λ quiet ask. inr refl;
+  verified = λ quiet ask. inr refl;
+  unverified = λ quiet ask. inr refl;
   sampled = λ quiet ask. inr (inr refl);
   usage = λ quiet none. inr refl;
 }

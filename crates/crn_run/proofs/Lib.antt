@@ -1,4 +1,8 @@
 mod Runs
+mod Statuses
+mod PartFacts
+mod Verified
+mod Persistence
 mod OpenAnswers
 mod Outputs
 mod Certificates

@@ -19,11 +19,14 @@ use Rattle.crn_render.specs.Summary.{summary}
 use Rattle.crn_sample.specs.Sample.{sample_text}
 use Rattle.crn_solve.specs.Visits.{HaveNodeForEachVisit}
 use Rattle.crn_cert.specs.declared.answer.Answer.{Answer}
-use Rattle.crn_run.specs.Run.{AreAnswersOf, AreLeftBy, certificate, IsCertificateOf, IsOutput, IsReportOf, IsSummaryOf}
+use Rattle.crn_run.specs.Parts.{IsLeftBy, IsProofOf, subject_of}
+use Rattle.crn_run.specs.Run.{AreAnswersOf, AreLeftBy, HasOpen, certificate, IsCertificateOf, IsOutput, IsReportOf, IsSummaryOf}
 use Rattle.crn_run.specs.Inner.Steps.{LineGives, OutputGives}
-use Rattle.crn_run.specs.declared.words.Command.TheVariants.{Report, Certify, Sample}
+use Rattle.crn_run.specs.declared.words.Command.TheVariants.{Report, Certify, Sample, Prove}
+use Rattle.crn_run.specs.declared.words.PartName.{PartName}
 use Rattle.crn_run.specs.declared.status.Status.{Status}
-use Rattle.crn_run.specs.declared.status.Status.TheVariants.{Done, OpenLeft, Refused, Rejected, Usage, ReadFault, WriteFault, NoMemory}
+use Rattle.crn_run.proofs.Statuses.{by_left}
+use Rattle.crn_run.specs.declared.status.Status.TheVariants.{WriteFault}
 
 -- the verdicts of formed answers are formed
 pub answers_formed : (net : Net) (earlier : Earlier) (qs : List Question) (answers : List Answer) → AreFormed net earlier qs answers → AreFormedVerdicts net earlier qs (verdicts_of answers)
@@ -33,35 +36,14 @@ answers_formed net earlier (q ∷ qs) [] f = absurd f
 answers_formed net earlier (q ∷ qs) (a ∷ more) f = (formed_answers_have_formed_verdicts net earlier q a.verdict a.proof f.0, answers_formed net (earlier ++ (q, tight a.verdict) ∷ []) qs more f.1)
 
 report_is_output : (budget : ℕ) (whole : Status) (text out : List ℕ) (answers : List Answer) → AreLeftBy whole answers → IsReportOf budget text out answers → IsOutput (Report budget) whole text out
-report_is_output budget Done text out answers left r = (answers, left, r)
-report_is_output budget OpenLeft text out answers left r = (answers, left, r)
-report_is_output budget Refused text out answers left r = absurd left
-report_is_output budget Rejected text out answers left r = absurd left
-report_is_output budget Usage text out answers left r = absurd left
-report_is_output budget ReadFault text out answers left r = absurd left
-report_is_output budget WriteFault text out answers left r = absurd left
-report_is_output budget NoMemory text out answers left r = absurd left
+report_is_output budget whole text out answers left r = by_left (HasOpen (verdicts_of answers)) (λ s. IsOutput (Report budget) s text out) whole left (λ l. (answers, l, r)) (λ l. (answers, l, r))
 
 certificate_is_output : (budget : ℕ) (whole : Status) (text out : List ℕ) (answers : List Answer) → AreLeftBy whole answers → IsCertificateOf budget text out answers → IsOutput (Certify budget) whole text out
-certificate_is_output budget Done text out answers left r = (answers, left, r)
-certificate_is_output budget OpenLeft text out answers left r = (answers, left, r)
-certificate_is_output budget Refused text out answers left r = absurd left
-certificate_is_output budget Rejected text out answers left r = absurd left
-certificate_is_output budget Usage text out answers left r = absurd left
-certificate_is_output budget ReadFault text out answers left r = absurd left
-certificate_is_output budget WriteFault text out answers left r = absurd left
-certificate_is_output budget NoMemory text out answers left r = absurd left
+certificate_is_output budget whole text out answers left r = by_left (HasOpen (verdicts_of answers)) (λ s. IsOutput (Certify budget) s text out) whole left (λ l. (answers, l, r)) (λ l. (answers, l, r))
 
 -- a text that was written whole is written with the status that it has
-whole_is_written : (whole : Status) (out : List ℕ) (answers : List Answer) (old new : SinkSeen) → AreLeftBy whole answers → WroteAll out old new → LineGives whole whole out old new
-whole_is_written Done out answers old new left w = (refl, w)
-whole_is_written OpenLeft out answers old new left w = (refl, w)
-whole_is_written Refused out answers old new left w = absurd left
-whole_is_written Rejected out answers old new left w = absurd left
-whole_is_written Usage out answers old new left w = absurd left
-whole_is_written ReadFault out answers old new left w = absurd left
-whole_is_written WriteFault out answers old new left w = absurd left
-whole_is_written NoMemory out answers old new left w = absurd left
+whole_is_written : (Open : Type 0) (whole : Status) (out : List ℕ) (old new : SinkSeen) → IsLeftBy Open whole → WroteAll out old new → LineGives whole whole out old new
+whole_is_written Open whole out old new left w = by_left Open (λ s. LineGives s s out old new) whole left (λ l. (refl, w)) (λ l. (refl, w))
 
 reported : (budget : ℕ) (text : List ℕ) (net : Net) (answers : List Answer) → AreAnswersOf budget text net answers → AreValid net [] built answers → IsReportOf budget text (render built net (verdicts_of answers)) answers
 reported budget text net answers says valid = record { net = net; says = says; valid = valid; written = refl }
@@ -70,7 +52,7 @@ pub report_gives : (budget : ℕ) (whole : Status) (text : List ℕ) (net : Net)
     → AreAnswersOf budget text net answers → AreValid net [] built answers → AreLeftBy whole answers → WroteAll (render built net verdicts) old new → OutputGives (Report budget) whole text old new
 report_gives budget whole text net answers verdicts old new e says valid left w =
     let here : WroteAll (render built net (verdicts_of answers)) old new = subst (λ (vs : List Verdict). WroteAll (render built net vs) old new) e w in
-    inr (whole, render built net (verdicts_of answers), report_is_output budget whole text (render built net (verdicts_of answers)) answers left (reported budget text net answers says valid), whole_is_written whole (render built net (verdicts_of answers)) answers old new left here)
+    inr (whole, render built net (verdicts_of answers), report_is_output budget whole text (render built net (verdicts_of answers)) answers left (reported budget text net answers says valid), whole_is_written (HasOpen (verdicts_of answers)) whole (render built net (verdicts_of answers)) old new left here)
 
 pub report_broken : (budget : ℕ) (whole : Status) (text : List ℕ) (net : Net) (answers : List Answer) (verdicts : List Verdict) (old new : SinkSeen) → verdicts ≡ verdicts_of answers
     → AreAnswersOf budget text net answers → AreValid net [] built answers → AreLeftBy whole answers → WrotePrefix (render built net verdicts) old new → OutputGives (Report budget) WriteFault text old new
@@ -85,23 +67,13 @@ pub certificate_gives : (budget : ℕ) (whole : Status) (text : List ℕ) (net :
     → AreValid net [] built answers → HaveFewNodes budget answers → HaveNodeForEachVisit net answers → IsGood (certificate net answers) → AreLeftBy whole answers → WroteAll out old new → OutputGives (Certify budget) whole text old new
 certificate_gives budget whole text net answers out old new e says valid few visits good left w =
     let here : WroteAll (certificate net answers) old new = subst (λ (t : List ℕ). WroteAll t old new) e w in
-    inr (whole, certificate net answers, certificate_is_output budget whole text (certificate net answers) answers left (certified budget text net answers says valid few visits good), whole_is_written whole (certificate net answers) answers old new left here)
+    inr (whole, certificate net answers, certificate_is_output budget whole text (certificate net answers) answers left (certified budget text net answers says valid few visits good), whole_is_written (HasOpen (verdicts_of answers)) whole (certificate net answers) old new left here)
 
 pub certificate_broken : (budget : ℕ) (whole : Status) (text : List ℕ) (net : Net) (answers : List Answer) (out : List ℕ) (old new : SinkSeen) → out ≡ certificate net answers → AreAnswersOf budget text net answers
     → AreValid net [] built answers → HaveFewNodes budget answers → HaveNodeForEachVisit net answers → IsGood (certificate net answers) → AreLeftBy whole answers → WrotePrefix out old new → OutputGives (Certify budget) WriteFault text old new
 certificate_broken budget whole text net answers out old new e says valid few visits good left w =
     let here : WrotePrefix (certificate net answers) old new = subst (λ (t : List ℕ). WrotePrefix t old new) e w in
     inr (whole, certificate net answers, certificate_is_output budget whole text (certificate net answers) answers left (certified budget text net answers says valid few visits good), here)
-
-summary_is_output : (number budget : ℕ) (whole : Status) (text out : List ℕ) (answers : List Answer) → AreLeftBy whole answers → IsSummaryOf number budget out answers → IsOutput (Sample number budget) whole text out
-summary_is_output number budget Done text out answers left r = (answers, left, r)
-summary_is_output number budget OpenLeft text out answers left r = (answers, left, r)
-summary_is_output number budget Refused text out answers left r = absurd left
-summary_is_output number budget Rejected text out answers left r = absurd left
-summary_is_output number budget Usage text out answers left r = absurd left
-summary_is_output number budget ReadFault text out answers left r = absurd left
-summary_is_output number budget WriteFault text out answers left r = absurd left
-summary_is_output number budget NoMemory text out answers left r = absurd left
 
 -- what is known of the answers of a sample network
 pub record AreSampled (number budget : ℕ) (net : Net) (answers : List Answer) : Type 0 where
@@ -119,11 +91,26 @@ pub summary_gives : (number budget : ℕ) (whole : Status) (text : List ℕ) (ne
 summary_gives number budget whole text net answers verdicts old new e a left w =
     let out = summary number net verdicts in
     let is = summarized number budget net answers out a (ap (summary number net) e) in
-    inr (whole, out, summary_is_output number budget whole text out answers left is, whole_is_written whole out answers old new left w)
+    inr (whole, out, (answers, left, is), whole_is_written (HasOpen (verdicts_of answers)) whole out old new left w)
 
 pub summary_broken : (number budget : ℕ) (whole : Status) (text : List ℕ) (net : Net) (answers : List Answer) (verdicts : List Verdict) (old new : SinkSeen) → verdicts ≡ verdicts_of answers
     → AreSampled number budget net answers → AreLeftBy whole answers → WrotePrefix (summary number net verdicts) old new → OutputGives (Sample number budget) WriteFault text old new
 summary_broken number budget whole text net answers verdicts old new e a left w =
     let out = summary number net verdicts in
     let is = summarized number budget net answers out a (ap (summary number net) e) in
-    inr (whole, out, summary_is_output number budget whole text out answers left is, w)
+    inr (whole, out, (answers, left, is), w)
+
+-- ---- documents of parts
+
+proof_is_output : (part : PartName) (budget : ℕ) (whole : Status) (text out : List ℕ) → IsProofOf (subject_of part) budget whole text out → IsOutput (Prove part budget) whole text out
+proof_is_output part budget whole text out p =
+    by_left ((subject_of part).IsOpen ((subject_of part).meant.says p.answer)) (λ s. IsOutput (Prove part budget) s text out) whole p.left
+    (λ l. record { net = p.net; answer = p.answer; spells = p.spells; is = p.is; left = l; document = p.document })
+    (λ l. record { net = p.net; answer = p.answer; spells = p.spells; is = p.is; left = l; document = p.document })
+
+pub proof_gives : (part : PartName) (budget : ℕ) (whole : Status) (text out : List ℕ) (old new : SinkSeen) → IsProofOf (subject_of part) budget whole text out → WroteAll out old new → OutputGives (Prove part budget) whole text old new
+proof_gives part budget whole text out old new p w =
+    inr (whole, out, proof_is_output part budget whole text out p, whole_is_written ((subject_of part).IsOpen ((subject_of part).meant.says p.answer)) whole out old new p.left w)
+
+pub proof_broken : (part : PartName) (budget : ℕ) (whole : Status) (text out : List ℕ) (old new : SinkSeen) → IsProofOf (subject_of part) budget whole text out → WrotePrefix out old new → OutputGives (Prove part budget) WriteFault text old new
+proof_broken part budget whole text out old new p w = inr (whole, out, proof_is_output part budget whole text out p, w)

@@ -12,16 +12,17 @@ use Rattle.crn_text.specs.Spells.{Fault, IsTooLong}
 use Rattle.crn_text.specs.declared.fault.TextCode.TheVariants.{TextTooLong}
 use Rattle.crn_io.specs.Device.{SourceSeen}
 use Rattle.crn_render.specs.Faults.{usage_line}
-use Rattle.crn_run.specs.Run.{Devices, WasLeft, IsReadOut, IsReadUp, IsReadBy, IsReadWithin, IsOutput, IsRefusalOf, RunGives, refused_line}
+use Rattle.crn_run.specs.Run.{Devices, WasLeft, IsReadOut, IsReadFor, IsReadBy, IsReadWithin, IsOutput, IsRefusalOf, ReadsNetwork, RunGives, refused_line}
 use Rattle.crn_run.specs.Words.{IsCommand, SayACommand}
+use Rattle.crn_run.proofs.Statuses.{output_is_written, refused_or_says, says_answered}
 use Rattle.crn_run.proofs.WordsSaid.{one_command}
 use Rattle.crn_vec.specs.Network.{Net}
 use Rattle.crn_run.specs.Inner.Network.{NetworkRead}
-use Rattle.crn_run.specs.Inner.Steps.{HasNoMemory, LineGives, NetworkGives, OutputGives, ReadsNetwork, StopGives}
+use Rattle.crn_run.specs.Inner.Steps.{HasNoMemory, LineGives, NetworkGives, OutputGives, StopGives}
 use Rattle.crn_run.specs.declared.network.Stop.{Stop}
 use Rattle.crn_run.specs.declared.network.Stop.TheVariants as network
 use Rattle.crn_run.specs.declared.words.Command.{Command}
-use Rattle.crn_run.specs.declared.words.Command.TheVariants.{Report, Certify, Check, Sample}
+use Rattle.crn_run.specs.declared.words.Command.TheVariants.{Report, Certify, Check, Sample, Prove, Verify}
 use Rattle.crn_run.specs.declared.status.Status.{Status}
 use Rattle.crn_run.specs.declared.status.Status.TheVariants.{Done, OpenLeft, Refused, Rejected, Usage, ReadFault, WriteFault, NoMemory}
 
@@ -68,36 +69,29 @@ within_network words (Report n) left rest reads said g = inl (Report n, said, g)
 within_network words (Certify n) left rest reads said g = inl (Certify n, said, g)
 within_network words Check left rest reads said g = absurd reads
 within_network words (Sample k n) left rest reads said g = absurd reads
+within_network words (Prove part n) left rest reads said g = inl (Prove part n, said, g)
+within_network words (Verify part) left rest reads said g = absurd reads
 
 -- ---- outputs
 
--- what a command writes for a network text that was read to its end was read for its status
-pub read_for : (command : Command) (status : Status) (text out : List ℕ) (left rest : Option (List ℕ)) → ReadsNetwork command → IsOutput command status text out → IsReadOut left rest → IsReadBy command status left rest
-read_for (Report n) Done text out left rest reads g r = r
-read_for (Report n) OpenLeft text out left rest reads g r = r
-read_for (Report n) Refused text out left rest reads g r = inl r
-read_for (Report n) Rejected text out left rest reads g r = absurd g.1
-read_for (Report n) Usage text out left rest reads g r = r
-read_for (Report n) ReadFault text out left rest reads g r = r
-read_for (Report n) WriteFault text out left rest reads g r = r
-read_for (Report n) NoMemory text out left rest reads g r = r
-read_for (Certify n) Done text out left rest reads g r = r
-read_for (Certify n) OpenLeft text out left rest reads g r = r
-read_for (Certify n) Refused text out left rest reads g r = inl r
-read_for (Certify n) Rejected text out left rest reads g r = absurd g.1
-read_for (Certify n) Usage text out left rest reads g r = r
-read_for (Certify n) ReadFault text out left rest reads g r = r
-read_for (Certify n) WriteFault text out left rest reads g r = r
-read_for (Certify n) NoMemory text out left rest reads g r = r
-read_for Check status text out left rest reads g r = absurd reads
-read_for (Sample k n) status text out left rest reads g r = absurd reads
+-- how far a command that reads a network text read, by the status
+by_status : (command : Command) (status : Status) (left rest : Option (List ℕ)) → ReadsNetwork command → IsReadFor status left rest → IsReadBy command status left rest
+by_status (Report n) status left rest reads r = r
+by_status (Certify n) status left rest reads r = r
+by_status Check status left rest reads r = absurd reads
+by_status (Sample k n) status left rest reads r = absurd reads
+by_status (Prove part n) status left rest reads r = r
+by_status (Verify part) status left rest reads r = absurd reads
 
--- a network text that is refused was read as far as a text goes
-read_up : (command : Command) (left rest : Option (List ℕ)) → ReadsNetwork command → IsReadUp left rest → IsReadBy command Refused left rest
-read_up (Report n) left rest reads up = up
-read_up (Certify n) left rest reads up = up
-read_up Check left rest reads up = absurd reads
-read_up (Sample k n) left rest reads up = absurd reads
+-- what it writes for a text that was read to its end was read for its status
+pub read_for : (command : Command) (status : Status) (text out : List ℕ) (left rest : Option (List ℕ)) → ReadsNetwork command → IsOutput command status text out → IsReadOut left rest → IsReadBy command status left rest
+read_for command status text out left rest reads g r = by_status command status left rest reads (elim (refused_or_says command status text out reads g) [
+  | inl refused ↦ subst (λ (s : Status). IsReadFor s left rest) (sym refused.0) (inl r)
+  | inr says ↦ elim (says_answered command status text out says) [
+    | inl is ↦ subst (λ (s : Status). IsReadFor s left rest) (sym is) r
+    | inr is ↦ subst (λ (s : Status). IsReadFor s left rest) (sym is) r
+  ]
+])
 
 -- a refusal is what a command that reads a network text writes
 pub refusal_is_output : (command : Command) (text out : List ℕ) → ReadsNetwork command → IsRefusalOf text out → IsOutput command Refused text out
@@ -105,36 +99,8 @@ refusal_is_output (Report n) text out reads r = r
 refusal_is_output (Certify n) text out reads r = r
 refusal_is_output Check text out reads r = absurd reads
 refusal_is_output (Sample k n) text out reads r = absurd reads
-
--- no command writes a text with these statuses
-abbrev IsWritten : Status → Type 0
-IsWritten Usage = ⊥
-IsWritten ReadFault = ⊥
-IsWritten WriteFault = ⊥
-IsWritten NoMemory = ⊥
-IsWritten status = Unit {0}
-
-output_is_written : (command : Command) (status : Status) (text out : List ℕ) → IsOutput command status text out → IsWritten status
-output_is_written command Done text out g = tt
-output_is_written command OpenLeft text out g = tt
-output_is_written command Refused text out g = tt
-output_is_written command Rejected text out g = tt
-output_is_written (Report n) Usage text out g = g.1
-output_is_written (Report n) ReadFault text out g = g.1
-output_is_written (Report n) WriteFault text out g = g.1
-output_is_written (Report n) NoMemory text out g = g.1
-output_is_written (Certify n) Usage text out g = g.1
-output_is_written (Certify n) ReadFault text out g = g.1
-output_is_written (Certify n) WriteFault text out g = g.1
-output_is_written (Certify n) NoMemory text out g = g.1
-output_is_written Check Usage text out g = g
-output_is_written Check ReadFault text out g = g
-output_is_written Check WriteFault text out g = g
-output_is_written Check NoMemory text out g = g
-output_is_written (Sample k n) Usage text out g = g.1
-output_is_written (Sample k n) ReadFault text out g = g.1
-output_is_written (Sample k n) WriteFault text out g = g.1
-output_is_written (Sample k n) NoMemory text out g = g.1
+refusal_is_output (Prove part n) text out reads r = r
+refusal_is_output (Verify part) text out reads r = absurd reads
 
 -- ---- runs
 
@@ -189,7 +155,7 @@ pub stop_ends : (stop : Stop) (command : Command) (status : Status) (words : Lis
     → NetworkRead (Err stop) old.source new.source → StopGives stop status old.sink new.sink → RunGives status words old new
 stop_ends (network.Fault code line) command status words old new reads said (text, read, up, fault) g = output_ends command Refused status words text (refused_line code line) old new (record {
   said = said;
-  read = read_up command old.source.left new.source.left reads up;
+  read = by_status command Refused old.source.left new.source.left reads up;
   within = within_network words command old.source.left new.source.left reads said read.within;
   source = read.faults;
   left = read.left;
@@ -201,6 +167,7 @@ stop_ends network.Failed command status words old new reads said (most, rose, la
   source = rose;
   later = later;
   undecided = λ check. absurd (subst ReadsNetwork (one_command words command Check said check) reads);
+  awaited = λ part verify. absurd (subst ReadsNetwork (one_command words command (Verify part) said verify) reads);
   sink = g.1;
 })
 stop_ends network.NoMemory command status words old new reads said (most, source) g = memory_ends status words old new (within_network words command old.source.left new.source.left reads said most) source g

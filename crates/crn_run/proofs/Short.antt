@@ -21,9 +21,12 @@ use Rattle.crn_render.proofs.CallerLemmas.{fault_lines_are_short, reports_are_sh
 use Rattle.crn_run.specs.Run.{IsAllowed, IsCertificateOf, IsCheckOf, IsOutput, IsRefusalOf, IsRejectionOf, IsReportOf, IsSummaryOf, refused_line, rejected_line, verdicts_in}
 use Rattle.crn_run.specs.Words.{IsCommand, Say}
 use Rattle.crn_run.specs.declared.words.Command.{Command}
-use Rattle.crn_run.specs.declared.words.Command.TheVariants.{Report, Certify, Check, Sample}
+use Rattle.crn_run.specs.declared.words.Command.TheVariants.{Report, Certify, Check, Sample, Prove, Verify}
+use Rattle.crn_run.specs.declared.words.PartName.{PartName}
+use Rattle.crn_run.specs.Parts.{IsVerdictOf, IsPartRejectionOf, subject_of}
 use Rattle.crn_run.specs.declared.status.Status.{Status}
-use Rattle.crn_run.specs.declared.status.Status.TheVariants.{Done, OpenLeft, Refused, Rejected, Usage, ReadFault, WriteFault, NoMemory}
+use Rattle.crn_run.proofs.PartFacts.{facts}
+use Rattle.crn_run.proofs.Statuses.{refused_or, rejected_or}
 
 -- ---- lines of faults
 
@@ -91,6 +94,14 @@ check_short text out r =
     let here = reports_are_short good.net given.0 good.network given.1 in
     subst (λ (t : List ℕ). length t < MAX_DOCUMENT) (sym r.written) (subst (λ (vs : List Verdict). length (render built good.net vs) < MAX_DOCUMENT) (sym given.3) here)
 
+verdict_short : (part : PartName) (text out : List ℕ) → IsVerdictOf (subject_of part) text out → length out < MAX_DOCUMENT
+verdict_short part text out r =
+    let s = subject_of part in
+    subst (λ (t : List ℕ). length t < MAX_DOCUMENT) (sym r.written) ((facts part).short r.net (s.meant.says r.answer) r.document.network)
+
+part_rejection_short : (part : PartName) (text out : List ℕ) → IsPartRejectionOf (subject_of part) text out → length out < MAX_DOCUMENT
+part_rejection_short part text out r = subst (λ (t : List ℕ). length t < MAX_DOCUMENT) (sym r.written) (fault_lines_are_short.rejected r.code r.line r.short.1 r.short.0)
+
 -- the number of a sample has 32 bits
 abbrev HasShortNumber : Command → Type 0
 HasShortNumber (Sample number budget) = Has32Bits number
@@ -100,34 +111,32 @@ said_short : (words : List (List ℕ)) (command : Command) → IsCommand words c
 said_short words (Report budget) said = tt
 said_short words (Certify budget) said = tt
 said_short words Check said = tt
+said_short words (Prove part budget) said = tt
+said_short words (Verify part) said = tt
 said_short words (Sample number budget) (program, rest, is, means) = let n = means.1 in let most = n.most in omega (arith, most)
 
 output_short : (command : Command) (status : Status) (text out : List ℕ) → HasShortNumber command → IsOutput command status text out → length out < MAX_DOCUMENT
-output_short (Report budget) Refused text out h g = refusal_short text out g
-output_short (Certify budget) Refused text out h g = refusal_short text out g
-output_short (Report budget) Done text out h g = report_short budget text out g.0 g.2
-output_short (Report budget) OpenLeft text out h g = report_short budget text out g.0 g.2
-output_short (Report budget) Rejected text out h g = report_short budget text out g.0 g.2
-output_short (Report budget) Usage text out h g = report_short budget text out g.0 g.2
-output_short (Report budget) ReadFault text out h g = report_short budget text out g.0 g.2
-output_short (Report budget) WriteFault text out h g = report_short budget text out g.0 g.2
-output_short (Report budget) NoMemory text out h g = report_short budget text out g.0 g.2
-output_short (Certify budget) Done text out h g = certificate_short budget text out g.0 g.2
-output_short (Certify budget) OpenLeft text out h g = certificate_short budget text out g.0 g.2
-output_short (Certify budget) Rejected text out h g = certificate_short budget text out g.0 g.2
-output_short (Certify budget) Usage text out h g = certificate_short budget text out g.0 g.2
-output_short (Certify budget) ReadFault text out h g = certificate_short budget text out g.0 g.2
-output_short (Certify budget) WriteFault text out h g = certificate_short budget text out g.0 g.2
-output_short (Certify budget) NoMemory text out h g = certificate_short budget text out g.0 g.2
-output_short Check Done text out h g = check_short text out g
-output_short Check OpenLeft text out h g = absurd g
-output_short Check Refused text out h g = absurd g
-output_short Check Rejected text out h g = rejection_short text out g
-output_short Check Usage text out h g = absurd g
-output_short Check ReadFault text out h g = absurd g
-output_short Check WriteFault text out h g = absurd g
-output_short Check NoMemory text out h g = absurd g
+output_short (Report budget) status text out h g = elim (refused_or status text out _ g) [
+  | inl refused ↦ refusal_short text out refused.1
+  | inr says ↦ report_short budget text out says.0 says.2
+]
+output_short (Certify budget) status text out h g = elim (refused_or status text out _ g) [
+  | inl refused ↦ refusal_short text out refused.1
+  | inr says ↦ certificate_short budget text out says.0 says.2
+]
+output_short Check status text out h g = elim (rejected_or status _ _ g) [
+  | inl done ↦ check_short text out done.1
+  | inr rejected ↦ rejection_short text out rejected.1
+]
 output_short (Sample number budget) status text out h g = summary_short number budget out g.0 h g.2
+output_short (Prove part budget) status text out h g = elim (refused_or status text out _ g) [
+  | inl refused ↦ refusal_short text out refused.1
+  | inr says ↦ says.document.short
+]
+output_short (Verify part) status text out h g = elim (rejected_or status _ _ g) [
+  | inl done ↦ verdict_short part text out done.1
+  | inr rejected ↦ part_rejection_short part text out rejected.1
+]
 
 pub allowed_short : (words : List (List ℕ)) (text out : List ℕ) → IsAllowed words text out → length out < MAX_DOCUMENT
 allowed_short words text out (inl (command, status, said, says)) = output_short command status text out (said_short words command said) says

@@ -1,6 +1,6 @@
 -- From what clap reads to the command that the words say, and back.
 use Rattle.std.proofs.Common.{◌≡◌, ◌≤◌, ℕ, true, false, arith, List, [], ◌∷◌, Option, Some, None, drop, refl, sym, ap, ap₂, ◌∙◌, subst, inl, inr, codes}
-use Rattle.std.specs.Prelude.{MatchOption}
+use Rattle.std.specs.Prelude.{MatchOption, if◌then◌else◌}
 use Rattle.std.specs.List.{list_any}
 use Rattle.clap.specs.Walk.{Text}
 use Rattle.clap.specs.Kinds.{HasKind, IsAmong, Kinds}
@@ -10,14 +10,18 @@ use Rattle.clap.specs.declared.error.kind.ErrorKind.TheVariants.{OutOfMemory}
 use Rattle.clap.specs.declared.parser.matches.ArgMatches.{ArgMatches}
 use Rattle.clap.proofs.OnLiterals.{clap_on_literals}
 use Rattle.clap.proofs.WalkLemmas.{first_value-rows}
-use Rattle.crn_run.specs.Inner.Parse.{Gives, IsRead, Means, MeansBudget, MeansNumber, crnt_app, is_two_dashes}
-use Rattle.crn_vec.specs.declared.limits.TheConstants.{MAX_BUDGET}
+use Rattle.crn_run.specs.Inner.Parse.{Gives, IsRead, Means, MeansBudget, MeansNumber, MeansPart, crnt_app, is_two_dashes}
+use Rattle.std.specs.Str.{bytes_eq}
+use Rattle.std.specs.Str.Parse.{digits_value}
+use Rattle.crn_vec.specs.declared.limits.TheConstants.{DEFAULT_BUDGET, MAX_BUDGET}
 use Rattle.crn_sample.specs.declared.limits.TheConstants.{MAX_SAMPLE}
-use Rattle.crn_run.specs.Words.{IsCommand, Say, SayPlain}
+use Rattle.crn_run.specs.Words.{IsCommand, Say, SayPlain, part_name}
 use Rattle.crn_run.specs.declared.words.Command.{Command}
-use Rattle.crn_run.specs.declared.words.Command.TheVariants.{Report, Certify, Check, Sample}
+use Rattle.crn_run.specs.declared.words.Command.TheVariants.{Report, Certify, Check, Sample, Prove, Verify}
+use Rattle.crn_run.specs.declared.words.PartName.{PartName}
+use Rattle.crn_run.specs.declared.words.PartName.TheVariants.{Persist}
 use Rattle.crn_run.proofs.ClapReads.{Asked, SayAsked, words_of}
-use Rattle.crn_run.proofs.ClapForms.{IsPlain, IsPlainIfSome, IsReadAs, budget_is_read, certify_plain, check_plain, digits_are, name_is_read, read_is_asked, report_plain, sample_plain}
+use Rattle.crn_run.proofs.ClapForms.{IsPlain, IsPlainIfSome, IsReadAs, budget_is_read, certify_plain, check_plain, digits_are, name_is_read, part_plain, prove_plain, read_is_asked, report_plain, sample_plain, verify_plain}
 
 -- ---- the clauses of clap
 
@@ -68,6 +72,14 @@ values_asked : (ask : Asked) (words : List Text) (command count budget : Option 
 values_asked ask words command count budget plain read gives is counted means =
     read_is_asked words budget ask plain read (subst (λ (o : Option Text). Gives words o ask.count budget) is (subst (λ (o : Option Text). Gives words command o budget) counted gives)) means
 
+-- a name and a count alone
+abbrev counted : Text → Text → Asked
+counted name count = record { name = name; count = Some count; budget_is = λ o. o ≡ None }
+
+counted_said : (name count : Text) (words : List Text) → SayAsked (counted name count) words → words ≡ name ∷ count ∷ []
+counted_said name count words (inl (e, none)) = e
+counted_said name count words (inr (v, bad, form)) = absurd (let e : Some v ≡ None = bad in cc)
+
 alone_said : (name : Text) (words : List Text) → SayAsked (alone name) words → words ≡ name ∷ []
 alone_said name words (inl (e, none)) = e
 alone_said name words (inr (v, bad, form)) = absurd (let e : Some v ≡ None = bad in cc)
@@ -79,6 +91,20 @@ sample_said number budget words command (Some k) word plain read gives is writes
     let (program, rest, e, says) = values_asked (named (codes "sample") (Some k) budget) words command (Some k) word plain read gives is refl means in
     (program, rest, e, (k, writes, says))
 
+prove_said : (part : PartName) (budget : ℕ) (words : List Text) (command count word : Option Text) → list_any is_two_dashes (drop 1 words) ≡ false → IsRead words → Gives words command count word
+    → command ≡ Some (codes "prove") → MeansPart count part → MeansBudget word budget → IsCommand words (Prove part budget)
+prove_said part budget words command None word plain read gives is names means = absurd names
+prove_said part budget words command (Some k) word plain read gives is names means =
+    let (program, rest, e, says) = values_asked (named (codes "prove") (Some k) budget) words command (Some k) word plain read gives is refl means in
+    (program, rest, e, subst (λ (name : Text). SayPlain (codes "prove" ∷ name ∷ []) rest budget) names says)
+
+verify_said : (part : PartName) (words : List Text) (command count word : Option Text) → list_any is_two_dashes (drop 1 words) ≡ false → IsRead words → Gives words command count word
+    → command ≡ Some (codes "verify") → MeansPart count part → word ≡ None → IsCommand words (Verify part)
+verify_said part words command None word plain read gives is names means = absurd names
+verify_said part words command (Some k) word plain read gives is names means =
+    let (program, rest, e, says) = values_asked (counted (codes "verify") k) words command (Some k) word plain read gives is refl means in
+    (program, rest, e, counted_said (codes "verify") k rest says ∙ ap (λ (name : Text). codes "verify" ∷ name ∷ []) names)
+
 values_say : (words : List Text) (command count budget : Option Text) (c : Command) → list_any is_two_dashes (drop 1 words) ≡ false → IsRead words
     → Gives words command count budget → Means command count budget c → IsCommand words c
 values_say words command count budget (Report n) plain read gives (is, none, means) = values_asked (named (codes "report") None n) words command count budget plain read gives is none means
@@ -87,6 +113,8 @@ values_say words command count budget Check plain read gives (is, none, means) =
     let (program, rest, e, says) = values_asked (alone (codes "check")) words command count budget plain read gives is none means in
     (program, rest, e, alone_said (codes "check") rest says)
 values_say words command count budget (Sample k n) plain read gives (is, writes, means) = sample_said k n words command count budget plain read gives is writes means
+values_say words command count budget (Prove part n) plain read gives (is, names, means) = prove_said part n words command count budget plain read gives is names means
+values_say words command count budget (Verify part) plain read gives (is, names, means) = verify_said part words command count budget plain read gives is names means
 
 -- the words of a command with a budget, as clap reads them
 plain_read : (name program : Text) (count : Option Text) (words : List Text) (n : ℕ) → IsPlain name → IsPlainIfSome count → SayPlain (words_of name count) words n → (b : Option Text) × IsReadAs name count program words b × MeansBudget b n
@@ -98,6 +126,8 @@ name_of (Report n) = codes "report"
 name_of (Certify n) = codes "certify"
 name_of Check = codes "check"
 name_of (Sample k n) = codes "sample"
+name_of (Prove part n) = codes "prove"
+name_of (Verify part) = codes "verify"
 
 -- the words of a command, as clap reads them
 said_read : (program : Text) (words : List Text) (c : Command) → Say words c → (o : Option Text) × (b : Option Text) × IsReadAs (name_of c) o program words b × Means (Some (name_of c)) o b c
@@ -105,6 +135,8 @@ said_read program words (Report n) says = let (b, r, means) = plain_read (codes 
 said_read program words (Certify n) says = let (b, r, means) = plain_read (codes "certify") program None words n certify_plain tt says in (None, b, r, (refl, refl, means))
 said_read program words Check e = (None, None, rw e (name_is_read (codes "check") program None check_plain tt), (refl, refl, refl))
 said_read program words (Sample number n) (k, writes, says) = let (b, r, means) = plain_read (codes "sample") program (Some k) words n sample_plain (digits_are k writes.digits) says in (Some k, b, r, (refl, writes, means))
+said_read program words (Prove part n) says = let (b, r, means) = plain_read (codes "prove") program (Some (part_name part)) words n prove_plain (part_plain part) says in (Some (part_name part), b, r, (refl, refl, means))
+said_read program words (Verify part) e = (Some (part_name part), None, rw e (name_is_read (codes "verify") program (Some (part_name part)) verify_plain (part_plain part)), (refl, refl, refl))
 
 -- words give their values once
 gives_one : (words : List Text) (command count budget first second third : Option Text) (c : Command) → Gives words command count budget → Gives words first second third
@@ -135,37 +167,62 @@ meant_is_said (Some c) words command count budget plain read gives means = value
 
 -- ---- one command
 
-budget_one : (b : Option Text) (n m : ℕ) → MeansBudget b n → MeansBudget b m → n ≡ m
-budget_one None n m p q = p ∙ sym q
-budget_one (Some text) n m p q = sym p.value ∙ q.value
+-- the values of words, if they are those of a command
+abbrev budget_in : Option Text → ℕ
+budget_in None = DEFAULT_BUDGET
+budget_in (Some text) = digits_value 10 text
 
--- the first byte of a text
-abbrev first_byte : Option Text → ℕ
-first_byte None = 0
-first_byte (Some []) = 0
-first_byte (Some (b ∷ bs)) = b
+abbrev number_in : Option Text → ℕ
+number_in None = 0
+number_in (Some text) = digits_value 10 text
 
-number_one : (o : Option Text) (n m : ℕ) → MeansNumber o n → MeansNumber o m → n ≡ m
-number_one None n m p q = absurd p
-number_one (Some text) n m p q = sym p.value ∙ q.value
+abbrev part_in : Option Text → PartName
+part_in word = Persist
+
+-- the command of this name with these values
+abbrev command_in : Text → Option Text → Option Text → Command
+command_in name count word =
+    if bytes_eq name (codes "report") then Report (budget_in word) else (
+    if bytes_eq name (codes "certify") then Certify (budget_in word) else (
+    if bytes_eq name (codes "check") then Check else (
+    if bytes_eq name (codes "sample") then Sample (number_in count) (budget_in word) else (
+    if bytes_eq name (codes "prove") then Prove (part_in count) (budget_in word) else Verify (part_in count)))))
+
+budget_is : (word : Option Text) (n : ℕ) → MeansBudget word n → n ≡ budget_in word
+budget_is None n means = means
+budget_is (Some text) n means = sym means.value
+
+number_is : (count : Option Text) (n : ℕ) → MeansNumber count n → n ≡ number_in count
+number_is None n means = absurd means
+number_is (Some text) n means = sym means.value
+
+part_is : (count : Option Text) (part : PartName) → MeansPart count part → part ≡ part_in count
+part_is None part means = absurd means
+part_is (Some text) Persist means = refl
+
+means_name : (command count word : Option Text) (c : Command) → Means command count word c → command ≡ Some (name_of c)
+means_name command count word (Report n) means = means.0
+means_name command count word (Certify n) means = means.0
+means_name command count word Check means = means.0
+means_name command count word (Sample k n) means = means.0
+means_name command count word (Prove part n) means = means.0
+means_name command count word (Verify part) means = means.0
+
+means_command : (command count word : Option Text) (c : Command) → Means command count word c → c ≡ command_in (name_of c) count word
+means_command command count word (Report n) means = ap Report (budget_is word n means.2)
+means_command command count word (Certify n) means = ap Certify (budget_is word n means.2)
+means_command command count word Check means = refl
+means_command command count word (Sample k n) means = ap₂ Sample (number_is count k means.1) (budget_is word n means.2)
+means_command command count word (Prove part n) means = ap₂ Prove (part_is count part means.1) (budget_is word n means.2)
+means_command command count word (Verify part) means = ap Verify (part_is count part means.1)
 
 means_one : (command count word : Option Text) (c d : Command) → Means command count word c → Means command count word d → c ≡ d
-means_one command count word (Report n) (Report m) p q = ap Report (budget_one word n m p.2 q.2)
-means_one command count word (Report n) (Certify m) p q = absurd (let e : Some (codes "report") ≡ Some (codes "certify") = sym p.0 ∙ q.0 in cc)
-means_one command count word (Report n) Check p q = absurd (let e : Some (codes "report") ≡ Some (codes "check") = sym p.0 ∙ q.0 in cc)
-means_one command count word (Report n) (Sample k m) p q = absurd (let e : 114 ≡ 115 = ap first_byte (sym p.0 ∙ q.0) in omega arith)
-means_one command count word (Certify n) (Report m) p q = absurd (let e : Some (codes "certify") ≡ Some (codes "report") = sym p.0 ∙ q.0 in cc)
-means_one command count word (Certify n) (Certify m) p q = ap Certify (budget_one word n m p.2 q.2)
-means_one command count word (Certify n) Check p q = absurd (let e : Some (codes "certify") ≡ Some (codes "check") = sym p.0 ∙ q.0 in cc)
-means_one command count word (Certify n) (Sample k m) p q = absurd (let e : 99 ≡ 115 = ap first_byte (sym p.0 ∙ q.0) in omega arith)
-means_one command count word Check (Report m) p q = absurd (let e : Some (codes "check") ≡ Some (codes "report") = sym p.0 ∙ q.0 in cc)
-means_one command count word Check (Certify m) p q = absurd (let e : Some (codes "check") ≡ Some (codes "certify") = sym p.0 ∙ q.0 in cc)
-means_one command count word Check Check p q = refl
-means_one command count word Check (Sample k m) p q = absurd (let e : 99 ≡ 115 = ap first_byte (sym p.0 ∙ q.0) in omega arith)
-means_one command count word (Sample k n) (Report m) p q = absurd (let e : 115 ≡ 114 = ap first_byte (sym p.0 ∙ q.0) in omega arith)
-means_one command count word (Sample k n) (Certify m) p q = absurd (let e : 115 ≡ 99 = ap first_byte (sym p.0 ∙ q.0) in omega arith)
-means_one command count word (Sample k n) Check p q = absurd (let e : 115 ≡ 99 = ap first_byte (sym p.0 ∙ q.0) in omega arith)
-means_one command count word (Sample k n) (Sample j m) p q = ap₂ Sample (number_one count k j p.1 q.1) (budget_one word n m p.2 q.2)
+means_one command count word c d p q =
+    let first = means_name command count word c p in
+    let second = means_name command count word d q in
+    let one : Some (name_of c) ≡ Some (name_of d) = sym first ∙ second in
+    let name : name_of c ≡ name_of d = cc in
+    means_command command count word c p ∙ ap (λ (name : Text). command_in name count word) name ∙ sym (means_command command count word d q)
 
 pub one_command : (words : List Text) (c d : Command) → IsCommand words c → IsCommand words d → c ≡ d
 one_command words c d (program, rest, e, says) other =
@@ -183,6 +240,12 @@ certify_is_no_sample words n number budget p q = let e = one_command words (Cert
 pub check_is_no_sample : (words : List Text) (number budget : ℕ) → IsCommand words Check → IsCommand words (Sample number budget) → ⊥
 check_is_no_sample words number budget p q = let e = one_command words Check (Sample number budget) p q in cc
 
+pub prove_is_no_sample : (words : List Text) (part : PartName) (n number budget : ℕ) → IsCommand words (Prove part n) → IsCommand words (Sample number budget) → ⊥
+prove_is_no_sample words part n number budget p q = let e = one_command words (Prove part n) (Sample number budget) p q in cc
+
+pub verify_is_no_sample : (words : List Text) (part : PartName) (number budget : ℕ) → IsCommand words (Verify part) → IsCommand words (Sample number budget) → ⊥
+verify_is_no_sample words part number budget p q = let e = one_command words (Verify part) (Sample number budget) p q in cc
+
 -- ---- numbers
 
 budget_bounds : (plain words : List Text) (n : ℕ) → SayPlain plain words n → (1 ≤ n) × (n ≤ MAX_BUDGET)
@@ -194,6 +257,9 @@ report_bounds words n (program, rest, e, says) = budget_bounds (codes "report" �
 
 pub certify_bounds : (words : List Text) (n : ℕ) → IsCommand words (Certify n) → (1 ≤ n) × (n ≤ MAX_BUDGET)
 certify_bounds words n (program, rest, e, says) = budget_bounds (codes "certify" ∷ []) rest n says
+
+pub prove_bounds : (words : List Text) (part : PartName) (n : ℕ) → IsCommand words (Prove part n) → (1 ≤ n) × (n ≤ MAX_BUDGET)
+prove_bounds words part n (program, rest, e, says) = budget_bounds (codes "prove" ∷ part_name part ∷ []) rest n says
 
 pub sample_bounds : (words : List Text) (k n : ℕ) → IsCommand words (Sample k n) → ((1 ≤ k) × (k ≤ MAX_SAMPLE)) × ((1 ≤ n) × (n ≤ MAX_BUDGET))
 sample_bounds words k n (program, rest, e, (text, writes, says)) = ((writes.least, writes.most), budget_bounds (codes "sample" ∷ text ∷ []) rest n says)

@@ -1,3 +1,4 @@
 pub mod Run
+pub mod Parts
 pub mod Words
 pub mod Inner

@@ -34,9 +34,12 @@ use Rattle.crn_render.specs.Length.{Has32Bits}
 use Rattle.crn_render.specs.Report.{render}
 use Rattle.crn_render.specs.Summary.{summary}
 use Rattle.crn_render.specs.Faults.{usage_line, fault_line, document_name}
+use Rattle.crn_reading.specs.Reads.{AwaitedIn, PullsAwaited}
+use Rattle.crn_run.specs.Parts.{IsLeftBy, IsProofOf, IsVerdictOf, IsPartRejectionOf, IsGoodOf, IsFaultyOf, course_of, subject_of}
 use Rattle.crn_run.specs.Words.{IsCommand, SayACommand}
 use Rattle.crn_run.specs.declared.words.Command.{Command}
-use Rattle.crn_run.specs.declared.words.Command.TheVariants.{Report, Certify, Check, Sample}
+use Rattle.crn_run.specs.declared.words.Command.TheVariants.{Report, Certify, Check, Sample, Prove, Verify}
+use Rattle.crn_run.specs.declared.words.PartName.{PartName}
 use Rattle.crn_run.specs.declared.status.Status.{Status}
 use Rattle.crn_run.specs.declared.status.Status.TheVariants.{Done, OpenLeft, Refused, Rejected, Usage, ReadFault, WriteFault, NoMemory}
 
@@ -59,9 +62,7 @@ pub record AreAnswersOf (budget : ℕ) (text : List ℕ) (net : Net) (answers : 
 
 -- none of the answers is open, if a run ends as Done, and some is, if it ends as OpenLeft
 abbrev pub AreLeftBy : Status → List Answer → Type 0
-AreLeftBy Done answers = HasOpen (verdicts_of answers) → ⊥
-AreLeftBy OpenLeft answers = HasOpen (verdicts_of answers)
-AreLeftBy status answers = ⊥
+AreLeftBy status answers = IsLeftBy (HasOpen (verdicts_of answers)) status
 
 -- ---- texts that are written
 
@@ -135,19 +136,31 @@ pub record IsRejectionOf (text out : List ℕ) : Type 0 where
   pub fault : IsFaultOf text line code
   pub written : out ≡ rejected_line code line
 
+-- what a command writes that reads a network text: the line of the text's fault if it is refused, and
+-- else this
+abbrev pub OrRefused : Status → (text out : List ℕ) → (said : Type 0) → Type 0
+OrRefused Refused text out said = IsRefusalOf text out
+OrRefused status text out said = said
+
+-- what a command writes that reads a document: this if it is good, and that if it is rejected
+abbrev pub OrRejected : Status → (good rejected : Type 0) → Type 0
+OrRejected Done good rejected = good
+OrRejected Rejected good rejected = rejected
+OrRejected status good rejected = ⊥
+
 -- what a command writes for a text, by the status that the run ends with; `sample` for any text
 abbrev pub IsOutput : Command → Status → (text out : List ℕ) → Type 0
-IsOutput (Report budget) Refused text out = IsRefusalOf text out
-IsOutput (Report budget) status text out = (answers : List Answer) × AreLeftBy status answers
-    × IsReportOf budget text out answers
-IsOutput (Certify budget) Refused text out = IsRefusalOf text out
-IsOutput (Certify budget) status text out = (answers : List Answer) × AreLeftBy status answers
-    × IsCertificateOf budget text out answers
+IsOutput (Report budget) status text out = OrRefused status text out
+    ((answers : List Answer) × AreLeftBy status answers × IsReportOf budget text out answers)
+IsOutput (Certify budget) status text out = OrRefused status text out
+    ((answers : List Answer) × AreLeftBy status answers × IsCertificateOf budget text out answers)
+IsOutput Check status text out = OrRejected status (IsCheckOf text out) (IsRejectionOf text out)
 IsOutput (Sample number budget) status text out = (answers : List Answer) × AreLeftBy status answers
     × IsSummaryOf number budget out answers
-IsOutput Check Done text out = IsCheckOf text out
-IsOutput Check Rejected text out = IsRejectionOf text out
-IsOutput Check status text out = ⊥
+IsOutput (Prove part budget) status text out =
+    OrRefused status text out (IsProofOf (subject_of part) budget status text out)
+IsOutput (Verify part) status text out =
+    OrRejected status (IsVerdictOf (subject_of part) text out) (IsPartRejectionOf (subject_of part) text out)
 
 -- what may be written for these words and this text
 abbrev pub IsAllowed : List (List ℕ) → (text out : List ℕ) → Type 0
@@ -182,10 +195,18 @@ most_read (Report budget) = MAX_TEXT + 1
 most_read (Certify budget) = MAX_TEXT + 1
 most_read Check = MAX_DOCUMENT + MAX_AHEAD
 most_read (Sample number budget) = 0
+most_read (Prove part budget) = MAX_TEXT + 1
+most_read (Verify part) = MAX_DOCUMENT + MAX_AHEAD
 
 -- the source was read as far as a document goes until its first fault shows
 abbrev pub IsReadToFault : Option (List ℕ) → Option (List ℕ) → Type 0
 IsReadToFault left rest = (bytes : List ℕ) × EndAtFault bytes × Consumes left bytes rest
+
+-- the source was read as far as a document of the part goes until its first fault shows: but for the
+-- bytes of one pull, the next of its lines was awaited
+abbrev pub IsReadToPartFault : PartName → Option (List ℕ) → Option (List ℕ) → Type 0
+IsReadToPartFault part left rest =
+    (bytes : List ℕ) × AwaitedIn (course_of (subject_of part)) bytes × Consumes left bytes rest
 
 -- how far the source was read, by the status that the run ends with: to its end, as far as a text
 -- goes, or as far as a document goes until its first fault shows
@@ -197,6 +218,7 @@ IsReadFor status left rest = IsReadOut left rest
 -- how far a command read the source, by the status that the run ends with: `sample` not at all
 abbrev pub IsReadBy : Command → Status → Option (List ℕ) → Option (List ℕ) → Type 0
 IsReadBy (Sample number budget) status left rest = rest ≡ left
+IsReadBy (Verify part) Rejected left rest = IsReadToPartFault part left rest
 IsReadBy command status left rest = IsReadFor status left rest
 
 -- no more was read than the command reads that the words say, so nothing if they say none
@@ -227,13 +249,15 @@ pub record EndsUsage (words : List (List ℕ)) (old new : Devices) : Type 0 wher
   pub sink : WroteAll usage_line old.sink new.sink
 
 -- the source's count of faults rose, and the sink is as before; what `check` read leaves open whether
--- and where there is a fault
+-- and where there is a fault, and after what `verify` read a line of the document was awaited
 pub record EndsReadFault (words : List (List ℕ)) (old new : Devices) : Type 0 where
   pub command : SayACommand words
   pub within : IsReadWithin words old.source.left new.source.left
   pub source : Rose old.source.faults new.source.faults
   pub later : old.source.faults ≤ new.source.faults
   pub undecided : IsCommand words Check → PullsWhileOpen old.source new.source
+  pub awaited : (part : PartName) → IsCommand words (Verify part)
+      → PullsAwaited (course_of (subject_of part)) old.source new.source
   pub sink : new.sink ≡ old.sink
 
 -- the source was read for what the command writes for its text, or the words are no command and
@@ -279,14 +303,25 @@ pub record HasNoFault (old new : Devices) : Type 0 where
 abbrev pub Shows : (List ℕ → Type 0) → Devices → Type 0
 Shows P old = (text : List ℕ) × (old.source.left ≡ Some text) × P text
 
+-- the command reads a network text
+abbrev pub ReadsNetwork : Command → Type 0
+ReadsNetwork (Report budget) = Unit {0}
+ReadsNetwork (Certify budget) = Unit {0}
+ReadsNetwork (Prove part budget) = Unit {0}
+ReadsNetwork command = ⊥
+
 -- the words say a command that reads a network text, and the source shows one with this property
 abbrev pub AskOfNetwork : (List ℕ → Type 0) → List (List ℕ) → Devices → Type 0
-AskOfNetwork P words old = (budget : ℕ)
-    × (IsCommand words (Report budget) ⊎ IsCommand words (Certify budget)) × Shows P old
+AskOfNetwork P words old = (command : Command) × ReadsNetwork command × IsCommand words command
+    × Shows P old
 
 -- the words say `check`, and the source shows a document with this property
 abbrev pub AskOfDocument : (List ℕ → Type 0) → List (List ℕ) → Devices → Type 0
 AskOfDocument P words old = IsCommand words Check × Shows P old
+
+-- the words say `verify` with a part, and the source shows a text with this property for the part
+abbrev pub AskOfPart : (PartName → List ℕ → Type 0) → List (List ℕ) → Devices → Type 0
+AskOfPart P words old = (part : PartName) × IsCommand words (Verify part) × Shows (P part) old
 
 -- the words say `sample`
 abbrev pub AskOfSample : List (List ℕ) → Type 0
@@ -313,6 +348,10 @@ pub record IsComplete (status : Status) (words : List (List ℕ)) (old new : Dev
   pub accepted : HasNoFault old new → AskOfDocument IsGood words old
       → (status ≡ Done) ⊎ (status ≡ NoMemory)
   pub rejected : HasNoFault old new → AskOfDocument IsFaultyDocument words old
+      → (status ≡ Rejected) ⊎ (status ≡ NoMemory)
+  pub verified : HasNoFault old new → AskOfPart IsGoodOf words old
+      → (status ≡ Done) ⊎ (status ≡ NoMemory)
+  pub unverified : HasNoFault old new → AskOfPart IsFaultyOf words old
       → (status ≡ Rejected) ⊎ (status ≡ NoMemory)
   pub sampled : HasNoFault old new → AskOfSample words
       → (status ≡ Done) ⊎ (status ≡ OpenLeft) ⊎ (status ≡ NoMemory)

@@ -5,7 +5,9 @@ use Rattle.std.specs.Str.Parse.{IsNumeral, digits_value}
 use Rattle.crn_vec.specs.declared.limits.TheConstants.{MAX_BUDGET, MAX_BUDGET_DIGITS, DEFAULT_BUDGET}
 use Rattle.crn_sample.specs.declared.limits.TheConstants.{MAX_SAMPLE, MAX_SAMPLE_DIGITS}
 use Rattle.crn_run.specs.declared.words.Command.{Command}
-use Rattle.crn_run.specs.declared.words.Command.TheVariants.{Report, Certify, Check, Sample}
+use Rattle.crn_run.specs.declared.words.Command.TheVariants.{Report, Certify, Check, Sample, Prove, Verify}
+use Rattle.crn_run.specs.declared.words.PartName.{PartName}
+use Rattle.crn_run.specs.declared.words.PartName.TheVariants.{Persist}
 
 -- the text is this many digits at most, without a sign, and writes a number from 1 to the greatest
 pub record IsNumberWithin (most_digits greatest : ℕ) (text : List ℕ) (number : ℕ) : Type 0 where
@@ -41,6 +43,10 @@ abbrev pub SayPlain : List (List ℕ) → List (List ℕ) → ℕ → Type 0
 SayPlain plain words budget = ((words ≡ plain) × (budget ≡ DEFAULT_BUDGET))
     ⊎ ((n : List ℕ) × IsBudget n budget × AreWithBudget plain n words)
 
+-- the name of a part that is built
+abbrev pub part_name : PartName → List ℕ
+part_name Persist = codes "persist"
+
 -- the words after the program's name say the command
 abbrev pub Say : List (List ℕ) → Command → Type 0
 Say words (Report budget) = SayPlain (codes "report" ∷ []) words budget
@@ -48,6 +54,8 @@ Say words (Certify budget) = SayPlain (codes "certify" ∷ []) words budget
 Say words Check = words ≡ codes "check" ∷ []
 Say words (Sample number budget) = (k : List ℕ) × IsSampleNumber k number
     × SayPlain (codes "sample" ∷ k ∷ []) words budget
+Say words (Prove part budget) = SayPlain (codes "prove" ∷ part_name part ∷ []) words budget
+Say words (Verify part) = words ≡ codes "verify" ∷ part_name part ∷ []
 
 -- the words of a command line say the command
 abbrev pub IsCommand : List (List ℕ) → Command → Type 0

@@ -3,7 +3,8 @@ ghost use Rattle.crn_io.specs.declared.lines.TheConstants.{MAX_DOCUMENT};
 ghost use Rattle.crn_run.specs.Run.{Devices, IsAllowed, IsQuiet, IsRefusalOf, IsRejectionOf, RunGives};
 ghost use Rattle.crn_run.specs.Words.{IsCommand, SayACommand};
 ghost use Rattle.crn_run.specs.declared.words.Command.{Command};
-ghost use Rattle.crn_run.specs.declared.words.Command.TheVariants.{Check};
+ghost use Rattle.crn_run.specs.declared.words.Command.TheVariants.{Check, Verify};
+ghost use Rattle.crn_run.specs.declared.words.PartName.{PartName};
 ghost use Rattle.crn_run.specs.declared.status.Status.{Status};
 ghost use Rattle.crn_run.specs.declared.status.Status.TheVariants.{ReadFault, WriteFault};
 
@@ -14,7 +15,7 @@ pub fn words_say_one_command()
 {}
 
 /// What may be written is one text if the words say no command, for a text that is refused or rejected, and
-/// for each document that is checked.
+/// for each document that is checked or verified.
 pub fn what_may_be_written_is_one_text()
     ensures usage { (words : List (List ℕ)) (text out other : List ℕ) →
         (SayACommand words → ⊥) → IsAllowed words text out → IsAllowed words text other →
@@ -25,6 +26,9 @@ pub fn what_may_be_written_is_one_text()
         IsRejectionOf text out → IsRejectionOf text other → out ≡ other }
     ensures checked { (words : List (List ℕ)) (text out other : List ℕ) →
         IsCommand words Check → IsAllowed words text out → IsAllowed words text other →
+        out ≡ other }
+    ensures verified { (words : List (List ℕ)) (part : PartName) (text out other : List ℕ) →
+        IsCommand words (Verify part) → IsAllowed words text out → IsAllowed words text other →
         out ≡ other }
 {}
 

@@ -4,6 +4,7 @@
 mod laws;
 mod network;
 mod output;
+mod parts;
 mod runner;
 mod status;
 mod summary;
@@ -17,4 +18,4 @@ pub use laws::{
 };
 pub use runner::run;
 pub use status::Status;
-pub use words::{Command, command_of};
+pub use words::{Command, PartName, command_of};

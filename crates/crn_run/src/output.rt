@@ -18,14 +18,15 @@ ghost use Rattle.crn_render.specs.Faults.{IsDocumentCode, usage_line};
 ghost use Rattle.crn_render.specs.Length.{Has32Bits};
 ghost use Rattle.crn_render.specs.Report.{render};
 ghost use Rattle.crn_run.specs.Run.{AreLeftBy, HasOpen, certificate, refused_line, rejected_line};
-ghost use Rattle.crn_run.specs.Inner.Steps.{LineGives, NetworkGives};
+ghost use Rattle.crn_run.specs.Parts.{IsLeftBy};
+ghost use Rattle.crn_run.specs.Inner.Steps.{DocumentStopGives, HasNamedCode, LineGives, NetworkGives};
 ghost use Rattle.crn_run.specs.declared.words.Command.TheVariants.{Report, Certify};
 ghost use Rattle.crn_run.specs.declared.status.Status.TheVariants.{Done, Refused, Rejected, Usage};
 
 use crate::status::Status;
 use crn_cert::{Answers, Verdict, Verdicts, share_of};
 use crn_ctext::{shares_are_of_records, write_document2, written_documents_are_good};
-use crn_document::Accepted;
+use crn_document::{Accepted, CheckStop};
 use crn_io::Sink;
 use crn_net::Network;
 use crn_render::{Printed, write_fault, write_report};
@@ -66,6 +67,18 @@ pub(crate) fn reject<K: Sink>(code: u32, line: u32, sink: &mut K) -> Status
     match write_fault(&Printed::Rejected { code, line }, sink) {
         Ok(()) => Status::Rejected,
         Err(_) => Status::WriteFault,
+    }
+}
+
+/// Ends a run that read no document: it writes why it is rejected, if it is. Takes no memory.
+pub(crate) fn end_without_document<K: Sink>(stop: CheckStop, sink: &mut K) -> Status
+    requires { HasNamedCode stop }
+    ensures { DocumentStopGives stop result (K.seen sink.old) (K.seen sink.new) }
+{
+    match stop {
+        CheckStop::Rejected { code, line } => reject(code, line, sink),
+        CheckStop::Failed => Status::ReadFault,
+        CheckStop::NoMemory => Status::NoMemory,
     }
 }
 
@@ -112,10 +125,9 @@ fn some_open(verdicts: &Verdicts) -> bool
     false
 }
 
-// The status of a run that wrote answers, by whether some of them is open.
-fn status_by(is_left: bool) -> Status
-    ensures { (answers : List Answer) → (IsTrue is_left ↔ HasOpen (verdicts_of answers)) →
-        AreLeftBy result answers }
+/// The status of a run that wrote answers, by whether some of them is open.
+pub(crate) fn status_by(is_left: bool) -> Status
+    ensures { IsLeftBy (IsTrue is_left) result }
 {
     if is_left {
         Status::OpenLeft

@@ -4,13 +4,13 @@ ghost use Rattle.crn_io.specs.Device.{SinkSeen};
 ghost use Rattle.crn_run.specs.Inner.Steps.{StopGives};
 ghost use Rattle.crn_run.specs.Run.{IsComplete, RunGives};
 ghost use Rattle.crn_run.specs.Words.{IsCommand, SayACommand};
-ghost use Rattle.crn_run.specs.declared.words.Command.TheVariants.{Report, Certify, Check, Sample};
+ghost use Rattle.crn_run.specs.declared.words.Command.TheVariants.{Report, Certify, Check, Sample, Prove};
 
 use crate::network::{Stop, read_network};
-use crate::output;
 use crate::status::Status;
 use crate::summary::summarize_sample;
-use crate::words::{Command, command_of};
+use crate::words::{Command, PartName, command_of};
+use crate::{output, parts};
 use crn_ctext::{answers_are_as_their_records, good_documents_are_read};
 use crn_document::{CheckStop, check_document};
 use crn_io::{Sink, Source};
@@ -42,6 +42,8 @@ pub fn run<S: Source, K: Sink>(
         Ok(Some(Command::Sample { number, budget })) => {
             summarize_sample(alloc, number, budget, sink)
         }
+        Ok(Some(Command::Prove { part, budget })) => prove(alloc, part, budget, source, sink),
+        Ok(Some(Command::Verify { part })) => parts::verify(alloc, part, source, sink),
         Ok(None) => output::usage(sink),
         Err(_) => Status::NoMemory,
     }
@@ -82,6 +84,26 @@ fn certify<S: Source, K: Sink>(alloc: Global, budget: u32, source: &mut S, sink:
 {
     match read_network(alloc, source) {
         Ok(net) => output::certify(alloc, &net, budget, sink),
+        Err(stop) => end_without_network(stop, sink),
+    }
+}
+
+// Reads a network text, and writes a document of a part on it or why it is refused.
+fn prove<S: Source, K: Sink>(
+    alloc: Global,
+    part: PartName,
+    budget: u32,
+    source: &mut S,
+    sink: &mut K,
+) -> Status
+    requires some { 1 ≤ budget }
+    requires most { budget ≤ MAX_BUDGET }
+    ensures { (words : List (List ℕ)) → IsCommand words (Prove part budget) → RunGives result words
+        (record { source = S.seen source.old; sink = K.seen sink.old })
+        (record { source = S.seen source.new; sink = K.seen sink.new }) }
+{
+    match read_network(alloc, source) {
+        Ok(net) => parts::prove(alloc, part, &net, budget, sink),
         Err(stop) => end_without_network(stop, sink),
     }
 }

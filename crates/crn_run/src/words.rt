@@ -2,14 +2,22 @@ ghost use Rattle.std.specs.Prelude.{◌≡◌, ℕ, List, IfOk, MatchOption, Non
 ghost use Rattle.std.specs.List.{list_any};
 ghost use Rattle.clap.specs.Words.{app_of};
 ghost use Rattle.crn_run.specs.Inner.Parse.{IsRead, Gives, Means, MeansBudget, crnt_app, is_two_dashes, text_in};
-ghost use Rattle.crn_run.specs.Words.{IsCommand, IsNumberWithin};
+ghost use Rattle.crn_run.specs.Words.{IsCommand, IsNumberWithin, part_name};
 ghost use Rattle.crn_run.specs.declared.words.Command.{Command};
+ghost use Rattle.crn_run.specs.declared.words.PartName.{PartName};
 
 use clap::error::ErrorKind;
 use clap::{Arg, ArgAction};
 use crn_sample::{MAX_SAMPLE, MAX_SAMPLE_DIGITS};
 use crn_vec::{DEFAULT_BUDGET, MAX_BUDGET, MAX_BUDGET_DIGITS, NoMemory};
 use std::alloc::Global;
+
+/// A part that is built: a question with documents of its own.
+#[derive(Clone, Copy, Debug, PartialEq, Eq)]
+pub enum PartName {
+    /// Whether each siphon contains the species of a conservation law.
+    Persist,
+}
 
 /// What the words of a command line ask for.
 ///
@@ -20,12 +28,14 @@ pub enum Command {
     Certify { budget: u32 },
     Check,
     Sample { number: u32, budget: u32 },
+    Prove { part: PartName, budget: u32 },
+    Verify { part: PartName },
 }
 
 /// The command that the words say, or none if they say none. Takes memory.
 ///
 /// The words begin with the program's name. They are read with clap, as a positional `command`, a
-/// positional `count` that may be left out, and an option `--budget`. A word `--` is in no command.
+/// positional `count` that may be left out and is also the name of a part, and an option `--budget`. A word `--` is in no command.
 pub fn command_of(alloc: Global, words: &[String]) -> Result<Option<Command>, NoMemory>
     ensures { let said = map string_bytes words.now in IfOk result (λ found.
         MatchOption found ((c : Command) → IsCommand said c → ⊥) (λ c. IsCommand said c)) }
@@ -146,6 +156,26 @@ fn counted_meant(command: Option<&str>, count: &str, budget: Option<&str>) -> Op
             let budget = budget_meant(budget)?;
             Some(Command::Sample { number, budget })
         }
+        Some("prove") => {
+            let part = part_meant(count)?;
+            let budget = budget_meant(budget)?;
+            Some(Command::Prove { part, budget })
+        }
+        Some("verify") if budget.is_none() => {
+            let part = part_meant(count)?;
+            Some(Command::Verify { part })
+        }
+        _ => None,
+    }
+}
+
+// The part that has this name.
+fn part_meant(name: &str) -> Option<PartName>
+    ensures { MatchOption result
+        ((part : PartName) → name.now ≡ part_name part → ⊥) (λ part. name.now ≡ part_name part) }
+{
+    match name {
+        "persist" => Some(PartName::Persist),
         _ => None,
     }
 }

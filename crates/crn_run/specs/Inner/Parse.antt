@@ -7,11 +7,13 @@ use Rattle.std.specs.Borrow.{Bor}
 use Rattle.clap.specs.Words.{App, fault_of, first_of, matches_of, new_app, new_rule, with_rule}
 use Rattle.clap.specs.declared.builder.action.ArgAction.TheVariants.{Set}
 use Rattle.crn_vec.specs.declared.limits.TheConstants.{DEFAULT_BUDGET}
-use Rattle.crn_run.specs.Words.{IsBudget, IsSampleNumber}
+use Rattle.crn_run.specs.Words.{IsBudget, IsSampleNumber, part_name}
 use Rattle.crn_run.specs.declared.words.Command.{Command}
-use Rattle.crn_run.specs.declared.words.Command.TheVariants.{Report, Certify, Check, Sample}
+use Rattle.crn_run.specs.declared.words.Command.TheVariants.{Report, Certify, Check, Sample, Prove, Verify}
+use Rattle.crn_run.specs.declared.words.PartName.{PartName}
 
--- the one command that clap reads: a positional `command` that is required, a positional `count`, and an option `--budget`
+-- the one command that clap reads: a positional `command` that is required, a positional `count`, which is also the name of a part, and
+-- an option `--budget`
 unfoldable pub crnt_app : App
 crnt_app =
     with_rule (with_rule (with_rule (new_app (codes "crnt"))
@@ -47,6 +49,11 @@ abbrev pub MeansNumber : Option (List ℕ) → ℕ → Type 0
 MeansNumber None number = ⊥
 MeansNumber (Some text) number = IsSampleNumber text number
 
+-- the part that a word names
+abbrev pub MeansPart : Option (List ℕ) → PartName → Type 0
+MeansPart None part = ⊥
+MeansPart (Some text) part = text ≡ part_name part
+
 -- the values are this name, no count, and a word that writes this budget, or none for the default
 abbrev pub MeansName : List ℕ → Option (List ℕ) → Option (List ℕ) → Option (List ℕ) → ℕ → Type 0
 MeansName name command count word budget = (command ≡ Some name) × (count ≡ None)
@@ -59,3 +66,7 @@ Means command count word (Certify budget) = MeansName (codes "certify") command 
 Means command count word Check = (command ≡ Some (codes "check")) × (count ≡ None) × (word ≡ None)
 Means command count word (Sample number budget) = (command ≡ Some (codes "sample"))
     × MeansNumber count number × MeansBudget word budget
+Means command count word (Prove part budget) = (command ≡ Some (codes "prove"))
+    × MeansPart count part × MeansBudget word budget
+Means command count word (Verify part) = (command ≡ Some (codes "verify"))
+    × MeansPart count part × (word ≡ None)

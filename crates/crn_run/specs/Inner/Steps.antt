@@ -1,16 +1,18 @@
 -- For the contracts of private functions alone.
 -- What the parts of a run do to a sink, by the status that they end with.
-use Rattle.std.specs.Prelude.{◌≡◌, ◌⊎◌, ◌≤◌, ℕ, List}
+use Rattle.std.specs.Prelude.{◌≡◌, ◌⊎◌, ℕ, List}
 use Rattle.crn_vec.specs.Network.{Net}
-use Rattle.crn_vec.specs.declared.limits.TheConstants.{MAX_BUDGET}
 use Rattle.crn_io.specs.Device.{SinkSeen}
 use Rattle.crn_io.specs.Write.{WroteAll, WrotePrefix}
 use Rattle.crn_text.specs.Spells.{Spells}
-use Rattle.crn_run.specs.Run.{IsOutput, refused_line}
+use Rattle.crn_render.specs.Faults.{IsDocumentCode}
+use Rattle.crn_render.specs.Length.{Has32Bits}
+use Rattle.crn_reading.specs.declared.fault.CheckStop.{CheckStop}
+use Rattle.crn_reading.specs.declared.fault.CheckStop.TheVariants as document
+use Rattle.crn_run.specs.Run.{IsOutput, refused_line, rejected_line}
 use Rattle.crn_run.specs.declared.words.Command.{Command}
-use Rattle.crn_run.specs.declared.words.Command.TheVariants.{Report, Certify, Check, Sample}
 use Rattle.crn_run.specs.declared.status.Status.{Status}
-use Rattle.crn_run.specs.declared.status.Status.TheVariants.{Refused, ReadFault, WriteFault}
+use Rattle.crn_run.specs.declared.status.Status.TheVariants.{Refused, Rejected, ReadFault, WriteFault}
 use Rattle.crn_run.specs.declared.status.Status.TheVariants as status_is
 use Rattle.crn_run.specs.declared.network.Stop.{Stop}
 use Rattle.crn_run.specs.declared.network.Stop.TheVariants.{Fault, Failed, NoMemory}
@@ -35,15 +37,20 @@ abbrev pub NetworkGives : Command → Status → Net → SinkSeen → SinkSeen �
 NetworkGives command status net old new =
     (text : List ℕ) → Spells text net → OutputGives command status text old new
 
--- the command reads a network text
-abbrev pub ReadsNetwork : Command → Type 0
-ReadsNetwork (Report budget) = (1 ≤ budget) × (budget ≤ MAX_BUDGET)
-ReadsNetwork (Certify budget) = (1 ≤ budget) × (budget ≤ MAX_BUDGET)
-ReadsNetwork Check = ⊥
-ReadsNetwork (Sample number budget) = ⊥
-
 -- ending a run that read no network
 abbrev pub StopGives : Stop → Status → SinkSeen → SinkSeen → Type 0
 StopGives (Fault code line) status old new = LineGives Refused status (refused_line code line) old new
 StopGives Failed status old new = (status ≡ ReadFault) × (new ≡ old)
 StopGives NoMemory status old new = HasNoMemory status old new
+
+-- ending a run that read no document
+abbrev pub DocumentStopGives : CheckStop → Status → SinkSeen → SinkSeen → Type 0
+DocumentStopGives (document.Rejected code line) status old new = Has32Bits line × Has32Bits code
+    × LineGives Rejected status (rejected_line code line) old new
+DocumentStopGives document.Failed status old new = (status ≡ ReadFault) × (new ≡ old)
+DocumentStopGives document.NoMemory status old new = HasNoMemory status old new
+
+-- a rejection has a code with a name
+abbrev pub HasNamedCode : CheckStop → Type 0
+HasNamedCode (document.Rejected code line) = IsDocumentCode code
+HasNamedCode stop = Unit {0}

@@ -1,4 +1,4 @@
-use Rattle.crn_run.proofs.Complete.{one_usage, one_refusal, one_rejection, one_checked}
+use Rattle.crn_run.proofs.Complete.{one_usage, one_refusal, one_rejection, one_checked, one_verified}
 use Rattle.crn_run.proofs.laws.what_may_be_written_is_one_text.Goals as goal
 
 pub returns-clause-usage : goal.returns-clause-usage
@@ -12,3 +12,6 @@ returns-clause-rejected c = one_rejection
 
 pub returns-clause-checked : goal.returns-clause-checked
 returns-clause-checked c = one_checked
+
+pub returns-clause-verified : goal.returns-clause-verified
+returns-clause-verified c = one_verified

@@ -3,7 +3,7 @@ use Rattle.crn_run.proofs.Runs.{read_ends, stop_ends}
 use Rattle.crn_run.proofs.runner.report.Goals as goal
 
 pub returns-in-Ok : goal.returns-in-Ok
-returns-in-Ok g c = λ words said. read_ends c.in-Ok.net (Report c.args.budget) c.report.result words _ _ (c.requires.some, c.requires.most) said c.in-Ok.ensures c.report.ensures
+returns-in-Ok g c = λ words said. read_ends c.in-Ok.net (Report c.args.budget) c.report.result words _ _ tt said c.in-Ok.ensures c.report.ensures
 
 pub returns-in-Err : goal.returns-in-Err
-returns-in-Err g c = λ words said. stop_ends c.in-Err.stop (Report c.args.budget) c.end_without_network.result words _ _ (c.requires.some, c.requires.most) said c.in-Err.ensures c.end_without_network.ensures
+returns-in-Err g c = λ words said. stop_ends c.in-Err.stop (Report c.args.budget) c.end_without_network.result words _ _ tt said c.in-Err.ensures c.end_without_network.ensures

@@ -1,7 +1,7 @@
 use Rattle.std.proofs.Common.{refl}
 use Rattle.crn_run.proofs.Runs.{sample_ends, usage_ends}
 use Rattle.crn_run.proofs.Complete.{run_complete}
-use Rattle.crn_run.proofs.WordsSaid.{certify_is_no_sample, check_is_no_sample, report_is_no_sample}
+use Rattle.crn_run.proofs.WordsSaid.{certify_is_no_sample, check_is_no_sample, prove_is_no_sample, report_is_no_sample, verify_is_no_sample}
 use Rattle.crn_run.proofs.runner.run.Goals as goal
 
 pub returns-in-Ok-Some-Report-clause-complete : goal.returns-in-Ok-Some-Report-clause-complete
@@ -54,3 +54,23 @@ pub returns-in-Ok-Some-Sample-clause-complete : goal.returns-in-Ok-Some-Sample-c
 returns-in-Ok-Some-Sample-clause-complete g c =
     let said = rw (c.in-Ok-Some-Sample.field-0-is, c.in-Ok-Some-Sample.field-0-0-is) at c.in-Ok-Some-Sample.ensures in
     run_complete c.summarize_sample.result _ _ _ (sample_ends _ _ c.summarize_sample.result _ _ _ said refl c.summarize_sample.ensures)
+
+pub returns-in-Ok-Some-Prove-clause-complete : goal.returns-in-Ok-Some-Prove-clause-complete
+returns-in-Ok-Some-Prove-clause-complete g c =
+    let said = rw (c.in-Ok-Some-Prove.field-0-is, c.in-Ok-Some-Prove.field-0-0-is) at c.in-Ok-Some-Prove.ensures in
+    run_complete c.prove.result _ _ _ (c.prove.ensures _ said)
+
+pub returns-in-Ok-Some-Prove-clause-untouched : goal.returns-in-Ok-Some-Prove-clause-untouched
+returns-in-Ok-Some-Prove-clause-untouched g c = λ number budget is.
+    let said = rw (c.in-Ok-Some-Prove.field-0-is, c.in-Ok-Some-Prove.field-0-0-is) at c.in-Ok-Some-Prove.ensures in
+    absurd (prove_is_no_sample _ _ _ number budget said is)
+
+pub returns-in-Ok-Some-Verify-clause-complete : goal.returns-in-Ok-Some-Verify-clause-complete
+returns-in-Ok-Some-Verify-clause-complete g c =
+    let said = rw (c.in-Ok-Some-Verify.field-0-is, c.in-Ok-Some-Verify.field-0-0-is) at c.in-Ok-Some-Verify.ensures in
+    run_complete c.verify.result _ _ _ (c.verify.ensures _ said)
+
+pub returns-in-Ok-Some-Verify-clause-untouched : goal.returns-in-Ok-Some-Verify-clause-untouched
+returns-in-Ok-Some-Verify-clause-untouched g c = λ number budget is.
+    let said = rw (c.in-Ok-Some-Verify.field-0-is, c.in-Ok-Some-Verify.field-0-0-is) at c.in-Ok-Some-Verify.ensures in
+    absurd (verify_is_no_sample _ _ number budget said is)

@@ -1,0 +1,103 @@
+-- The parts: what `prove` writes of one, and what `verify` says of its documents.
+-- Source: this project's own; Angeli, De Leenheer and Sontag (2007) for the part `persist`.
+-- Shapes: texts are lists of bytes; lines of a text count from 1.
+use Rattle.std.specs.Prelude.{◌≡◌, ℕ, List, codes}
+use Rattle.crn_vec.specs.Network.{Net}
+use Rattle.crn_text.specs.Spells.{Spells}
+use Rattle.crn_render.specs.Faults.{fault_line, document_name}
+use Rattle.crn_render.specs.Length.{Has32Bits}
+use Rattle.crn_ctext.specs.Course.{Course}
+use Rattle.crn_ctext.specs.Parts.{Part, Meant, IsPartDocument, IsPartFault, IsPartGood, part_course}
+use Rattle.crn_siphon_check.specs.Answers.{Said as SaidOnPersistence, IsAnswer as IsAnswerOnPersistence, IsTrueOf as IsTrueOnPersistence}
+use Rattle.crn_siphon_check.specs.declared.answer.Outcome.{Outcome}
+use Rattle.crn_siphon_check.specs.declared.answer.Outcome.TheVariants.{Yes, No, Undecided}
+use Rattle.crn_siphon_text.specs.Document.{part as persist_part, meant as persist_meant}
+use Rattle.crn_run.specs.declared.words.PartName.{PartName}
+use Rattle.crn_run.specs.declared.words.PartName.TheVariants.{Persist}
+use Rattle.crn_run.specs.declared.status.Status.{Status}
+use Rattle.crn_run.specs.declared.status.Status.TheVariants.{Done, OpenLeft}
+
+-- ---- what a part is about
+
+-- What a part is about: its documents and the answers that they are of; the answers that may be given
+-- with a budget, and those that are true of a network; whether what is read of an answer is open,
+-- and the line that says it of the network.
+pub record Subject : Type 1 where
+  pub Answer : Type 0
+  pub Read : Type 0
+  pub part : Part Read
+  pub meant : Meant Answer Read
+  pub IsAnswer : Net → (budget : ℕ) → Answer → Type 0
+  pub IsTrueOf : Net → Answer → Type 0
+  pub IsOpen : Read → Type 0
+  pub verdict : Net → Read → List ℕ
+
+-- the line of a verdict on persistence
+abbrev pub persist_verdict : Outcome → List ℕ
+persist_verdict Yes = codes "persist: yes\n"
+persist_verdict No = codes "persist: no\n"
+persist_verdict Undecided = codes "persist: open\n"
+
+-- what each part is about
+abbrev pub subject_of : PartName → Subject
+subject_of Persist = record {
+  Answer = SaidOnPersistence;
+  Read = Outcome;
+  part = persist_part;
+  meant = persist_meant;
+  IsAnswer = IsAnswerOnPersistence;
+  IsTrueOf = IsTrueOnPersistence;
+  IsOpen = λ outcome. outcome ≡ Undecided;
+  verdict = λ net outcome. persist_verdict outcome;
+}
+
+-- ---- what is written
+
+-- a run ends as OpenLeft if this is open, and as Done if it is not
+abbrev pub IsLeftBy : (open_is : Type 0) → Status → Type 0
+IsLeftBy open_is Done = open_is → ⊥
+IsLeftBy open_is OpenLeft = open_is
+IsLeftBy open_is status = ⊥
+
+-- the text spells the network, and this is the part's document of it and of an answer that may be
+-- given with this budget; the run ends by whether it is open
+pub record IsProofOf (subject : Subject) (budget : ℕ) (status : Status) (text out : List ℕ)
+    : Type 0 where
+  pub net : Net
+  pub answer : subject.Answer
+  pub spells : Spells text net
+  pub is : subject.IsAnswer net budget answer
+  pub left : IsLeftBy (subject.IsOpen (subject.meant.says answer)) status
+  pub document : IsPartDocument subject.part subject.meant net answer out
+
+-- the text is the part's document of a network and of an answer that is true of it or open, and this
+-- the line that says what is read of it
+pub record IsVerdictOf (subject : Subject) (text out : List ℕ) : Type 0 where
+  pub net : Net
+  pub answer : subject.Answer
+  pub document : IsPartDocument subject.part subject.meant net answer text
+  pub true_of : subject.IsTrueOf net answer
+  pub written : out ≡ subject.verdict net (subject.meant.says answer)
+
+-- the line that says the first fault of a text as a document of the part, whose line and code have 32
+-- bits
+pub record IsPartRejectionOf (subject : Subject) (text out : List ℕ) : Type 0 where
+  pub line : ℕ
+  pub code : ℕ
+  pub short : Has32Bits line × Has32Bits code
+  pub fault : IsPartFault subject.part text line code
+  pub written : out ≡ fault_line (codes "rejected") code (document_name code) line
+
+-- ---- documents of a part
+
+-- the course of its documents
+abbrev pub course_of : (subject : Subject) → Course (Net × subject.Read)
+course_of subject = part_course subject.part
+
+-- the text is a document of the part
+abbrev pub IsGoodOf : PartName → List ℕ → Type 0
+IsGoodOf part text = IsPartGood (subject_of part).part (subject_of part).meant text
+
+-- the text has a fault as one
+abbrev pub IsFaultyOf : PartName → List ℕ → Type 0
+IsFaultyOf part text = (line : ℕ) × (code : ℕ) × IsPartFault (subject_of part).part text line code
