@@ -105,8 +105,8 @@ summary_broken number budget whole text net answers verdicts old new e a left w 
 proof_is_output : (part : PartName) (budget : ℕ) (whole : Status) (text out : List ℕ) → IsProofOf (subject_of part) budget whole text out → IsOutput (Prove part budget) whole text out
 proof_is_output part budget whole text out p =
     by_left ((subject_of part).IsOpen ((subject_of part).meant.says p.answer)) (λ s. IsOutput (Prove part budget) s text out) whole p.left
-    (λ l. record { net = p.net; answer = p.answer; spells = p.spells; is = p.is; left = l; document = p.document })
-    (λ l. record { net = p.net; answer = p.answer; spells = p.spells; is = p.is; left = l; document = p.document })
+    (λ l. record { net = p.net; answer = p.answer; spells = p.spells; true_of = p.true_of; licensed = p.licensed; left = l; document = p.document })
+    (λ l. record { net = p.net; answer = p.answer; spells = p.spells; true_of = p.true_of; licensed = p.licensed; left = l; document = p.document })
 
 pub proof_gives : (part : PartName) (budget : ℕ) (whole : Status) (text out : List ℕ) (old new : SinkSeen) → IsProofOf (subject_of part) budget whole text out → WroteAll out old new → OutputGives (Prove part budget) whole text old new
 proof_gives part budget whole text out old new p w =

@@ -40,7 +40,8 @@ proof_of budget Open status text net answer most spells is written there back le
       net = net;
       answer = answer;
       spells = spells;
-      is = is;
+      true_of = is.true_of;
+      licensed = is.licensed;
       left = left_as Open (outcome_of answer ≡ Undecided) status there back left;
       document = written net answer network formed valid few;
     }

@@ -8,7 +8,7 @@ use Rattle.crn_render.specs.Faults.{fault_line, document_name}
 use Rattle.crn_render.specs.Length.{Has32Bits}
 use Rattle.crn_ctext.specs.Course.{Course}
 use Rattle.crn_ctext.specs.Parts.{Part, Meant, IsPartDocument, IsPartFault, IsPartGood, part_course}
-use Rattle.crn_siphon_check.specs.Answers.{Said as SaidOnPersistence, IsAnswer as IsAnswerOnPersistence, IsTrueOf as IsTrueOnPersistence}
+use Rattle.crn_siphon_check.specs.Answers.{Said as SaidOnPersistence, IsTrueOf as IsTrueOnPersistence, IsLicensed as IsLicensedOnPersistence}
 use Rattle.crn_siphon_check.specs.declared.answer.Outcome.{Outcome}
 use Rattle.crn_siphon_check.specs.declared.answer.Outcome.TheVariants.{Yes, No, Undecided}
 use Rattle.crn_siphon_text.specs.Document.{part as persist_part, meant as persist_meant}
@@ -19,16 +19,16 @@ use Rattle.crn_run.specs.declared.status.Status.TheVariants.{Done, OpenLeft}
 
 -- ---- what a part is about
 
--- What a part is about: its documents and the answers that they are of; the answers that may be given
--- with a budget, and those that are true of a network; whether what is read of an answer is open,
--- and the line that says it of the network.
+-- What a part is about: its documents and the answers that they are of; the answers that are true of a
+-- network, and those that a budget allows; whether what is read of an answer is open, and the line
+-- that says it of the network.
 pub record Subject : Type 1 where
   pub Answer : Type 0
   pub Read : Type 0
   pub part : Part Read
   pub meant : Meant Answer Read
-  pub IsAnswer : Net → (budget : ℕ) → Answer → Type 0
   pub IsTrueOf : Net → Answer → Type 0
+  pub IsLicensed : Net → (budget : ℕ) → Answer → Type 0
   pub IsOpen : Read → Type 0
   pub verdict : Net → Read → List ℕ
 
@@ -45,8 +45,8 @@ subject_of Persist = record {
   Read = Outcome;
   part = persist_part;
   meant = persist_meant;
-  IsAnswer = IsAnswerOnPersistence;
   IsTrueOf = IsTrueOnPersistence;
+  IsLicensed = IsLicensedOnPersistence;
   IsOpen = λ outcome. outcome ≡ Undecided;
   verdict = λ net outcome. persist_verdict outcome;
 }
@@ -59,14 +59,15 @@ IsLeftBy open_is Done = open_is → ⊥
 IsLeftBy open_is OpenLeft = open_is
 IsLeftBy open_is status = ⊥
 
--- the text spells the network, and this is the part's document of it and of an answer that may be
--- given with this budget; the run ends by whether it is open
+-- the text spells the network, and this is the part's document of it and of an answer that is true of
+-- it or open, and that this budget allows; the run ends by whether it is open
 pub record IsProofOf (subject : Subject) (budget : ℕ) (status : Status) (text out : List ℕ)
     : Type 0 where
   pub net : Net
   pub answer : subject.Answer
   pub spells : Spells text net
-  pub is : subject.IsAnswer net budget answer
+  pub true_of : subject.IsTrueOf net answer
+  pub licensed : subject.IsLicensed net budget answer
   pub left : IsLeftBy (subject.IsOpen (subject.meant.says answer)) status
   pub document : IsPartDocument subject.part subject.meant net answer out
 
