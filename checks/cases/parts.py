@@ -126,7 +126,7 @@ def tries(program):
         yield f"what {line} writes on {text} is verified", *ends_so(program, "verify persist", out, DONE, VERDICTS_OF[want])
     # which numbers cover the siphon is free, if the second is greater
     status, out, err = run(program, ["prove", "persist"], "2A <-> A + B")
-    found = re.fullmatch(NO.replace("mult 0 1", r"mult (-?\d+) (-?\d+)").replace("+", r"\+"), out.decode("ascii"))
+    found = re.fullmatch(NO.replace("+", r"\+").replace("mult 0 1", r"mult (-?\d+) (-?\d+)"), out.decode("ascii"))
     yield "2A <-> A + B has a covered siphon", status == DONE and found and int(found[1]) < int(found[2]), (status, out)
     for line in LITTLE:
         yield line, *ends_so(program, line, "A <-> B", OPEN_LEFT, SPENT)
