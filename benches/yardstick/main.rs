@@ -37,7 +37,7 @@ use crate::search::Work;
 use std::io::{self, Read, Write};
 use std::process::ExitCode;
 
-const USAGE: &str = "usage: crnt report | certify | check | sample K, with --budget N except for check\n";
+const USAGE: &str = "usage: crnt report | certify | check | sample K | prove PART | verify PART, with --budget N except for check and verify\n";
 
 /// Of a search, where none is said.
 const BUDGET: u32 = 20_000;
