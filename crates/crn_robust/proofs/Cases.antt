@@ -52,7 +52,7 @@ cases_are_one net None Rests p q = absurd q
 cases_are_one net Rests b p q = absurd p
 
 pub cases_decide_robustness : CasesDecideRobustness
-cases_decide_robustness net (Yes s c d) h = record { deficiency = h.0; pair = (let l = h.4 in l.pair) }
+cases_decide_robustness net (Yes s c d) h = (h.1, h.2, h.3, record { deficiency = h.0; pair = (let l = h.4 in l.pair) })
 cases_decide_robustness net (Number n) h = λ s c d r. other_deficiency net n h.0 h.1 r.deficiency
 cases_decide_robustness net None h = λ s c d r. h.1 s c d r.pair
 cases_decide_robustness net Rests h = absurd h

@@ -1,7 +1,7 @@
 -- Laws on robustness: one case holds of a network and decides the hypotheses, and the deficiency says
 -- whether the confluence space is a line.
 -- Source: this project's own.
-use Rattle.std.specs.Prelude.{◌≡◌, ◌↔◌, ◌-◌, ℕ}
+use Rattle.std.specs.Prelude.{◌≡◌, ◌≤◌, ◌↔◌, ◌-◌, ℕ}
 use Rattle.crn_vec.specs.Network.{Net, IsNetwork}
 use Rattle.crn_vec.specs.Deficiency.{IsDeficiency}
 use Rattle.crn_vec.specs.Confluence.{HasConfluenceLine}
@@ -20,7 +20,8 @@ IsNowhereRobust net = (s c d : ℕ) → IsRobust net s c d → ⊥
 -- what an answer says of the hypotheses: for which species and complexes they hold, or that they
 -- hold for none, or nothing
 abbrev pub IsTrueOf : Net → Robust → Type 0
-IsTrueOf net (Yes species first second) = IsRobust net (species - 1) (first - 1) (second - 1)
+IsTrueOf net (Yes species first second) = (1 ≤ species) × (1 ≤ first) × (1 ≤ second)
+    × IsRobust net (species - 1) (first - 1) (second - 1)
 IsTrueOf net (Number d) = IsNowhereRobust net
 IsTrueOf net None = IsNowhereRobust net
 IsTrueOf net Rests = Unit {0}
