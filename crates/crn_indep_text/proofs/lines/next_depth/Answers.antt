@@ -1,0 +1,16 @@
+use Rattle.std.proofs.Common.{◌-◌, ℕ, ap, ◌∙◌, arith}
+use Rattle.crn_ctext.specs.Kinds.{small}
+use Rattle.crn_indep_text.specs.Document.{depth_forms}
+use Rattle.crn_indep_text.proofs.LinesRead.{run_is, run_few, nums_as, small_run_small}
+use Rattle.crn_indep_text.proofs.lines.next_depth.Goals as goal
+
+pub next_nums-requires-clause-few : goal.next_nums-requires-clause-few
+next_nums-requires-clause-few g c = run_few c.small_run.result (small c.reactions-reactions.result 0 (c.reactions-reactions.result - 1)) c.small_run.ensures.field (omega (arith, c.reactions-reactions.ensures.count, c.meets_definition.ensures.partial.reactions_limit))
+
+pub next_nums-requires-clause-small : goal.next_nums-requires-clause-small
+next_nums-requires-clause-small g c = small_run_small 7 c.small_run.result c.reactions-reactions.result 0 (c.reactions-reactions.result - 1) c.small_run.ensures.field (omega (arith, c.reactions-reactions.ensures.count, c.meets_definition.ensures.partial.reactions_limit))
+
+pub returns-clause-step : goal.returns-clause-step
+returns-clause-step g c =
+    nums_as _ (depth_forms c.args.net.now) c.next_nums.result c.args.at.now c.next_nums.new.at _ _
+    (run_is 7 c.small_run.result _ (c.small_run.ensures.field ∙ ap (λ (n : ℕ). small n 0 (n - 1)) c.reactions-reactions.ensures.count)) c.next_nums.ensures.step

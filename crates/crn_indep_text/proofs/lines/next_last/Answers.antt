@@ -1,0 +1,8 @@
+use Rattle.std.proofs.Common.{[], ◌∷◌, refl}
+use Rattle.crn_ctext.specs.Kinds.{end_form}
+use Rattle.crn_reading.proofs.CallerLemmas.{forms_named}
+use Rattle.crn_indep_text.specs.Document.{words}
+use Rattle.crn_indep_text.proofs.lines.next_last.Goals as goal
+
+pub returns-clause-step : goal.returns-clause-step
+returns-clause-step g c = forms_named words _ (end_form ∷ []) c.next_of.result c.args.at.now c.next_of.new.at _ _ refl c.next_of.ensures.step

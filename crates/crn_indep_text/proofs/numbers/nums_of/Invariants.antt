@@ -1,0 +1,6 @@
+use Rattle.std.proofs.Common.{◌≡◌, map, nat_abs, take}
+use Rattle.crn_indep_text.proofs.numbers.nums_of.Given as goal
+
+-- the list holds the numbers so far
+abbrev pub invariant-loop-value : goal.invariant-loop-value
+invariant-loop-value l = l.items.items ≡ map nat_abs (take l.value-index l.row)
