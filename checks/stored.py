@@ -33,12 +33,17 @@ def written(program, command, text):
     return done.returncode, done.stdout
 
 
-def report_of(program, name, text):
-    status, out = written(program, "report", text)
-    wrong = second_opinion.judged(text, status, out)
+def accepted(program, command, text, second, what):
+    """What the command writes of the text, if the second program finds nothing wrong with it."""
+    status, out = written(program, command, text)
+    wrong = second.judged(text, status, out)
     if wrong:
-        sys.exit(f"the report of {name} is wrong: {wrong}")
+        sys.exit(f"{what} is wrong: {wrong}")
     return out
+
+
+def report_of(program, name, text):
+    return accepted(program, "report", text, second_opinion, f"the report of {name}")
 
 
 def certificate_of(program, name, text):
@@ -50,11 +55,7 @@ def certificate_of(program, name, text):
 
 
 def proof_of(program, name, text):
-    status, out = written(program, "prove persist", text)
-    wrong = second_persist.judged(text, status, out)
-    if wrong:
-        sys.exit(f"the document on {name} is wrong: {wrong}")
-    return out
+    return accepted(program, "prove persist", text, second_persist, f"the document on {name}")
 
 
 def head_of(report):

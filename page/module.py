@@ -9,7 +9,8 @@ with a 32-bit memory. KEPT, a folder, gets what comes before it: the two LLVM mo
 The toolchain builds no module for wasm64 that takes memory from its `Global`, so the way is another one:
 
 1. `rattle build` proves crn_page, makes an LLVM module of it and of all that it calls, and has clang compile that for x86-64.
-   It is given a folder in which clang is a script, which keeps the LLVM module and then calls the toolchain's clang.
+   It is given a folder in which clang is a script, which keeps the LLVM module and then calls the toolchain's clang, with
+   `-O0`, as nobody runs that program.
 2. widen.py turns that module into one for wasm64, and the toolchain's clang compiles it, and heap.c with it.
 3. `rattle-link` links the two into a module, with its own functions for numbers of 128 bits. It imports nothing.
 4. narrow.py cuts the addresses of that module to 32 bits, since not every browser runs it as it is.
