@@ -5,7 +5,7 @@ use Rattle.crn_vec.specs.declared.signs.Sign.{Sign}
 use Rattle.crn_vec.specs.declared.signs.Sign.TheVariants.{Zero, Plus, Minus}
 use Rattle.crn_vec.specs.Problems.{all_zero, children}
 use Rattle.crn_ctree.specs.Due.{first, rest}
-use Rattle.crn_ctree.specs.Inner.Paths.{later, due_after, due_by}
+use Rattle.crn_ctree.specs.Paths.{later, due_after, due_by}
 
 -- the last option of a path and what is after it
 pub popped : (prefix q : List Sign) (s : Sign) → due_after prefix (q ++ s ∷ []) ≡ later (prefix ++ q) s ++ due_after prefix q

@@ -1,4 +1,5 @@
 pub mod Due
+pub mod Paths
 pub mod Problem
 pub mod Gives
 pub mod Shared

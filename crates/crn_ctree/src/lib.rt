@@ -25,6 +25,7 @@ pub use laws::{
 };
 pub use node::{Node, Step};
 pub use pair::check_pair;
+pub use path::Path;
 pub use problem::{InfluenceTable, Problem};
 pub use shared::{SharedCut, SharedTable};
 pub use signal::check_signal;

@@ -2,7 +2,7 @@ ghost use Rattle.std.specs.Prelude.{◌≡◌, ◌≢◌, ◌<◌, ◌≤◌, �
 ghost use Rattle.crn_vec.specs.Problems.{children};
 ghost use Rattle.crn_vec.specs.Visits.{root};
 ghost use Rattle.crn_ctree.specs.Due.{first, rest};
-ghost use Rattle.crn_ctree.specs.Inner.Paths.{due_after, due_by};
+ghost use Rattle.crn_ctree.specs.Paths.{due_after, due_by};
 
 use crn_vec::{NoMemory, Sign, is_all_zero};
 use std::alloc::Global;
@@ -10,7 +10,7 @@ use std::marker::Model;
 
 /// The prefixes of a tree that are still due, kept as the path of options to the next one.
 #[derive(Drop)]
-pub(crate) struct Path {
+pub struct Path {
     options: Vec<Sign>,
     choices: usize,
     complete: bool,
@@ -18,7 +18,7 @@ pub(crate) struct Path {
 
 impl Model for Path {
     ghost use Rattle.std.specs.Prelude.{◌≤◌, length, vec_capacity};
-    ghost use Rattle.crn_ctree.specs.Inner.Paths.{KeptPath, due_by};
+    ghost use Rattle.crn_ctree.specs.Paths.{KeptPath, due_by};
 
     ghost Value = { KeptPath };
 

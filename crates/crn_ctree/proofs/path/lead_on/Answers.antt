@@ -1,6 +1,6 @@
 use Rattle.std.proofs.Common.{[], sym, ◌∙◌, ap, arith}
 use Rattle.crn_vec.specs.Problems.{all_zero}
-use Rattle.crn_ctree.specs.Inner.Paths.{due_after}
+use Rattle.crn_ctree.specs.Paths.{due_after}
 use Rattle.crn_ctree.proofs.PathLaws.{zero_on, plus_on, plus_up, minus_up}
 use Rattle.crn_ctree.proofs.path.lead_on.Goals as goal
 

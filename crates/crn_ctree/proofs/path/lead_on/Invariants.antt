@@ -1,5 +1,5 @@
 use Rattle.std.proofs.Common.{◌≡◌, ◌≤◌, [], vec_len, vec_capacity}
-use Rattle.crn_ctree.specs.Inner.Paths.{due_after}
+use Rattle.crn_ctree.specs.Paths.{due_after}
 use Rattle.crn_ctree.proofs.path.lead_on.Given as goal
 
 abbrev pub invariant-loop-option : goal.invariant-loop-option

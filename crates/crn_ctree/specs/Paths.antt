@@ -1,4 +1,3 @@
--- For the contracts of private functions alone.
 -- The path of options to the node that is due, and what is due after it.
 -- Source: this project's own.
 -- Shapes: `due` lists the prefixes whose trees are still to come, the next one first.
