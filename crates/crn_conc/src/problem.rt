@@ -51,12 +51,15 @@ impl TableProblem<'_> {
 }
 
 impl SignProblem for TableProblem<'_> {
+    ghost use Rattle.std.specs.Prelude.{[]};
     ghost use Rattle.crn_vec.specs.Concordance.{concordance};
     ghost use Rattle.crn_conc.specs.Inner.Columns.{AreSums};
 
     ghost signed = { λ p. concordance p.matrix.now p.table.now };
 
     ghost are_sums = { λ p q words. AreSums p.matrix.now p.table.now q words };
+
+    ghost weak = { λ p. [] };
 
     fn length(&self) -> usize {
         let _ = self.matrix.cols();
@@ -69,6 +72,10 @@ impl SignProblem for TableProblem<'_> {
 
     fn matrix_b(&self) -> &Matrix {
         self.matrix
+    }
+
+    fn weak_a(&self) -> &[u64] {
+        &[]
     }
 
     fn begin_a(&self, sums: &mut [Bits], asked: &mut [Bits]) {

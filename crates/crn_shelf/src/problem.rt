@@ -81,12 +81,15 @@ impl ShelfProblem<'_> {
 }
 
 impl SignProblem for ShelfProblem<'_> {
+    ghost use Rattle.std.specs.Prelude.{[]};
     ghost use Rattle.crn_vec.specs.Signals.{signals};
 
     ghost signed = { λ p. signals p.shape.now p.matrix };
 
     ghost are_sums = { λ p q words.
         AskKinds (shelf_matrix p.shape.now) (shelf_kinds p.shape.now q) words };
+
+    ghost weak = { λ p. [] };
 
     fn length(&self) -> usize {
         let _ = self.shape.complexes();
@@ -101,6 +104,10 @@ impl SignProblem for ShelfProblem<'_> {
 
     fn matrix_b(&self) -> &Matrix {
         &self.matrix
+    }
+
+    fn weak_a(&self) -> &[u64] {
+        &[]
     }
 
     fn begin_a(&self, sums: &mut [Bits], asked: &mut [Bits]) {

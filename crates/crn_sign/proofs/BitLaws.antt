@@ -11,9 +11,9 @@ use Rattle.crn_sign.specs.declared.bits.Bits.{Bits}
 use Rattle.crn_sign.specs.declared.problem.Asked.{Asked}
 use Rattle.crn_sign.specs.declared.marks.Mark.{Mark}
 use Rattle.crn_sign.specs.declared.marks.Mark.TheVariants.{Zero, Plus, Minus, Any}
-use Rattle.crn_sign.specs.Options.{IsPut}
+use Rattle.crn_sign.specs.Options.{IsPut, bit_of, weakened, word_of}
 use Rattle.crn_sign.specs.Inner.Bits.{IsMarked, mark_at, mark_in, mark_of, none, word_at}
-use Rattle.crn_sign.specs.Inner.Marks.{Meets, united, kind_of_mark, laid, negative}
+use Rattle.crn_sign.specs.Inner.Marks.{Suits, united, kind_of_mark, laid, negative}
 use Rattle.crn_sign.specs.Inner.Past.{Counts, Weighs}
 
 -- ---- four bits
@@ -42,21 +42,45 @@ joins a b c d la lb lc ld = two_bits (λ (x y : ℕ). Joins x y c d)
     (two_bits (Joins 0 0) refl refl refl refl c d lc ld) (two_bits (Joins 0 1) refl refl refl refl c d lc ld)
     (two_bits (Joins 1 0) refl refl refl refl c d lc ld) (two_bits (Joins 1 1) refl refl refl refl c d lc ld) a b la lb
 
--- the bit that says that a mark of bits c and d is not what those of a and b require
-abbrev pub misfit : ℕ → ℕ → ℕ → ℕ → ℕ
-misfit a b c d = min (max (((max a b + b) % 2 + c) % 2) (((max a b + a) % 2 + d) % 2)) (max a b)
+-- the bit that says that a mark of bits c and d is not what those of a and b require, weakly if e is set
+abbrev pub misfit : ℕ → ℕ → ℕ → ℕ → ℕ → ℕ
+misfit a b e c d =
+    let eased = (max e (max b d) + max b d) % 2 in
+    (max (min (max (((max a b + b) % 2 + c) % 2) (((max a b + a) % 2 + d) % 2)) (max a b)) eased + eased) % 2
 
-abbrev Fits : ℕ → ℕ → ℕ → ℕ → Type 0
-Fits a b c d = misfit a b c d ≡ 0 → Meets (mark_of a b) (mark_of c d)
+abbrev Fits : ℕ → ℕ → ℕ → ℕ → ℕ → Type 0
+Fits a b e c d = misfit a b e c d ≡ 0 → Suits (weakened (kind_of_mark (mark_of a b)) e) (mark_of c d)
 
 -- one bit is not the other
 bad : (X : Type 0) → suc zero ≡ zero → X
 bad X e = absurd (omega (arith, e))
 
-pub fits : (a b c d : ℕ) → a < 2 → b < 2 → c < 2 → d < 2 → Fits a b c d
-fits a b c d la lb lc ld = two_bits (λ (x y : ℕ). Fits x y c d)
-    (two_bits (Fits 0 0) (λ e. tt) (λ e. tt) (λ e. tt) (λ e. tt) c d lc ld) (two_bits (Fits 0 1) (bad _) (λ e. refl) (bad _) (bad _) c d lc ld)
-    (two_bits (Fits 1 0) (bad _) (bad _) (λ e. refl) (bad _) c d lc ld) (two_bits (Fits 1 1) (λ e. refl) (bad _) (bad _) (bad _) c d lc ld) a b la lb
+zero_least : (x : ℤ) → x ≡ pos 0 → pos 0 ≤ℤ x
+zero_least x h = omega (arith, ints, h)
+
+above_zero : (x : ℤ) → pos 1 ≤ℤ x → pos 0 ≤ℤ x
+above_zero x h = omega (arith, ints, h)
+
+below_zero : (x : ℤ) → x ≤ℤ negsuc 0 → x ≤ℤ pos 0
+below_zero x h = omega (arith, ints, h)
+
+neg_fits : (e c d : ℕ) → e < 2 → c < 2 → d < 2 → Fits 0 1 e c d
+neg_fits e c d le lc ld = below_two (λ (n : ℕ). Fits 0 1 n c d)
+    (two_bits (Fits 0 1 0) (bad _) (λ z x h. h) (bad _) (bad _) c d lc ld)
+    (two_bits (Fits 0 1 1) (bad _) (λ z x h. h) (bad _) (bad _) c d lc ld) e le
+
+pos_fits : (e c d : ℕ) → e < 2 → c < 2 → d < 2 → Fits 1 0 e c d
+pos_fits e c d le lc ld = below_two (λ (n : ℕ). Fits 1 0 n c d)
+    (two_bits (Fits 1 0 0) (bad _) (bad _) (λ z x h. h) (bad _) c d lc ld)
+    (two_bits (Fits 1 0 1) (λ z. zero_least) (bad _) (λ z. above_zero) (bad _) c d lc ld) e le
+
+zero_fits : (e c d : ℕ) → e < 2 → c < 2 → d < 2 → Fits 1 1 e c d
+zero_fits e c d le lc ld = below_two (λ (n : ℕ). Fits 1 1 n c d)
+    (two_bits (Fits 1 1 0) (λ z x h. h) (bad _) (bad _) (bad _) c d lc ld)
+    (two_bits (Fits 1 1 1) (λ z x h. h) (bad _) (bad _) (bad _) c d lc ld) e le
+
+pub fits : (a b e c d : ℕ) → a < 2 → b < 2 → e < 2 → c < 2 → d < 2 → Fits a b e c d
+fits a b e c d la lb le lc ld = two_bits (λ (x y : ℕ). Fits x y e c d) (λ z x h. tt) (neg_fits e c d le lc ld) (pos_fits e c d le lc ld) (zero_fits e c d le lc ld) a b la lb
 
 -- ---- words, one after another
 
@@ -133,6 +157,23 @@ bits_put old k x asked lt plus minus others =
       other_minus = λ j ne. put_others (λ b. b.minus) old k j x lt (λ i i_lt apart. (others i i_lt apart).1) ne;
     }
 
+-- a word of bits put
+pub word_put : (old : List ℕ) (k x : ℕ) → k < length old * 64 → bit_at x (k % 64) ≡ 1 → bit_of (set old (k / 64) x) k ≡ 1
+word_put old k x lt here = ap (λ (b : ℕ). bit_at b (k % 64)) (get_or-set_same old (k / 64) x 0 (omega (arith, lt))) ∙ here
+
+pub other_bits : (old : List ℕ) (k x : ℕ) → k < length old * 64 → ((i : ℕ) → i ≢ k % 64 → bit_at x i ≡ bit_at (word_of old (k / 64)) i) → (j : ℕ) → j ≢ k → bit_of (set old (k / 64) x) j ≡ bit_of old j
+other_bits old k x lt others j ne =
+    let w = k / 64 in
+    let inside : w < length old = omega (arith, lt) in
+    elim (eq_or (j / 64) w) as (λ _. bit_of (set old w x) j ≡ bit_of old j) [
+      | inl e ↦
+          let i = j % 64 in
+          ap (λ (v : ℕ). bit_at (word_of (set old w x) v) i) e ∙ ap (λ (b : ℕ). bit_at b i) (get_or-set_same old w x 0 inside)
+          ∙ others i (λ d. ne (omega (arith, e, d)))
+          ∙ ap (λ (v : ℕ). bit_at (word_of old v) i) (sym e)
+      | inr apart ↦ ap (λ (b : ℕ). bit_at b (j % 64)) (get_or-set_other old w (j / 64) x 0 apart)
+    ]
+
 pub none_in : (i : ℕ) → mark_in none i ≡ Zero
 none_in i = simp bit_at-zero
 
@@ -151,12 +192,6 @@ refusal a b c d = max ((max c a + a) % 2) ((max d b + b) % 2)
 abbrev Weighed : ℕ → ℕ → ℕ → ℕ → Type 0
 Weighed a b c d = refusal a b c d ≡ 0 → Weighs (mark_of a b) (mark_of c d)
 
-above_zero : (x : ℤ) → pos 1 ≤ℤ x → pos 0 ≤ℤ x
-above_zero x h = omega (arith, ints, h)
-
-below_zero : (x : ℤ) → x ≤ℤ negsuc 0 → x ≤ℤ pos 0
-below_zero x h = omega (arith, ints, h)
-
 zero_weighs : (m : Mark) (x : ℤ) → x ≡ pos 0 → MayWeigh (kind_of_mark m) x
 zero_weighs m x e = subst (MayWeigh (kind_of_mark m)) (sym e) (weigh_zero (kind_of_mark m))
 
@@ -165,12 +200,12 @@ weighed a b c d la lb lc ld = two_bits (λ (x y : ℕ). Weighed x y c d)
     (two_bits (Weighed 0 0) (λ e. zero_weighs Zero) (bad _) (bad _) (bad _) c d lc ld) (two_bits (Weighed 0 1) (λ e. zero_weighs Minus) (λ e. below_zero) (bad _) (bad _) c d lc ld)
     (two_bits (Weighed 1 0) (λ e. zero_weighs Plus) (bad _) (λ e. above_zero) (bad _) c d lc ld) (two_bits (Weighed 1 1) (λ e. zero_weighs Any) (λ e x h. tt) (λ e x h. tt) (λ e x h. tt) c d lc ld) a b la lb
 
--- the bit that says that a sign is asked by a and b, and that c and d are the mark of a sign
-abbrev pub count_bit : ℕ → ℕ → ℕ → ℕ → ℕ
-count_bit a b c d = min ((c + d) % 2) ((a + b) % 2)
+-- the bit that says that a sign is asked by a and b, not weakly by e, and that c and d are the mark of a sign
+abbrev pub count_bit : ℕ → ℕ → ℕ → ℕ → ℕ → ℕ
+count_bit a b e c d = (max (min ((c + d) % 2) ((a + b) % 2)) e + e) % 2
 
-abbrev Counted : ℕ → ℕ → ℕ → ℕ → Type 0
-Counted a b c d = count_bit a b c d ≡ 1 → Counts (mark_of a b) (mark_of c d)
+abbrev Counted : ℕ → ℕ → ℕ → ℕ → ℕ → Type 0
+Counted a b e c d = count_bit a b e c d ≡ 1 → Counts (mark_of a b) e (mark_of c d)
 
 minus_some : (x : ℤ) → x ≤ℤ negsuc 0 → x ≢ pos 0
 minus_some x h e = omega (arith, ints, h, e)
@@ -178,9 +213,18 @@ minus_some x h e = omega (arith, ints, h, e)
 low : (X : Type 0) → zero ≡ suc zero → X
 low X e = absurd (omega (arith, e))
 
-pub counted : (a b c d : ℕ) → a < 2 → b < 2 → c < 2 → d < 2 → Counted a b c d
-counted a b c d la lb lc ld = two_bits (λ (x y : ℕ). Counted x y c d)
-    (two_bits (Counted 0 0) (low _) (low _) (low _) (low _) c d lc ld)
-    (two_bits (Counted 0 1) (low _) (λ e. record { signed = refl; some = minus_some }) (λ e. record { signed = refl; some = positive_some }) (low _) c d lc ld)
-    (two_bits (Counted 1 0) (low _) (λ e. record { signed = refl; some = minus_some }) (λ e. record { signed = refl; some = positive_some }) (low _) c d lc ld)
-    (two_bits (Counted 1 1) (low _) (low _) (low _) (low _) c d lc ld) a b la lb
+-- nothing counts where it is weak
+weak_counted : (a b c d : ℕ) → a < 2 → b < 2 → c < 2 → d < 2 → Counted a b 1 c d
+weak_counted a b c d la lb lc ld = two_bits (λ (x y : ℕ). Counted x y 1 c d)
+    (two_bits (Counted 0 0 1) (low _) (low _) (low _) (low _) c d lc ld) (two_bits (Counted 0 1 1) (low _) (low _) (low _) (low _) c d lc ld)
+    (two_bits (Counted 1 0 1) (low _) (low _) (low _) (low _) c d lc ld) (two_bits (Counted 1 1 1) (low _) (low _) (low _) (low _) c d lc ld) a b la lb
+
+firm_counted : (a b c d : ℕ) → a < 2 → b < 2 → c < 2 → d < 2 → Counted a b 0 c d
+firm_counted a b c d la lb lc ld = two_bits (λ (x y : ℕ). Counted x y 0 c d)
+    (two_bits (Counted 0 0 0) (low _) (low _) (low _) (low _) c d lc ld)
+    (two_bits (Counted 0 1 0) (low _) (λ e. record { signed = refl; some = minus_some }) (λ e. record { signed = refl; some = positive_some }) (low _) c d lc ld)
+    (two_bits (Counted 1 0 0) (low _) (λ e. record { signed = refl; some = minus_some }) (λ e. record { signed = refl; some = positive_some }) (low _) c d lc ld)
+    (two_bits (Counted 1 1 0) (low _) (low _) (low _) (low _) c d lc ld) a b la lb
+
+pub counted : (a b e c d : ℕ) → a < 2 → b < 2 → e < 2 → c < 2 → d < 2 → Counted a b e c d
+counted a b e c d la lb le lc ld = below_two (λ (n : ℕ). Counted a b n c d) (firm_counted a b c d la lb lc ld) (weak_counted a b c d la lb lc ld) e le

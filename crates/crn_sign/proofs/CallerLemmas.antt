@@ -2,3 +2,5 @@
 
 -- What words ask after one coordinate was put.
 pub use Rattle.crn_sign.proofs.PlaceLaws.{put_here, put_other}
+-- What words ask where nothing is weak.
+pub use Rattle.crn_sign.proofs.PlaceLaws.{firm_kinds}

@@ -20,7 +20,7 @@ use Rattle.crn_sign.specs.declared.marks.Mark.{Mark}
 use Rattle.crn_sign.specs.declared.marks.Mark.TheVariants.{Zero, Plus, Minus, Any}
 use Rattle.crn_sign.specs.Inner.RowSigns.{AreRowSigns}
 use Rattle.crn_sign.specs.Inner.Bits.{IsMarked, mark_at, word_count}
-use Rattle.crn_sign.specs.Inner.Marks.{AreMadeBy, AreMet, AreOpposite, AreRowMarks, AreSuited, HasMark, Meets, united, kind_of_mark, kinds_of, laid, negative, sign_mark, sign_there}
+use Rattle.crn_sign.specs.Inner.Marks.{AreMadeBy, AreMet, AreOpposite, AreRowMarks, AreSuited, HasMark, kind_there, united, kind_of_mark, kinds_of, laid, negative, sign_mark, sign_there}
 
 -- ---- sums in the row space
 
@@ -228,33 +228,27 @@ none_marked a into marks long n =
 
 -- ---- kinds
 
-pub kinds_by : (a : Mat) (asked : List Bits) → map (λ (k : ℕ). kind_of_mark (mark_at asked k)) (range_with_len 0 (width a)) ≡ kinds_of a asked
+pub kinds_by : (a : Mat) (weak : List ℕ) (asked : List Bits) → map (kind_there weak asked) (range_with_len 0 (width a)) ≡ kinds_of a weak asked
 unfolding kinds_of
-kinds_by a asked = refl
+kinds_by a weak asked = refl
 
-pub kinds_long : (a : Mat) (asked : List Bits) → length (kinds_of a asked) ≡ width a
+pub kinds_long : (a : Mat) (weak : List ℕ) (asked : List Bits) → length (kinds_of a weak asked) ≡ width a
 unfolding kinds_of
-kinds_long a asked = length-map (range_with_len 0 (width a)) (λ (k : ℕ). kind_of_mark (mark_at asked k)) ∙ length-range_with_len 0 (width a)
+kinds_long a weak asked = length-map (range_with_len 0 (width a)) (kind_there weak asked) ∙ length-range_with_len 0 (width a)
 
 -- the kind that is asked of a coordinate
-pub kind_asked : (a : Mat) (asked : List Bits) (k : ℕ) → k < width a → kind_at (kinds_of a asked) k ≡ kind_of_mark (mark_at asked k)
+pub kind_asked : (a : Mat) (weak : List ℕ) (asked : List Bits) (k : ℕ) → k < width a → kind_at (kinds_of a weak asked) k ≡ kind_there weak asked k
 unfolding kinds_of
-kind_asked a asked k lt =
-    let f = λ (j : ℕ). kind_of_mark (mark_at asked j) in
+kind_asked a weak asked k lt =
+    let f = kind_there weak asked in
     get_or-map f (range_with_len 0 (width a)) k 0 Free (omega (arith, lt, length-range_with_len 0 (width a)))
     ∙ ap f (get_or-range_with_len 0 (width a) k 0 lt ∙ (omega arith))
 
-met_kind : (q m : Mark) (x : ℤ) → Meets q m → HasMark m x → HasKind (kind_of_mark q) x
-met_kind Zero m x e h = tt
-met_kind Plus m x e h = subst (λ (t : Mark). HasMark t x) e h
-met_kind Minus m x e h = subst (λ (t : Mark). HasMark t x) e h
-met_kind Any m x e h = subst (λ (t : Mark). HasMark t x) e h
-
 -- marks that are what is asked suit the kinds that are asked
-pub met_suited : (a : Mat) (asked marks : List Bits) → length asked ≡ word_count a → AreMet asked marks → AreSuited (kinds_of a asked) marks
-met_suited a asked marks count met = λ k lt x h.
-    let at : k < width a = omega (arith, lt, kinds_long a asked) in
-    subst (λ (t : Kind). HasKind t x) (sym (kind_asked a asked k at)) (met_kind (mark_at asked k) (mark_at marks k) x (met k (omega (arith, at, count))) h)
+pub met_suited : (a : Mat) (weak : List ℕ) (asked marks : List Bits) → length asked ≡ word_count a → AreMet weak asked marks → AreSuited (kinds_of a weak asked) marks
+met_suited a weak asked marks count met = λ k lt x h.
+    let at : k < width a = omega (arith, lt, kinds_long a weak asked) in
+    subst (λ (t : Kind). HasKind t x) (sym (kind_asked a weak asked k at)) (met k (omega (arith, at, count)) x h)
 
 -- suitable marks make a solution
 pub suited_solution : (a : Mat) (kinds : List Kind) (marks : List Bits) → length kinds ≡ width a → AreRowMarks a marks → AreSuited kinds marks → (x : List ℤ) × IsSolution a kinds x

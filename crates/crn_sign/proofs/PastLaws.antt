@@ -6,7 +6,7 @@ use Rattle.std.proofs.lemmas.List.{length-drop, length-replicate, get_or-drop, g
 use Rattle.crn_vec.specs.declared.limits.TheConstants.{WIDE_ENTRY, WIDE_SOLUTION}
 use Rattle.crn_vec.specs.declared.signs.Sign.{Sign}
 use Rattle.crn_vec.specs.declared.signs.Kind.{Kind}
-use Rattle.crn_vec.specs.declared.signs.Kind.TheVariants.{Free}
+use Rattle.crn_vec.specs.declared.signs.Kind.TheVariants.{Zero as ZeroKind, Pos, Neg, NonNeg, Free}
 use Rattle.crn_vec.specs.Vectors.{Mat, entry, dot, column, scale, HasSign, AreWithin}
 use Rattle.crn_vec.specs.Elementary.{width, InDualSpace}
 use Rattle.crn_vec.specs.Systems.{MayWeigh, is_signed, kind_at}
@@ -18,6 +18,7 @@ use Rattle.crn_farkas.proofs.CallerLemmas.{scaled_small}
 use Rattle.crn_sign.specs.declared.bits.Bits.{Bits}
 use Rattle.crn_sign.specs.declared.marks.Mark.{Mark}
 use Rattle.crn_sign.specs.declared.marks.Mark.TheVariants.{Zero}
+use Rattle.crn_sign.specs.Options.{bit_of, weakened}
 use Rattle.crn_sign.specs.Inner.Bits.{IsMarked, mark_at, mark_in, none, word_at, word_count}
 use Rattle.crn_sign.specs.Inner.Marks.{HasMark, kind_of_mark, kinds_of, sign_mark}
 use Rattle.crn_sign.specs.Inner.Past.{AllWeigh, AreMarksOf, IsPast, SomeCounts, mark_of_multiple}
@@ -102,18 +103,27 @@ multiple_mark : (stays : Bool) (m : Mark) (x : ℤ) → HasMark m x → HasMark 
 multiple_mark true m x h = plain_mark m x h
 multiple_mark false m x h = negated_mark m x h
 
-pub past_cut : (a : Mat) (asked : List Bits) (stays : Bool) (u v : List ℤ) (marks : List Bits) → IsPast a u marks → length asked ≡ word_count a → AllWeigh asked stays marks → SomeCounts asked marks → v ≡ scale (factor stays) u
-    → IsSmallCut a (kinds_of a asked) v
-past_cut a asked stays u v marks past count weigh some is =
+-- what may be weighed where a sign is required may be where it is required weakly
+weighs_weakly : (κ : Kind) (e : ℕ) (x : ℤ) → MayWeigh κ x → MayWeigh (weakened κ e) x
+weighs_weakly ZeroKind e x h = h
+weighs_weakly Pos zero x h = h
+weighs_weakly Pos (suc e) x h = h
+weighs_weakly Neg e x h = h
+weighs_weakly NonNeg e x h = h
+weighs_weakly Free e x h = h
+
+pub past_cut : (a : Mat) (weak : List ℕ) (asked : List Bits) (stays : Bool) (u v : List ℤ) (marks : List Bits) → IsPast a u marks → length asked ≡ word_count a → AllWeigh asked stays marks → SomeCounts weak asked marks → v ≡ scale (factor stays) u
+    → IsSmallCut a (kinds_of a weak asked) v
+past_cut a weak asked stays u v marks past count weigh some is =
     let w = past.w in
     let f = factor stays in
-    let kinds = kinds_of a asked in
-    let long : length kinds ≡ width a = kinds_long a asked in
+    let kinds = kinds_of a weak asked in
+    let long : length kinds ≡ width a = kinds_long a weak asked in
     let at : (k : ℕ) → k < length kinds → MayWeigh (kind_at kinds k) (entry (scale f w) k) = λ k lt.
     let inside : k < width a = omega (arith, lt, long) in
-    subst (λ (t : Kind). MayWeigh t (entry (scale f w) k)) (sym (kind_asked a asked k inside))
-    (subst (λ (x : ℤ). MayWeigh (kind_of_mark (mark_at asked k)) x) (sym (entry-scale f w k))
-    (weigh k (omega (arith, inside, count)) (f *ℤ entry w k) (multiple_mark stays (mark_at marks k) (entry w k) (past.marks_are.are k)))) in
+    subst (λ (t : Kind). MayWeigh t (entry (scale f w) k)) (sym (kind_asked a weak asked k inside))
+    (weighs_weakly (kind_of_mark (mark_at asked k)) (bit_of weak k) (entry (scale f w) k) (subst (λ (x : ℤ). MayWeigh (kind_of_mark (mark_at asked k)) x) (sym (entry-scale f w k))
+    (weigh k (omega (arith, inside, count)) (f *ℤ entry w k) (multiple_mark stays (mark_at marks k) (entry w k) (past.marks_are.are k))))) in
     let k = some.0 in
     let there : entry w k ≢ pos 0 = some.1.some (entry w k) (past.marks_are.are k) in
     let inside : k < width a = elim (lt_or k (length w)) as (λ _. k < width a) [
@@ -128,7 +138,7 @@ past_cut a asked stays u v marks past count weigh some is =
           space = dual_scaled a f w past.space;
           rows = drop-scale f a.cols w ∙ ap (scale f) past.rows ∙ sym is;
           each = zip_from MayWeigh Free (pos 0) kinds (scale f w) (length-scale f w ∙ past.space.long ∙ sym long) at;
-          some = (k, ap is_signed (kind_asked a asked k inside) ∙ some.1.signed, here);
+          some = (k, ap is_signed (kind_asked a weak asked k inside) ∙ some.1.signed, here);
         },
       );
       small = λ k. subst (λ (l : List ℤ). unsigned_abs (entry l k) < WIDE_ENTRY) (sym is) (scaled_small stays u WIDE_ENTRY past.small k);

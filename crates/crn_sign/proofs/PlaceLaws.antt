@@ -1,9 +1,10 @@
 -- What a part knows at a prefix, while kinds are asked and after.
-use Rattle.std.proofs.Common.{◌≡◌, ◌≢◌, ℕ, zero, suc, ◌+◌, ◌-◌, ◌<◌, ◌≤◌, inl, inr, List, [], ◌∷◌, ◌++◌, length, get_or, take, drop, drop-cons, Bool, true, false, refl, sym, ap, ap₂, subst, ◌∙◌, add-one, arith}
+use Rattle.std.proofs.Common.{◌≡◌, ◌≢◌, ℕ, zero, suc, ◌+◌, ◌-◌, ◌%◌, ◌<◌, ◌≤◌, inl, inr, List, [], ◌∷◌, ◌++◌, length, get_or, take, drop, drop-cons, Bool, true, false, refl, sym, ap, ap₂, subst, ◌∙◌, add-one, arith}
+use Rattle.std.proofs.lemmas.Nat.Bits.{bit_at-zero}
 use Rattle.std.proofs.lemmas.List.{length-append, ext_get_or, drop_all, take-append-le, take_all}
 use Rattle.crn_vec.specs.declared.signs.Sign.{Sign}
 use Rattle.crn_vec.specs.declared.signs.Kind.{Kind}
-use Rattle.crn_vec.specs.declared.signs.Kind.TheVariants.{Free}
+use Rattle.crn_vec.specs.declared.signs.Kind.TheVariants.{Zero, Pos, Neg, NonNeg, Free}
 use Rattle.crn_vec.specs.Vectors.{Mat}
 use Rattle.crn_vec.specs.Elementary.{width}
 use Rattle.crn_vec.specs.Systems.{kind_at, one_if}
@@ -13,7 +14,7 @@ use Rattle.crn_sign.specs.declared.bits.Bits.{Bits}
 use Rattle.crn_sign.specs.declared.place.Place.{Place}
 use Rattle.crn_sign.specs.declared.walk.Level.{Level}
 use Rattle.crn_sign.specs.declared.problem.Asked.{Asked}
-use Rattle.crn_sign.specs.Options.{AskKinds, IsPut, asked_kind, kind_by, kind_in, kind_of_bits, minus_at, plus_at, word_count}
+use Rattle.crn_sign.specs.Options.{AskKinds, AskKindsBy, IsPut, asked_kind, bit_of, kind_by as asked_by, kind_by_words, kind_in, kind_of_bits, minus_at, plus_at, weakened, word_count}
 use Rattle.crn_sign.specs.Settled.{SettlesOnly}
 use Rattle.crn_sign.specs.Inner.Bits.{mark_of}
 use Rattle.crn_sign.specs.Inner.Marks.{AreRowMarks, kind_of_mark, kinds_of}
@@ -21,8 +22,8 @@ use Rattle.crn_sign.specs.Inner.Places.{HasRoom, IsAround, IsAsked, IsHere, IsPl
 use Rattle.crn_sign.specs.Inner.Ready.{AreAround, AreAsked, AreMarked, IsLevel}
 use Rattle.crn_sign.proofs.MarkLaws.{kind_asked, kinds_long}
 
-pub room_of : (a : Mat) (l : Place) → IsPlace a l → HasRoom a l
-room_of a l h = record { width_is = h.width_is; asked = h.asked; marks = h.marks.long }
+pub room_of : (a : Mat) (weak : List ℕ) (l : Place) → IsPlace a weak l → HasRoom a l
+room_of a weak l h = record { width_is = h.width_is; asked = h.asked; marks = h.marks.long }
 
 pub settling_room : (a : Mat) (kinds : List Kind) (settled : List ℕ) (l : Place) → IsSettling a kinds settled l → HasRoom a l
 settling_room a kinds settled l h = h.room
@@ -34,10 +35,29 @@ kind_by_bits (suc p) zero = refl
 kind_by_bits (suc p) (suc m) = refl
 
 -- the kind that words ask
-kind_there : (a : Mat) (asked : List Bits) (k : ℕ) → k < width a → kind_at (kinds_of a asked) k ≡ kind_in asked k
-kind_there a asked k lt = kind_asked a asked k lt ∙ kind_by_bits (plus_at asked k) (minus_at asked k)
+kind_by : (a : Mat) (weak : List ℕ) (asked : List Bits) (k : ℕ) → k < width a → kind_at (kinds_of a weak asked) k ≡ kind_by_words weak asked k
+kind_by a weak asked k lt = kind_asked a weak asked k lt ∙ ap (λ (t : Kind). weakened t (bit_of weak k)) (kind_by_bits (plus_at asked k) (minus_at asked k))
 
-bits_by : (p m : Bool) → kind_of_bits (one_if p) (one_if m) ≡ kind_by p m
+-- a kind that is not weak
+firm : (κ : Kind) → weakened κ 0 ≡ κ
+firm Zero = refl
+firm Pos = refl
+firm Neg = refl
+firm NonNeg = refl
+firm Free = refl
+
+-- where nothing is weak
+pub firm_kind : (asked : List Bits) (k : ℕ) → kind_by_words [] asked k ≡ kind_in asked k
+firm_kind asked k = ap (λ (e : ℕ). weakened (kind_in asked k) e) (bit_at-zero (k % 64)) ∙ firm (kind_in asked k)
+
+-- what words require where nothing is weak
+pub firm_kinds : (a : Mat) (kinds : List Kind) (asked : List Bits) → AskKinds a kinds asked → AskKindsBy a [] kinds asked
+firm_kinds a kinds asked h = record { count = h.count; each = λ k lt. firm_kind asked k ∙ h.each k lt }
+
+kind_firm : (a : Mat) (asked : List Bits) (k : ℕ) → k < width a → kind_at (kinds_of a [] asked) k ≡ kind_in asked k
+kind_firm a asked k lt = kind_by a [] asked k lt ∙ firm_kind asked k
+
+bits_by : (p m : Bool) → kind_of_bits (one_if p) (one_if m) ≡ asked_by p m
 bits_by false false = refl
 bits_by false true = refl
 bits_by true false = refl
@@ -50,9 +70,12 @@ pub put_other : (old : List Bits) (k : ℕ) (asked : Asked) (new : List Bits) �
 put_other old k asked new h j ne = ap₂ (λ (p m : ℕ). kind_of_bits p m) (h.other_plus j ne) (h.other_minus j ne)
 
 -- the kinds that are asked are these, coordinate by coordinate
-pub kinds_are : (a : Mat) (kinds : List Kind) (asked : List Bits) → length kinds ≡ width a → ((k : ℕ) → k < width a → kind_in asked k ≡ kind_at kinds k) → kinds_of a asked ≡ kinds
-kinds_are a kinds asked long same = ext_get_or Free (kinds_of a asked) kinds (kinds_long a asked ∙ sym long)
-    (λ k lt. let at : k < width a = omega (arith, lt, kinds_long a asked) in kind_there a asked k at ∙ same k at)
+pub kinds_by : (a : Mat) (weak : List ℕ) (kinds : List Kind) (asked : List Bits) → length kinds ≡ width a → ((k : ℕ) → k < width a → kind_by_words weak asked k ≡ kind_at kinds k) → kinds_of a weak asked ≡ kinds
+kinds_by a weak kinds asked long same = ext_get_or Free (kinds_of a weak asked) kinds (kinds_long a weak asked ∙ sym long)
+    (λ k lt. let at : k < width a = omega (arith, lt, kinds_long a weak asked) in kind_by a weak asked k at ∙ same k at)
+
+pub kinds_are : (a : Mat) (kinds : List Kind) (asked : List Bits) → length kinds ≡ width a → ((k : ℕ) → k < width a → kind_in asked k ≡ kind_at kinds k) → kinds_of a [] asked ≡ kinds
+kinds_are a kinds asked long same = kinds_by a [] kinds asked long (λ k lt. firm_kind asked k ∙ same k lt)
 
 settled_room : (a : Mat) (kinds : List Kind) (k : ℕ) (old new : Place) → IsSettledAt a kinds k old new → HasRoom a old → HasRoom a new
 settled_room a kinds k old new s h = record { width_is = s.width_is ∙ h.width_is; asked = s.count ∙ h.asked; marks = ap (λ (l : List Bits). length l) s.marks ∙ h.marks }
@@ -89,17 +112,17 @@ begun_step a kinds k old new lt s h = record {
 }
 
 -- what is asked one level above is right around the prefix there
-pub around_above : (a : Mat) (kinds : List Sign → List Kind) (p : List Sign) (above here : Place) → kinds_of a above.asked.items ≡ kinds p → HasRoom a here → here.asked.items ≡ above.asked.items → IsAround a kinds p here
+pub around_above : (a : Mat) (kinds : List Sign → List Kind) (p : List Sign) (above here : Place) → kinds_of a [] above.asked.items ≡ kinds p → HasRoom a here → here.asked.items ≡ above.asked.items → IsAround a kinds p here
 around_above a kinds p above here are room same = record {
   room = room;
-  same = λ k lt law. ap (λ (l : List Bits). kind_in l k) same ∙ sym (kind_there a above.asked.items k lt) ∙ ap (λ (ks : List Kind). kind_at ks k) are;
+  same = λ k lt law. ap (λ (l : List Bits). kind_in l k) same ∙ sym (kind_firm a above.asked.items k lt) ∙ ap (λ (ks : List Kind). kind_at ks k) are;
 }
 
 -- what is asked at a prefix is right around the one with one choice less
-pub around_below : (a : Mat) (kinds : List Sign → List Kind) (p q : List Sign) (s : Sign) (l : Place) → q ≡ p ++ s ∷ [] → IsAsked a (kinds q) l → IsAround a kinds p l
+pub around_below : (a : Mat) (kinds : List Sign → List Kind) (p q : List Sign) (s : Sign) (l : Place) → q ≡ p ++ s ∷ [] → IsAsked a [] (kinds q) l → IsAround a kinds p l
 around_below a kinds p q s l e h = record {
   room = h.room;
-  same = λ k lt law. sym (kind_there a l.asked.items k lt) ∙ ap (λ (ks : List Kind). kind_at ks k) h.kinds_are ∙ ap (λ (r : List Sign). kind_at (kinds r) k) e ∙ law s;
+  same = λ k lt law. sym (kind_firm a l.asked.items k lt) ∙ ap (λ (ks : List Kind). kind_at ks k) h.kinds_are ∙ ap (λ (r : List Sign). kind_at (kinds r) k) e ∙ law s;
 }
 
 -- what is asked around a prefix is that of one with one choice more, but for what the choice settles
@@ -117,39 +140,39 @@ pub none_left : (a : Mat) (kinds : List Kind) (settled : List ℕ) (i : ℕ) (l 
 none_left a kinds settled i l past h = subst (λ (s : List ℕ). IsSettling a kinds s l) (drop_all i settled past) h
 
 -- all kinds are asked
-pub all_settled : (a : Mat) (kinds : List Kind) (l : Place) → length kinds ≡ width a → IsSettling a kinds [] l → kinds_of a l.asked.items ≡ kinds
+pub all_settled : (a : Mat) (kinds : List Kind) (l : Place) → length kinds ≡ width a → IsSettling a kinds [] l → kinds_of a [] l.asked.items ≡ kinds
 all_settled a kinds l long h = kinds_are a kinds l.asked.items long (λ k lt. h.same k lt (λ i. i))
 
-pub asked_at : (a : Mat) (kinds : List Kind) (l : Place) → IsHere a kinds l → IsAsked a kinds l
-asked_at a kinds l h = record { room = room_of a l h.place; kinds_are = h.kinds_are }
+pub asked_at : (a : Mat) (weak : List ℕ) (kinds : List Kind) (l : Place) → IsHere a weak kinds l → IsAsked a weak kinds l
+asked_at a weak kinds l h = record { room = room_of a weak l h.place; kinds_are = h.kinds_are }
 
 -- ---- both parts
 
-pub level_asked : (w : Signed) (p : List Sign) (l : Level) → IsLevel w p l → AreAsked w p l
-level_asked w p l h = record { a = asked_at w.matrix_a (w.kinds_a p) l.a h.a; b = asked_at w.matrix_b (w.kinds_b p) l.b h.b }
+pub level_asked : (w : Signed) (weak : List ℕ) (p : List Sign) (l : Level) → IsLevel w weak p l → AreAsked w weak p l
+level_asked w weak p l h = record { a = asked_at w.matrix_a weak (w.kinds_a p) l.a h.a; b = asked_at w.matrix_b [] (w.kinds_b p) l.b h.b }
 
-pub level_marked : (w : Signed) (p : List Sign) (l : Level) → IsLevel w p l → AreMarked w l
-level_marked w p l h = record { a = h.a.place.marks; b = h.b.place.marks }
+pub level_marked : (w : Signed) (weak : List ℕ) (p : List Sign) (l : Level) → IsLevel w weak p l → AreMarked w l
+level_marked w weak p l h = record { a = h.a.place.marks; b = h.b.place.marks }
 
 -- what is asked, and what was taken over for it
-pub taken_level : (w : Signed) (p : List Sign) (old new : Level) → IsPlace w.matrix_a new.a → IsPlace w.matrix_b new.b → new.a.asked.items ≡ old.a.asked.items → new.b.asked.items ≡ old.b.asked.items → AreAsked w p old → IsLevel w p new
-taken_level w p old new a b ea eb h = record {
-  a = record { place = a; kinds_are = ap (λ (q : List Bits). kinds_of w.matrix_a q) ea ∙ h.a.kinds_are };
-  b = record { place = b; kinds_are = ap (λ (q : List Bits). kinds_of w.matrix_b q) eb ∙ h.b.kinds_are };
+pub taken_level : (w : Signed) (weak : List ℕ) (p : List Sign) (old new : Level) → IsPlace w.matrix_a weak new.a → IsPlace w.matrix_b [] new.b → new.a.asked.items ≡ old.a.asked.items → new.b.asked.items ≡ old.b.asked.items → AreAsked w weak p old → IsLevel w weak p new
+taken_level w weak p old new a b ea eb h = record {
+  a = record { place = a; kinds_are = ap (λ (q : List Bits). kinds_of w.matrix_a weak q) ea ∙ h.a.kinds_are };
+  b = record { place = b; kinds_are = ap (λ (q : List Bits). kinds_of w.matrix_b [] q) eb ∙ h.b.kinds_are };
 }
 
 -- the kinds that a problem asked
-pub asked_kinds : (a : Mat) (kinds : List Kind) (asked : List Bits) → length kinds ≡ width a → AskKinds a kinds asked → kinds_of a asked ≡ kinds
-asked_kinds a kinds asked long h = kinds_are a kinds asked long h.each
+pub asked_kinds : (a : Mat) (weak : List ℕ) (kinds : List Kind) (asked : List Bits) → length kinds ≡ width a → AskKindsBy a weak kinds asked → kinds_of a weak asked ≡ kinds
+asked_kinds a weak kinds asked long h = kinds_by a weak kinds asked long h.each
 
-pub asked_around : (w : Signed) (p q : List Sign) (s : Sign) (l : Level) → q ≡ p ++ s ∷ [] → length l.sums.items ≡ word_count w.matrix_a → AreAsked w q l → AreAround w p l
-asked_around w p q s l e count h = record { a = h.a.room; b = around_below w.matrix_b w.kinds_b p q s l.b e h.b; sums = count }
+pub asked_around : (w : Signed) (weak : List ℕ) (p q : List Sign) (s : Sign) (l : Level) → q ≡ p ++ s ∷ [] → length l.sums.items ≡ word_count w.matrix_a → AreAsked w weak q l → AreAround w p l
+asked_around w weak p q s l e count h = record { a = h.a.room; b = around_below w.matrix_b w.kinds_b p q s l.b e h.b; sums = count }
 
-pub level_at : (w : Signed) (p q : List Sign) (l : Level) → q ≡ p → IsHere w.matrix_a (w.kinds_a q) l.a → IsHere w.matrix_b (w.kinds_b p) l.b → IsLevel w p l
-level_at w p q l e a b = record { a = subst (λ (r : List Sign). IsHere w.matrix_a (w.kinds_a r) l.a) e a; b = b }
+pub level_at : (w : Signed) (weak : List ℕ) (p q : List Sign) (l : Level) → q ≡ p → IsHere w.matrix_a weak (w.kinds_a q) l.a → IsHere w.matrix_b [] (w.kinds_b p) l.b → IsLevel w weak p l
+level_at w weak p q l e a b = record { a = subst (λ (r : List Sign). IsHere w.matrix_a weak (w.kinds_a r) l.a) e a; b = b }
 
-pub level_moved : (w : Signed) (p q : List Sign) (l : Level) → q ≡ p → IsLevel w p l → IsLevel w q l
-level_moved w p q l e h = subst (λ (r : List Sign). IsLevel w r l) (sym e) h
+pub level_moved : (w : Signed) (weak : List ℕ) (p q : List Sign) (l : Level) → q ≡ p → IsLevel w weak p l → IsLevel w weak q l
+level_moved w weak p q l e h = subst (λ (r : List Sign). IsLevel w weak r l) (sym e) h
 
 -- the last option taken back
 pub taken_back : (p q new : List Sign) (s : Sign) (n : ℕ) → q ≡ p ++ s ∷ [] → n ≡ length q → new ≡ take (n - 1) q → new ≡ p

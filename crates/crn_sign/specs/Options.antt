@@ -6,7 +6,7 @@ use Rattle.std.specs.Int.{bit_at}
 use Rattle.crn_vec.specs.declared.signs.Sign.{Sign}
 use Rattle.crn_vec.specs.declared.signs.Sign.TheVariants.{Zero}
 use Rattle.crn_vec.specs.declared.signs.Kind.{Kind}
-use Rattle.crn_vec.specs.declared.signs.Kind.TheVariants.{Pos, Neg, Zero as ZeroKind, Free}
+use Rattle.crn_vec.specs.declared.signs.Kind.TheVariants.{Pos, Neg, Zero as ZeroKind, NonNeg, Free}
 use Rattle.crn_vec.specs.Systems.{kind_at, one_if}
 use Rattle.crn_vec.specs.Vectors.{Mat}
 use Rattle.crn_vec.specs.Elementary.{width}
@@ -63,6 +63,32 @@ kind_in asked k = kind_of_bits (plus_at asked k) (minus_at asked k)
 pub record AskKinds (a : Mat) (kinds : List Kind) (asked : List Bits) : Type 0 where
   pub count : length asked ≡ word_count a
   pub each : (k : ℕ) → k < width a → kind_in asked k ≡ kind_at kinds k
+
+-- a word of bits, 0 past the end of the list
+abbrev pub word_of : List ℕ → ℕ → ℕ
+word_of words w = slice_index_or words w 0
+
+-- the bit of a coordinate
+abbrev pub bit_of : List ℕ → ℕ → ℕ
+bit_of words k = bit_at (word_of words (k / 64)) (k % 64)
+
+-- the kind of a coordinate that a bit may make weak, where plus requires no more than a number at least 0
+abbrev pub weakened : Kind → ℕ → Kind
+weakened Pos zero = Pos
+weakened Pos (suc w) = NonNeg
+weakened Neg w = Neg
+weakened ZeroKind w = ZeroKind
+weakened NonNeg w = NonNeg
+weakened Free w = Free
+
+-- the kind that words require of a coordinate, of which those of `weak` are weak
+abbrev pub kind_by_words : List ℕ → List Bits → ℕ → Kind
+kind_by_words weak asked k = weakened (kind_in asked k) (bit_of weak k)
+
+-- the words require these kinds of the coordinates of a matrix, of which those of `weak` are weak
+pub record AskKindsBy (a : Mat) (weak : List ℕ) (kinds : List Kind) (asked : List Bits) : Type 0 where
+  pub count : length asked ≡ word_count a
+  pub each : (k : ℕ) → k < width a → kind_by_words weak asked k ≡ kind_at kinds k
 
 -- the bits of coordinate k are these, and the others are as before
 pub record IsPut (old : List Bits) (k : ℕ) (asked : Asked) (new : List Bits) : Type 0 where

@@ -1,7 +1,7 @@
 ghost use Rattle.std.specs.Prelude.{◌≡◌, ◌≢◌, ◌<◌, ◌≤◌, ◌+◌, ◌*◌, ℕ, length};
 ghost use Rattle.std.specs.Int.{bit_at};
 ghost use Rattle.crn_vec.specs.Systems.{one_if};
-ghost use Rattle.crn_sign.specs.Options.{IsPut};
+ghost use Rattle.crn_sign.specs.Options.{IsPut, bit_of, word_of};
 ghost use Rattle.crn_sign.specs.Inner.Bits.{IsMarked, mark_at, mark_in, mark_of};
 
 use crate::marks::Mark;
@@ -122,6 +122,38 @@ pub fn put_asked(words: &mut [Bits], k: usize, asked: Asked)
     ensures { IsPut words.old k asked words.new }
 {
     words[k / 64] = with_asked(words[k / 64], k % 64, asked);
+}
+
+/// A word of a list, 0 past its end.
+pub(crate) fn word_of(words: &[u64], w: usize) -> u64
+    ensures { result ≡ word_of words.now w }
+{
+    if w < words.len() { words[w] } else { 0 }
+}
+
+/// The bit of one of 64 coordinates.
+pub(crate) fn bit_in(word: u64, i: usize) -> u64
+    requires { i < 64 }
+    ensures { result ≡ bit_at word i }
+{
+    (word >> i) & 1
+}
+
+/// The bit of a coordinate.
+pub(crate) fn bit_of(words: &[u64], k: usize) -> u64
+    ensures { result ≡ bit_of words.now k }
+{
+    bit_in(word_of(words, k / 64), k % 64)
+}
+
+/// Makes a coordinate weak.
+pub fn put_weak(words: &mut [u64], k: usize)
+    requires { k < length words.old * 64 }
+    ensures count { length words.new ≡ length words.old }
+    ensures here { bit_of words.new k ≡ 1 }
+    ensures others { (j : ℕ) → j ≢ k → bit_of words.new j ≡ bit_of words.old j }
+{
+    words[k / 64] = with_bit(words[k / 64], k % 64);
 }
 
 /// The mark of a coordinate.

@@ -14,7 +14,7 @@ mod problem;
 mod signs;
 mod walk;
 
-pub use bits::{Bits, NONE, put_asked};
+pub use bits::{Bits, NONE, put_asked, put_weak};
 pub use end::{SearchEnd, SearchOutcome};
 pub use fault::SearchStop;
 pub use marks::word_count;

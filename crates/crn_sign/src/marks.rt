@@ -5,9 +5,10 @@ ghost use Rattle.crn_vec.specs.Systems.{kind_at};
 ghost use Rattle.crn_vec.specs.declared.signs.Kind.{Kind};
 ghost use Rattle.crn_sign.specs.Inner.RowSigns.{AreRowSigns};
 ghost use Rattle.crn_sign.specs.Inner.Bits.{mark_at, mark_in, none, word_at, word_count};
-ghost use Rattle.crn_sign.specs.Inner.Marks.{AreMadeBy, AreMet, AreOpposite, AreRowMarks, Meets, united, kind_of_mark, kinds_of, laid, negative, sign_mark, sign_there};
+ghost use Rattle.crn_sign.specs.Options.{weakened};
+ghost use Rattle.crn_sign.specs.Inner.Marks.{AreMadeBy, AreMet, AreOpposite, AreRowMarks, Suits, united, kind_of_mark, kinds_of, laid, negative, sign_mark, sign_there};
 
-use crate::bits::{Bits, NONE, mark_at, mark_in, put_mark, without_bit};
+use crate::bits::{Bits, NONE, bit_in, mark_at, mark_in, put_mark, without_bit, word_of};
 use crn_vec::{Kind, Matrix, NoMemory, Sign};
 use std::alloc::Global;
 
@@ -58,24 +59,30 @@ pub(crate) fn opposite(one: Bits) -> Bits
     }
 }
 
-/// The places of 64 at which a mark is not what is required.
-pub(crate) fn misfits(asked: Bits, marks: Bits) -> u64
-    ensures { (i : ℕ) → bit_at result i ≡ 0 → Meets (mark_in asked i) (mark_in marks i) }
+/// The places of 64 at which a mark is not what is required. A weak plus is met by 0 too.
+#[inline(always)]
+pub(crate) fn misfits(asked: Bits, weak: u64, marks: Bits) -> u64
+    ensures { (i : ℕ) → bit_at result i ≡ 0
+        → Suits (weakened (kind_of_mark (mark_in asked i)) (bit_at weak i)) (mark_in marks i) }
 {
     let plus = ((asked.plus | asked.minus) ^ asked.minus) ^ marks.plus;
     let minus = ((asked.plus | asked.minus) ^ asked.plus) ^ marks.minus;
-    (plus | minus) & (asked.plus | asked.minus)
+    let apart = (plus | minus) & (asked.plus | asked.minus);
+    let some = asked.minus | marks.minus;
+    let eased = (weak | some) ^ some;
+    (apart | eased) ^ eased
 }
 
 /// Whether each mark is what is required.
-pub(crate) fn all_meet(asked: &[Bits], marks: &[Bits]) -> bool
-    ensures { IsTrue result → AreMet asked.now marks.now }
+#[inline(always)]
+pub(crate) fn all_meet(asked: &[Bits], weak: &[u64], marks: &[Bits]) -> bool
+    ensures { IsTrue result → AreMet weak.now asked.now marks.now }
 {
     if asked.len() != marks.len() {
         return false;
     }
     for w in 0..asked.len() {
-        if misfits(asked[w], marks[w]) != 0 {
+        if misfits(asked[w], word_of(weak, w), marks[w]) != 0 {
             return false;
         }
     }
@@ -157,6 +164,22 @@ fn kind_of_mark(mark: Mark) -> Kind
     }
 }
 
+// The kind of a coordinate that may be weak.
+fn weakened(kind: Kind, weak: u64) -> Kind
+    ensures { result ≡ weakened kind weak }
+{
+    match kind {
+        Kind::Zero => Kind::Zero,
+        Kind::Pos => match weak {
+            0 => Kind::Pos,
+            _ => Kind::NonNeg,
+        },
+        Kind::Neg => Kind::Neg,
+        Kind::NonNeg => Kind::NonNeg,
+        Kind::Free => Kind::Free,
+    }
+}
+
 // The places of 64 at which something is required.
 fn asked_places(bits: Bits) -> u64
     ensures { (i : ℕ) → bit_at result i ≡ 0 → kind_of_mark (mark_in bits i) ≡ Kind.Free }
@@ -176,20 +199,22 @@ fn put_kind(kinds: &mut Vec<Kind>, k: usize, kind: Kind)
 }
 
 // Puts the kinds that are required of the coordinates of a word, which are free so far.
-fn put_kinds(kinds: &mut Vec<Kind>, bits: Bits, w: usize)
+fn put_kinds(kinds: &mut Vec<Kind>, bits: Bits, weak: u64, w: usize)
     requires word { w ≤ 1024 }
     requires free { (i : ℕ) → i < 64 → 64 * w + i < length kinds.old.items
         → kind_at kinds.old.items (64 * w + i) ≡ Kind.Free }
     ensures count { length kinds.new.items ≡ length kinds.old.items }
     ensures here { (i : ℕ) → i < 64 → 64 * w + i < length kinds.old.items
-        → kind_at kinds.new.items (64 * w + i) ≡ kind_of_mark (mark_in bits i) }
+        → kind_at kinds.new.items (64 * w + i)
+        ≡ weakened (kind_of_mark (mark_in bits i)) (bit_at weak i) }
     ensures others { (k : ℕ) → k / 64 ≢ w
         → kind_at kinds.new.items k ≡ kind_at kinds.old.items k }
 {
     let mut rest = asked_places(bits);
     'bits: while rest != 0 {
         let i = rest.trailing_zeros() as usize;
-        put_kind(kinds, 64 * w + i, kind_of_mark(mark_in(bits, i)));
+        let kind = weakened(kind_of_mark(mark_in(bits, i)), bit_in(weak, i));
+        put_kind(kinds, 64 * w + i, kind);
         rest = without_bit(rest, i);
     }
 }
@@ -198,16 +223,17 @@ fn put_kinds(kinds: &mut Vec<Kind>, bits: Bits, w: usize)
 pub(crate) fn kinds_of(
     alloc: Global,
     matrix: &Matrix,
+    weak: &[u64],
     asked: &[Bits],
 ) -> Result<Vec<Kind>, NoMemory>
     requires { length asked.now ≡ word_count matrix.now }
-    ensures kinds { IfOk result (λ made. made.items ≡ kinds_of matrix.now asked.now) }
+    ensures kinds { IfOk result (λ made. made.items ≡ kinds_of matrix.now weak.now asked.now) }
     ensures long { IfOk result (λ made. length made.items ≡ width matrix.now) }
 {
     let count = matrix.cols() + matrix.rows();
     let mut kinds = vec![in alloc; Kind::Free; count]?;
     for w in 0..asked.len() {
-        put_kinds(&mut kinds, asked[w], w);
+        put_kinds(&mut kinds, asked[w], word_of(weak, w), w);
     }
     Ok(kinds)
 }

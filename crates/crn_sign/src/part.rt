@@ -11,7 +11,7 @@ ghost use Rattle.crn_sign.specs.Inner.Marks.{AreRowMarks, AreSuited, kinds_of};
 ghost use Rattle.crn_sign.specs.Inner.Parts.{IsFinder, IsPart, IsRuling};
 ghost use Rattle.crn_sign.specs.Inner.Places.{IsPlace};
 
-use crate::bits::{Bits, NONE, mark_at, push_places, put_mark};
+use crate::bits::{Bits, NONE, bit_of, mark_at, push_places, put_mark, word_of};
 use crate::columns::{Column, columns_of};
 use crate::marks::{
     Mark, clear, kinds_of, lay, misfits, put_opposites, put_signs, put_zeros, word_count,
@@ -97,21 +97,22 @@ impl Finder {
         &mut self,
         alloc: Global,
         matrix: &Matrix,
+        weak: &[u64],
         bits: &[Bits],
         g: usize,
     ) -> Result<Option<Cut>, Stop>
         requires finder { IsFinder matrix.now self.old }
         requires bits { length bits.now ≡ word_count matrix.now }
         requires goal { g < width matrix.now }
-        requires asked { is_signed (kind_at (kinds_of matrix.now bits.now) g) ≡ true }
+        requires asked { is_signed (kind_at (kinds_of matrix.now weak.now bits.now) g) ≡ true }
         ensures finder { OnOk result (IsFinder matrix.now self.new) }
         ensures answer { MatchResult result
             (λ o. MatchOption o (AreRowMarks matrix.now self.new.ray.items)
             (λ cut. IsCutBy self.new.solver.matrix self.new.solver.basis
-            (kinds_of matrix.now bits.now) cut.row cut.sign))
-            (λ s. IsTargetStop matrix.now (kinds_of matrix.now bits.now) s) }
+            (kinds_of matrix.now weak.now bits.now) cut.row cut.sign))
+            (λ s. IsTargetStop matrix.now (kinds_of matrix.now weak.now bits.now) s) }
     {
-        let kinds = kinds_of(alloc, matrix, bits)?;
+        let kinds = kinds_of(alloc, matrix, weak, bits)?;
         match self.solver.alternative(&kinds, g, &mut self.signs) {
             Ok(Alternative::Cut(cut)) => Ok(Some(cut)),
             Ok(Alternative::Witness) => {
@@ -128,6 +129,7 @@ impl Finder {
         &mut self,
         alloc: Global,
         matrix: &Matrix,
+        weak: &[u64],
         bits: &[Bits],
         marks: &mut [Bits],
         g: usize,
@@ -137,14 +139,14 @@ impl Finder {
         requires bits { length bits.now ≡ word_count matrix.now }
         requires marks { AreRowMarks matrix.now marks.old }
         requires goal { g < width matrix.now }
-        requires asked { is_signed (kind_at (kinds_of matrix.now bits.now) g) ≡ true }
+        requires asked { is_signed (kind_at (kinds_of matrix.now weak.now bits.now) g) ≡ true }
         ensures finder { OnOk result (IsFinder matrix.now self.new) }
         ensures marks { OnOk result (AreRowMarks matrix.now marks.new) }
         ensures answer { MatchResult result
             (λ o. MatchOption o (Unit {0})
             (λ cut. IsCutBy self.new.solver.matrix self.new.solver.basis
-            (kinds_of matrix.now bits.now) cut.row cut.sign))
-            (λ s. IsTargetStop matrix.now (kinds_of matrix.now bits.now) s) }
+            (kinds_of matrix.now weak.now bits.now) cut.row cut.sign))
+            (λ s. IsTargetStop matrix.now (kinds_of matrix.now weak.now bits.now) s) }
     {
         if let Some(number) = self.pool.find(matrix, &self.wanted, g, sign) {
             if number < self.pool.rays.len() {
@@ -152,7 +154,7 @@ impl Finder {
                 return Ok(None);
             }
         }
-        if let Some(cut) = self.ask(alloc, matrix, bits, g)? {
+        if let Some(cut) = self.ask(alloc, matrix, weak, bits, g)? {
             return Ok(Some(cut));
         }
         lay(matrix, &self.ray, marks);
@@ -164,6 +166,7 @@ impl Finder {
         &mut self,
         alloc: Global,
         matrix: &Matrix,
+        weak: &[u64],
         bits: &[Bits],
         marks: &mut [Bits],
         g: usize,
@@ -177,16 +180,16 @@ impl Finder {
         ensures answer { MatchResult result
             (λ o. MatchOption o (Unit {0})
             (λ cut. IsCutBy self.new.solver.matrix self.new.solver.basis
-            (kinds_of matrix.now bits.now) cut.row cut.sign))
-            (λ s. IsTargetStop matrix.now (kinds_of matrix.now bits.now) s) }
+            (kinds_of matrix.now weak.now bits.now) cut.row cut.sign))
+            (λ s. IsTargetStop matrix.now (kinds_of matrix.now weak.now bits.now) s) }
     {
         let asked = mark_at(bits, g);
-        if mark_at(marks, g) == asked {
+        if mark_at(marks, g) == asked || bit_of(weak, g) != 0 {
             return Ok(None);
         }
         match asked {
-            Mark::Plus => self.raise(alloc, matrix, bits, marks, g, Sign::Plus),
-            Mark::Minus => self.raise(alloc, matrix, bits, marks, g, Sign::Minus),
+            Mark::Plus => self.raise(alloc, matrix, weak, bits, marks, g, Sign::Plus),
+            Mark::Minus => self.raise(alloc, matrix, weak, bits, marks, g, Sign::Minus),
             _ => Ok(None),
         }
     }
@@ -196,6 +199,7 @@ impl Finder {
         &mut self,
         alloc: Global,
         matrix: &Matrix,
+        weak: &[u64],
         bits: &[Bits],
         marks: &mut [Bits],
     ) -> Result<Option<Cut>, Stop>
@@ -207,14 +211,14 @@ impl Finder {
         ensures answer { MatchResult result
             (λ o. MatchOption o (Unit {0})
             (λ cut. IsCutBy self.new.solver.matrix self.new.solver.basis
-            (kinds_of matrix.now bits.now) cut.row cut.sign))
-            (λ s. IsTargetStop matrix.now (kinds_of matrix.now bits.now) s) }
+            (kinds_of matrix.now weak.now bits.now) cut.row cut.sign))
+            (λ s. IsTargetStop matrix.now (kinds_of matrix.now weak.now bits.now) s) }
     {
         for i in 0..self.misfits.len() {
             if i < self.misfits.len() {
                 let g = self.misfits[i];
                 if g < self.signs.len() {
-                    if let Some(cut) = self.raise_at(alloc, matrix, bits, marks, g)? {
+                    if let Some(cut) = self.raise_at(alloc, matrix, weak, bits, marks, g)? {
                         return Ok(Some(cut));
                     }
                 }
@@ -229,6 +233,7 @@ impl Finder {
         &mut self,
         alloc: Global,
         matrix: &Matrix,
+        weak: &[u64],
         g: usize,
         kind: Kind,
     ) -> Result<bool, Stop>
@@ -240,7 +245,7 @@ impl Finder {
             → AreRowMarks matrix.now self.new.ray.items) }
         ensures stop { IfErr result (λ s. (kinds : List Kind) → IsTargetStop matrix.now kinds s) }
     {
-        let mut kinds = kinds_of(alloc, matrix, &self.asked)?;
+        let mut kinds = kinds_of(alloc, matrix, weak, &self.asked)?;
         kinds[g] = kind;
         match self.solver.alternative(&kinds, g, &mut self.signs) {
             Ok(Alternative::Witness) => {
@@ -257,6 +262,7 @@ impl Finder {
         &mut self,
         alloc: Global,
         matrix: &Matrix,
+        weak: &[u64],
         marks: &mut [Bits],
         g: usize,
         kind: Kind,
@@ -274,7 +280,7 @@ impl Finder {
                 return Ok(clear(matrix, &self.pool.rays[number].marks, marks, g));
             }
         }
-        if self.ask_aside(alloc, matrix, g, kind)? {
+        if self.ask_aside(alloc, matrix, weak, g, kind)? {
             return Ok(clear(matrix, &self.ray, marks, g));
         }
         Ok(false)
@@ -285,6 +291,7 @@ impl Finder {
         &mut self,
         alloc: Global,
         matrix: &Matrix,
+        weak: &[u64],
         marks: &mut [Bits],
         g: usize,
         kind: Kind,
@@ -303,7 +310,7 @@ impl Finder {
                 return Ok(true);
             }
         }
-        if self.ask_aside(alloc, matrix, g, kind)? {
+        if self.ask_aside(alloc, matrix, weak, g, kind)? {
             lay(matrix, &self.ray, marks);
             return Ok(true);
         }
@@ -315,6 +322,7 @@ impl Finder {
         &mut self,
         alloc: Global,
         matrix: &Matrix,
+        weak: &[u64],
         marks: &mut [Bits],
         g: usize,
     ) -> Result<bool, Stop>
@@ -327,13 +335,13 @@ impl Finder {
     {
         match mark_at(marks, g) {
             Mark::Zero => Ok(true),
-            Mark::Plus => self.clear_by(alloc, matrix, marks, g, Kind::Neg),
-            Mark::Minus => self.clear_by(alloc, matrix, marks, g, Kind::Pos),
+            Mark::Plus => self.clear_by(alloc, matrix, weak, marks, g, Kind::Neg),
+            Mark::Minus => self.clear_by(alloc, matrix, weak, marks, g, Kind::Pos),
             Mark::Any => {
-                if !self.lay_by(alloc, matrix, marks, g, Kind::Pos)? {
+                if !self.lay_by(alloc, matrix, weak, marks, g, Kind::Pos)? {
                     return Ok(false);
                 }
-                self.clear_by(alloc, matrix, marks, g, Kind::Neg)
+                self.clear_by(alloc, matrix, weak, marks, g, Kind::Neg)
             }
         }
     }
@@ -363,7 +371,15 @@ impl Finder {
 
     // Gives the marked vector the signs that are required at the coordinates of a word, by vectors that are
     // kept. The answer is whether such are kept.
-    fn serve_word(&mut self, matrix: &Matrix, asked: &[Bits], marks: &mut [Bits], w: usize) -> bool
+    #[inline(always)]
+    fn serve_word(
+        &mut self,
+        matrix: &Matrix,
+        weak: u64,
+        asked: &[Bits],
+        marks: &mut [Bits],
+        w: usize,
+    ) -> bool
         requires finder { IsFinder matrix.now self.old }
         requires word { w < length asked.now }
         requires asked { length asked.now ≡ word_count matrix.now }
@@ -373,37 +389,62 @@ impl Finder {
     {
         let _ = matrix.rows();
         let bits = asked[w];
-        let mut rest = misfits(bits, marks[w]);
+        let mut rest = misfits(bits, weak, marks[w]);
         'places: while rest != 0 {
             let i = rest.trailing_zeros() as usize;
             if !self.serve_at(matrix, asked, marks, 64 * w + i, sign_asked(bits, i)) {
                 return false;
             }
-            rest = rest & (rest - 1) & misfits(bits, marks[w]);
+            rest = rest & (rest - 1) & misfits(bits, weak, marks[w]);
         }
         true
     }
 
-    // Gives the marked vector the signs that are required by vectors that are kept, unless some coordinate
-    // has to be made 0. The answer is whether it suits then.
-    #[inline(never)]
-    fn serve(&mut self, matrix: &Matrix, asked: &[Bits], marks: &mut [Bits]) -> bool
+    // Gives the marked vector the signs that are required by vectors that are kept. The answer is whether it
+    // suits then.
+    #[inline(always)]
+    fn serve_words(
+        &mut self,
+        matrix: &Matrix,
+        weak: &[u64],
+        asked: &[Bits],
+        marks: &mut [Bits],
+    ) -> bool
         requires finder { IsFinder matrix.now self.old }
         requires asked { length asked.now ≡ word_count matrix.now }
         requires marks { AreRowMarks matrix.now marks.old }
         ensures finder { IsFinder matrix.now self.new }
         ensures marks { AreRowMarks matrix.now marks.new }
-        ensures suits { IsTrue result → AreSuited (kinds_of matrix.now asked.now) marks.new }
+        ensures suits { IsTrue result
+            → AreSuited (kinds_of matrix.now weak.now asked.now) marks.new }
+    {
+        for w in 0..asked.len() {
+            if !self.serve_word(matrix, word_of(weak, w), asked, marks, w) {
+                return false;
+            }
+        }
+        is_met(matrix, weak, asked, marks)
+    }
+
+    // The same, unless some coordinate has to be made 0. That nothing is weak is said apart, as then the
+    // compiler leaves the words of what is out.
+    #[inline(never)]
+    fn serve(&mut self, matrix: &Matrix, weak: &[u64], asked: &[Bits], marks: &mut [Bits]) -> bool
+        requires finder { IsFinder matrix.now self.old }
+        requires asked { length asked.now ≡ word_count matrix.now }
+        requires marks { AreRowMarks matrix.now marks.old }
+        ensures finder { IsFinder matrix.now self.new }
+        ensures marks { AreRowMarks matrix.now marks.new }
+        ensures suits { IsTrue result
+            → AreSuited (kinds_of matrix.now weak.now asked.now) marks.new }
     {
         if has_zero_misfit(asked, marks) {
             return false;
         }
-        for w in 0..asked.len() {
-            if !self.serve_word(matrix, asked, marks, w) {
-                return false;
-            }
+        if weak.is_empty() {
+            return self.serve_words(matrix, &[], asked, marks);
         }
-        is_met(matrix, asked, marks)
+        self.serve_words(matrix, weak, asked, marks)
     }
 
     // Lists the coordinates whose marks do not suit what is required, which it keeps, and frees these. The
@@ -411,6 +452,7 @@ impl Finder {
     fn list_misfits(
         &mut self,
         matrix: &Matrix,
+        weak: &[u64],
         bits: &[Bits],
         marks: &[Bits],
     ) -> Result<bool, NoMemory>
@@ -423,10 +465,11 @@ impl Finder {
         self.misfits.clear();
         let mut zeros = 0;
         for w in 0..bits.len() {
-            let wrong = misfits(bits[w], marks[w]);
+            let weak = word_of(weak, w);
+            let wrong = misfits(bits[w], weak, marks[w]);
             self.wanted[w] = bits[w];
             self.asked[w] = without(bits[w], wrong);
-            zeros = zeros | (wrong & bits[w].plus & bits[w].minus);
+            zeros = zeros | (wrong & bits[w].plus & (bits[w].minus | weak));
             push_places(&mut self.misfits, 64 * w, wrong)?;
         }
         Ok(zeros != 0)
@@ -437,6 +480,7 @@ impl Finder {
         &mut self,
         alloc: Global,
         matrix: &Matrix,
+        weak: &[u64],
         marks: &mut [Bits],
         g: usize,
     ) -> Result<bool, Stop>
@@ -447,7 +491,7 @@ impl Finder {
         ensures marks { OnOk result (AreRowMarks matrix.now marks.new) }
         ensures stop { IfErr result (λ s. (kinds : List Kind) → IsTargetStop matrix.now kinds s) }
     {
-        if !self.clear_at(alloc, matrix, marks, g)? {
+        if !self.clear_at(alloc, matrix, weak, marks, g)? {
             return Ok(false);
         }
         ask_zero(&mut self.asked, g);
@@ -460,6 +504,7 @@ impl Finder {
         &mut self,
         alloc: Global,
         matrix: &Matrix,
+        weak: &[u64],
         bits: &[Bits],
         marks: &mut [Bits],
     ) -> Result<bool, Stop>
@@ -473,8 +518,8 @@ impl Finder {
         for i in 0..self.misfits.len() {
             if i < self.misfits.len() {
                 let g = self.misfits[i];
-                if g < self.signs.len() && mark_at(bits, g) == Mark::Any {
-                    if !self.clear_misfit(alloc, matrix, marks, g)? {
+                if g < self.signs.len() && has_to_be_zero(weak, bits, g) {
+                    if !self.clear_misfit(alloc, matrix, weak, marks, g)? {
                         return Ok(false);
                     }
                 }
@@ -489,6 +534,7 @@ impl Finder {
         &mut self,
         alloc: Global,
         matrix: &Matrix,
+        weak: &[u64],
         bits: &[Bits],
         marks: &mut [Bits],
     ) -> Result<Option<Cut>, Stop>
@@ -500,17 +546,17 @@ impl Finder {
         ensures answer { MatchResult result
             (λ o. MatchOption o (Unit {0})
             (λ cut. IsCutBy self.new.solver.matrix self.new.solver.basis
-            (kinds_of matrix.now bits.now) cut.row cut.sign))
-            (λ s. IsTargetStop matrix.now (kinds_of matrix.now bits.now) s) }
+            (kinds_of matrix.now weak.now bits.now) cut.row cut.sign))
+            (λ s. IsTargetStop matrix.now (kinds_of matrix.now weak.now bits.now) s) }
     {
-        if self.clear_misfits(alloc, matrix, bits, marks)? {
+        if self.clear_misfits(alloc, matrix, weak, bits, marks)? {
             return Ok(None);
         }
         put_zeros(matrix, marks);
-        if let Some(cut) = self.raise_misfits(alloc, matrix, bits, marks)? {
+        if let Some(cut) = self.raise_misfits(alloc, matrix, weak, bits, marks)? {
             return Ok(Some(cut));
         }
-        let _ = self.list_misfits(matrix, bits, marks)?;
+        let _ = self.list_misfits(matrix, weak, bits, marks)?;
         Ok(None)
     }
 
@@ -519,6 +565,7 @@ impl Finder {
         &mut self,
         alloc: Global,
         matrix: &Matrix,
+        weak: &[u64],
         bits: &[Bits],
         marks: &mut [Bits],
     ) -> Result<Option<Cut>, Stop>
@@ -530,16 +577,16 @@ impl Finder {
         ensures answer { MatchResult result
             (λ o. MatchOption o (Unit {0})
             (λ cut. IsCutBy self.new.solver.matrix self.new.solver.basis
-            (kinds_of matrix.now bits.now) cut.row cut.sign))
-            (λ s. IsTargetStop matrix.now (kinds_of matrix.now bits.now) s) }
+            (kinds_of matrix.now weak.now bits.now) cut.row cut.sign))
+            (λ s. IsTargetStop matrix.now (kinds_of matrix.now weak.now bits.now) s) }
     {
-        if !self.list_misfits(matrix, bits, marks)? {
-            return self.raise_misfits(alloc, matrix, bits, marks);
+        if !self.list_misfits(matrix, weak, bits, marks)? {
+            return self.raise_misfits(alloc, matrix, weak, bits, marks);
         }
-        if let Some(cut) = self.clear_zeros(alloc, matrix, bits, marks)? {
+        if let Some(cut) = self.clear_zeros(alloc, matrix, weak, bits, marks)? {
             return Ok(Some(cut));
         }
-        self.raise_misfits(alloc, matrix, bits, marks)
+        self.raise_misfits(alloc, matrix, weak, bits, marks)
     }
 }
 
@@ -567,6 +614,13 @@ fn has_zero_misfit(asked: &[Bits], marks: &[Bits]) -> bool {
         wrong = wrong | (asked[w].plus & asked[w].minus & (marks[w].plus | marks[w].minus));
     }
     wrong != 0
+}
+
+// Whether a misfit has to be made 0: where a number at least 0 is required, 0 will do.
+fn has_to_be_zero(weak: &[u64], bits: &[Bits], g: usize) -> bool
+    requires { g < length bits.now * 64 }
+{
+    mark_at(bits, g) == Mark::Any || bit_of(weak, g) != 0
 }
 
 // Requires 0 at a coordinate.
@@ -609,6 +663,7 @@ impl Part {
     fn past_cut(
         &mut self,
         matrix: &Matrix,
+        weak: &[u64],
         asked: &[Bits],
         depth: usize,
     ) -> Result<Option<Rc<Ints>>, NoMemory>
@@ -616,10 +671,10 @@ impl Part {
         requires asked { length asked.now ≡ word_count matrix.now }
         ensures part { IsPart matrix.now self.new }
         ensures cut { IfOk result (λ o. MatchOption o (Unit {0})
-            (λ u. IsSmallCut matrix.now (kinds_of matrix.now asked.now) u.value.list)) }
+            (λ u. IsSmallCut matrix.now (kinds_of matrix.now weak.now asked.now) u.value.list)) }
     {
         if depth < self.past.len() && !self.past[depth].trials.is_empty() {
-            return first_again(matrix, asked, &mut self.past[depth]);
+            return first_again(matrix, weak, asked, &mut self.past[depth]);
         }
         Ok(None)
     }
@@ -641,6 +696,7 @@ impl Part {
         &mut self,
         alloc: Global,
         matrix: &Matrix,
+        weak: &[u64],
         asked: &[Bits],
         cut: &Cut,
         depth: usize,
@@ -648,12 +704,12 @@ impl Part {
         requires part { IsPart matrix.now self.old }
         requires asked { length asked.now ≡ word_count matrix.now }
         requires cut { IsCutBy self.old.finder.solver.matrix self.old.finder.solver.basis
-            (kinds_of matrix.now asked.now) cut.now.row cut.now.sign }
+            (kinds_of matrix.now weak.now asked.now) cut.now.row cut.now.sign }
         ensures part { OnOk result (IsPart matrix.now self.new) }
         ensures cut { IfOk result
-            (λ u. IsSmallCut matrix.now (kinds_of matrix.now asked.now) u.value.list) }
+            (λ u. IsSmallCut matrix.now (kinds_of matrix.now weak.now asked.now) u.value.list) }
     {
-        let kinds = kinds_of(alloc, matrix, asked)?;
+        let kinds = kinds_of(alloc, matrix, weak, asked)?;
         let u = self.finder.solver.multipliers(&kinds, cut)?;
         self.keep_columns(alloc, matrix)?;
         let past = Past::new(alloc, matrix, &self.columns, &kinds, u)?;
@@ -669,6 +725,7 @@ impl Part {
         &mut self,
         alloc: Global,
         matrix: &Matrix,
+        weak: &[u64],
         asked: &[Bits],
         marks: &mut [Bits],
         suits: &mut bool,
@@ -681,23 +738,23 @@ impl Part {
         ensures part { OnOk result (IsPart matrix.now self.new) }
         ensures marks { OnOk result (AreRowMarks matrix.now marks.new) }
         ensures suits { OnOk result
-            (IsTrue suits.new → AreSuited (kinds_of matrix.now asked.now) marks.new) }
+            (IsTrue suits.new → AreSuited (kinds_of matrix.now weak.now asked.now) marks.new) }
         ensures answer { MatchResult result
-            (λ u. IsRuling matrix.now (kinds_of matrix.now asked.now) u)
-            (λ s. IsTargetStop matrix.now (kinds_of matrix.now asked.now) s) }
+            (λ u. IsRuling matrix.now (kinds_of matrix.now weak.now asked.now) u)
+            (λ s. IsTargetStop matrix.now (kinds_of matrix.now weak.now asked.now) s) }
     {
-        if let Some(cut) = self.finder.seek(alloc, matrix, asked, marks)? {
-            return Ok(Some(self.learn_cut(alloc, matrix, asked, &cut, depth)?));
+        if let Some(cut) = self.finder.seek(alloc, matrix, weak, asked, marks)? {
+            return Ok(Some(self.learn_cut(alloc, matrix, weak, asked, &cut, depth)?));
         }
-        if is_met(matrix, asked, marks) {
+        if is_met(matrix, weak, asked, marks) {
             *suits = true;
             return Ok(None);
         }
-        let kinds = kinds_of(alloc, matrix, asked)?;
+        let kinds = kinds_of(alloc, matrix, weak, asked)?;
         match self.finder.solver.feasibility(&kinds)? {
             Feasibility::Solvable => Ok(None),
             Feasibility::Unsolvable(cut) => {
-                Ok(Some(self.learn_cut(alloc, matrix, asked, &cut, depth)?))
+                Ok(Some(self.learn_cut(alloc, matrix, weak, asked, &cut, depth)?))
             }
         }
     }
@@ -706,6 +763,7 @@ impl Part {
     pub fn known_cut(
         &mut self,
         matrix: &Matrix,
+        weak: &[u64],
         place: &Place,
         depth: usize,
     ) -> Result<Option<Rc<Ints>>, NoMemory>
@@ -713,12 +771,13 @@ impl Part {
         requires asked { length place.now.asked.items ≡ word_count matrix.now }
         ensures part { IsPart matrix.now self.new }
         ensures cut { IfOk result (λ o. MatchOption o (Unit {0})
-            (λ u. IsSmallCut matrix.now (kinds_of matrix.now place.now.asked.items) u.value.list)) }
+            (λ u. IsSmallCut matrix.now
+            (kinds_of matrix.now weak.now place.now.asked.items) u.value.list)) }
     {
         if place.suits {
             return Ok(None);
         }
-        let u = self.past_cut(matrix, &place.asked, depth)?;
+        let u = self.past_cut(matrix, weak, &place.asked, depth)?;
         Ok(u)
     }
 
@@ -730,30 +789,35 @@ impl Part {
         &mut self,
         alloc: Global,
         matrix: &Matrix,
+        weak: &[u64],
         place: &mut Place,
         depth: usize,
     ) -> Result<Option<Rc<Ints>>, Stop>
         requires part { IsPart matrix.now self.old }
-        requires place { IsPlace matrix.now place.old }
+        requires place { IsPlace matrix.now weak.now place.old }
         ensures part { OnOk result (IsPart matrix.now self.new) }
-        ensures place { OnOk result (IsPlace matrix.now place.new) }
+        ensures place { OnOk result (IsPlace matrix.now weak.now place.new) }
         ensures asked { OnOk result (place.new.asked.items ≡ place.old.asked.items) }
         ensures answer { MatchResult result
-            (λ u. IsRuling matrix.now (kinds_of matrix.now place.old.asked.items) u)
-            (λ s. IsTargetStop matrix.now (kinds_of matrix.now place.old.asked.items) s) }
+            (λ u. IsRuling matrix.now (kinds_of matrix.now weak.now place.old.asked.items) u)
+            (λ s. IsTargetStop matrix.now (kinds_of matrix.now weak.now place.old.asked.items) s) }
     {
         if place.suits {
-            place.has_solution(matrix);
+            place.has_solution(matrix, weak);
             return Ok(None);
         }
-        if self.finder.serve(matrix, &place.asked, &mut place.marks) {
+        if self
+            .finder
+            .serve(matrix, weak, &place.asked, &mut place.marks)
+        {
             place.suits = true;
-            place.has_solution(matrix);
+            place.has_solution(matrix, weak);
             return Ok(None);
         }
         let u = self.decide(
             alloc,
             matrix,
+            weak,
             &place.asked,
             &mut place.marks,
             &mut place.suits,
@@ -764,17 +828,24 @@ impl Part {
     }
 
     /// A solution of the system with these kinds, which has one.
-    pub fn solution(&mut self, alloc: Global, matrix: &Matrix, asked: &[Bits]) -> Result<Ints, Stop>
+    pub fn solution(
+        &mut self,
+        alloc: Global,
+        matrix: &Matrix,
+        weak: &[u64],
+        asked: &[Bits],
+    ) -> Result<Ints, Stop>
         requires part { IsPart matrix.now self.old }
         requires asked { length asked.now ≡ word_count matrix.now }
-        requires few { signed_count (kinds_of matrix.now asked.now) ≤ MAX_SIGNED }
-        requires some { (x : List ℤ) × IsSolution matrix.now (kinds_of matrix.now asked.now) x }
+        requires few { signed_count (kinds_of matrix.now weak.now asked.now) ≤ MAX_SIGNED }
+        requires some { (x : List ℤ)
+            × IsSolution matrix.now (kinds_of matrix.now weak.now asked.now) x }
         ensures part { OnOk result (IsPart matrix.now self.new) }
         ensures answer { MatchResult result
-            (λ x. IsSmallSolution matrix.now (kinds_of matrix.now asked.now) x.list)
-            (λ s. IsTargetStop matrix.now (kinds_of matrix.now asked.now) s) }
+            (λ x. IsSmallSolution matrix.now (kinds_of matrix.now weak.now asked.now) x.list)
+            (λ s. IsTargetStop matrix.now (kinds_of matrix.now weak.now asked.now) s) }
     {
-        let kinds = kinds_of(alloc, matrix, asked)?;
+        let kinds = kinds_of(alloc, matrix, weak, asked)?;
         cuts_exclude_solutions();
         match self.finder.solver.decide(&kinds) {
             Ok(Decision::Feasible(x)) => Ok(x),

@@ -10,7 +10,7 @@ ghost use Rattle.crn_sign.specs.Inner.Marks.{kinds_of, sign_mark};
 ghost use Rattle.crn_sign.specs.Inner.Past.{AllWeigh, AreMarksOf, Counts, SomeCounts, Weighs, mark_of_multiple};
 ghost use Rattle.crn_sign.specs.Inner.PastCuts.{AreAllPast, ArePastCuts, IsPastOf};
 
-use crate::bits::{Bits, NONE, put_mark};
+use crate::bits::{Bits, NONE, put_mark, word_of};
 use crate::columns::{Column, column_product};
 use crate::marks::{mark_of_sign, opposite as negatives_of, word_count};
 use crn_vec::{Ints, Kind, Matrix, NoMemory, Sign, sign_of};
@@ -69,10 +69,12 @@ fn refused(asked: Bits, marks: Bits) -> u64
 }
 
 // The places of 64 that have to be positive or negative, and at which numbers of these marks are.
-fn counted(asked: Bits, marks: Bits) -> u64
-    ensures { (i : ℕ) → bit_at result i ≡ 1 → Counts (mark_in asked i) (mark_in marks i) }
+fn counted(asked: Bits, weak: u64, marks: Bits) -> u64
+    ensures { (i : ℕ) → bit_at result i ≡ 1
+        → Counts (mark_in asked i) (bit_at weak i) (mark_in marks i) }
 {
-    (marks.plus ^ marks.minus) & (asked.plus ^ asked.minus)
+    let signed = (marks.plus ^ marks.minus) & (asked.plus ^ asked.minus);
+    (signed | weak) ^ weak
 }
 
 // Whether numbers of these marks, or their negatives, may be weighed where this is required.
@@ -91,12 +93,12 @@ fn all_weigh(asked: &[Bits], marks: &[Bits], stays: bool) -> bool
 }
 
 // Whether some place has to be positive or negative.
-fn some_counts(asked: &[Bits], marks: &[Bits]) -> bool
-    ensures { IsTrue result → SomeCounts asked.now marks.now }
+fn some_counts(asked: &[Bits], weak: &[u64], marks: &[Bits]) -> bool
+    ensures { IsTrue result → SomeCounts weak.now asked.now marks.now }
 {
     for w in 0..asked.len() {
         if w < marks.len() {
-            let places = counted(asked[w], marks[w]);
+            let places = counted(asked[w], word_of(weak, w), marks[w]);
             if places != 0 {
                 return true;
             }
@@ -234,13 +236,13 @@ impl Past {
     }
 
     // Whether the list, or else its negative, rules the system with these kinds out, and which does.
-    fn ruling(&self, asked: &[Bits]) -> Option<bool>
+    fn ruling(&self, weak: &[u64], asked: &[Bits]) -> Option<bool>
         ensures weigh { MatchOption result (Unit {0})
             (λ stays. AllWeigh asked.now stays self.now.marks.items) }
         ensures some { MatchOption result (Unit {0})
-            (λ stays. SomeCounts asked.now self.now.marks.items) }
+            (λ stays. SomeCounts weak.now asked.now self.now.marks.items) }
     {
-        if !some_counts(asked, &self.marks) {
+        if !some_counts(asked, weak, &self.marks) {
             return None;
         }
         if all_weigh(asked, &self.marks, true) {
@@ -253,13 +255,18 @@ impl Past {
     }
 
     // The multipliers, or their negatives, if they rule the system with these kinds out.
-    fn again(&self, matrix: &Matrix, asked: &[Bits]) -> Result<Option<Rc<Ints>>, NoMemory>
+    fn again(
+        &self,
+        matrix: &Matrix,
+        weak: &[u64],
+        asked: &[Bits],
+    ) -> Result<Option<Rc<Ints>>, NoMemory>
         requires past { IsPastOf matrix.now self.now }
         requires asked { length asked.now ≡ word_count matrix.now }
         ensures { IfOk result (λ o. MatchOption o (Unit {0})
-            (λ u. IsSmallCut matrix.now (kinds_of matrix.now asked.now) u.value.list)) }
+            (λ u. IsSmallCut matrix.now (kinds_of matrix.now weak.now asked.now) u.value.list)) }
     {
-        if let Some(stays) = self.ruling(asked) {
+        if let Some(stays) = self.ruling(weak, asked) {
             let u = self.multiple(matrix, stays)?;
             return Ok(Some(u));
         }
@@ -338,6 +345,7 @@ fn keep_refusing(asked: &[Bits], marks: &[Bits], trial: &mut Trial) {
 // The multipliers of a trial, or their negatives, if they rule a system out.
 fn tried(
     matrix: &Matrix,
+    weak: &[u64],
     asked: &[Bits],
     past: &[Past],
     trial: &mut Trial,
@@ -345,11 +353,11 @@ fn tried(
     requires past { AreAllPast matrix.now past.now }
     requires asked { length asked.now ≡ word_count matrix.now }
     ensures { IfOk result (λ o. MatchOption o (Unit {0})
-        (λ u. IsSmallCut matrix.now (kinds_of matrix.now asked.now) u.value.list)) }
+        (λ u. IsSmallCut matrix.now (kinds_of matrix.now weak.now asked.now) u.value.list)) }
 {
     let number = trial.number;
     if number < past.len() {
-        let cut = past[number].again(matrix, asked)?;
+        let cut = past[number].again(matrix, weak, asked)?;
         if cut.is_none() {
             keep_refusing(asked, &past[number].marks, trial);
         }
@@ -362,6 +370,7 @@ fn tried(
 // again are passed over.
 fn first_tried(
     matrix: &Matrix,
+    weak: &[u64],
     asked: &[Bits],
     past: &[Past],
     trials: &mut [Trial],
@@ -369,11 +378,11 @@ fn first_tried(
     requires past { AreAllPast matrix.now past.now }
     requires asked { length asked.now ≡ word_count matrix.now }
     ensures { IfOk result (λ o. MatchOption o (Unit {0})
-        (λ u. IsSmallCut matrix.now (kinds_of matrix.now asked.now) u.value.list)) }
+        (λ u. IsSmallCut matrix.now (kinds_of matrix.now weak.now asked.now) u.value.list)) }
 {
     for i in 0..trials.len() {
         if !are_refused_again(asked, &trials[i]) {
-            if let Some(u) = tried(matrix, asked, past, &mut trials[i])? {
+            if let Some(u) = tried(matrix, weak, asked, past, &mut trials[i])? {
                 trials.swap(i / 2, i);
                 return Ok(Some(u));
             }
@@ -387,6 +396,7 @@ fn first_tried(
 #[inline(never)]
 pub(crate) fn first_again(
     matrix: &Matrix,
+    weak: &[u64],
     asked: &[Bits],
     past: &mut PastCuts,
 ) -> Result<Option<Rc<Ints>>, NoMemory>
@@ -394,7 +404,7 @@ pub(crate) fn first_again(
     requires asked { length asked.now ≡ word_count matrix.now }
     ensures past { past.new.items ≡ past.old.items }
     ensures cut { IfOk result (λ o. MatchOption o (Unit {0})
-        (λ u. IsSmallCut matrix.now (kinds_of matrix.now asked.now) u.value.list)) }
+        (λ u. IsSmallCut matrix.now (kinds_of matrix.now weak.now asked.now) u.value.list)) }
 {
-    first_tried(matrix, asked, &past.items, &mut past.trials)
+    first_tried(matrix, weak, asked, &past.items, &mut past.trials)
 }

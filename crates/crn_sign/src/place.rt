@@ -37,11 +37,11 @@ impl Place {
     }
 
     /// A place whose marks suit its kinds has a solution.
-    pub fn has_solution(&self, _matrix: &Matrix)
-        requires place { IsPlace _matrix.now self.now }
+    pub fn has_solution(&self, _matrix: &Matrix, _weak: &[u64])
+        requires place { IsPlace _matrix.now _weak.now self.now }
         requires suits { IsTrue self.now.suits }
         ensures { (x : List ℤ)
-            × IsSolution _matrix.now (kinds_of _matrix.now self.now.asked.items) x }
+            × IsSolution _matrix.now (kinds_of _matrix.now _weak.now self.now.asked.items) x }
     {}
 
     /// Takes over what was required one level above.
@@ -55,10 +55,10 @@ impl Place {
     }
 
     /// Takes over the marks one level above.
-    pub fn take(&mut self, _matrix: &Matrix, above: &Place)
-        requires here { IsFor _matrix.now above.now self.old }
+    pub fn take(&mut self, _matrix: &Matrix, _weak: &[u64], above: &Place)
+        requires here { IsFor _matrix.now _weak.now above.now self.old }
         requires above { AreRowMarks _matrix.now above.now.marks.items }
-        ensures here { IsPlace _matrix.now self.new }
+        ensures here { IsPlace _matrix.now _weak.now self.new }
         ensures asked { self.new.asked.items ≡ self.old.asked.items }
     {
         self.marks.copy_from_slice(&above.marks);
@@ -85,25 +85,27 @@ impl Place {
     }
 
     /// Notes whether the marks one level above suit what is required here.
-    pub fn look(&mut self, matrix: &Matrix, above: &Place)
+    #[inline(always)]
+    pub fn look(&mut self, matrix: &Matrix, weak: &[u64], above: &Place)
         requires room { HasRoom matrix.now self.old }
         requires above { AreRowMarks matrix.now above.now.marks.items }
-        ensures here { IsFor matrix.now above.now self.new }
+        ensures here { IsFor matrix.now weak.now above.now self.new }
         ensures asked { self.new.asked.items ≡ self.old.asked.items }
     {
-        self.suits = is_met(matrix, &self.asked, &above.marks);
+        self.suits = is_met(matrix, weak, &self.asked, &above.marks);
     }
 }
 
 /// Whether the marks suit what is required, so that the system has a solution.
-pub(crate) fn is_met(_matrix: &Matrix, asked: &[Bits], marks: &[Bits]) -> bool
+#[inline(always)]
+pub(crate) fn is_met(_matrix: &Matrix, weak: &[u64], asked: &[Bits], marks: &[Bits]) -> bool
     requires asked { length asked.now ≡ word_count _matrix.now }
     requires marks { AreRowMarks _matrix.now marks.now }
-    ensures suits { IsTrue result → AreSuited (kinds_of _matrix.now asked.now) marks.now }
+    ensures suits { IsTrue result → AreSuited (kinds_of _matrix.now weak.now asked.now) marks.now }
     ensures solved { IsTrue result
-        → (x : List ℤ) × IsSolution _matrix.now (kinds_of _matrix.now asked.now) x }
+        → (x : List ℤ) × IsSolution _matrix.now (kinds_of _matrix.now weak.now asked.now) x }
 {
-    all_meet(asked, marks)
+    all_meet(asked, weak, marks)
 }
 
 // Requires of a coordinate of part B what a prefix requires.
@@ -126,7 +128,7 @@ fn settle_b<P: SignProblem>(problem: &P, prefix: &[Sign], settled: &[usize], pla
     requires prefix { IsPrefix (P.signed problem.now) prefix.now }
     requires place { IsSettling (P.signed problem.now).matrix_b
         ((P.signed problem.now).kinds_b prefix.now) settled.now place.old }
-    ensures { IsAsked (P.signed problem.now).matrix_b
+    ensures { IsAsked (P.signed problem.now).matrix_b []
         ((P.signed problem.now).kinds_b prefix.now) place.new }
 {
     for i in 0..settled.len() {
@@ -141,7 +143,7 @@ pub(crate) fn enter_b<P: SignProblem>(problem: &P, prefix: &[Sign], here: &mut P
     requires prefix { IsPrefix (P.signed problem.now) prefix.now }
     requires here { (p : List Sign) × (s : Sign) × (prefix.now ≡ p ++ s ∷ [])
         × IsAround (P.signed problem.now).matrix_b (P.signed problem.now).kinds_b p here.old }
-    ensures { IsAsked (P.signed problem.now).matrix_b
+    ensures { IsAsked (P.signed problem.now).matrix_b []
         ((P.signed problem.now).kinds_b prefix.now) here.new }
 {
     settle_b(problem, prefix, problem.settled_b(prefix.len()), here);
@@ -154,7 +156,7 @@ pub(crate) fn begin_a<P: SignProblem>(problem: &P, sums: &mut [Bits], here: &mut
     requires room { HasRoom (P.signed problem.now).matrix_a here.old }
     ensures count { length sums.new ≡ length sums.old }
     ensures sums { P.are_sums problem.now [] sums.new }
-    ensures here { IsHere (P.signed problem.now).matrix_a
+    ensures here { IsHere (P.signed problem.now).matrix_a (P.weak problem.now)
         ((P.signed problem.now).kinds_a []) here.new }
 {
     here.forget(problem.matrix_a());
@@ -166,7 +168,8 @@ pub(crate) fn begin_a<P: SignProblem>(problem: &P, sums: &mut [Bits], here: &mut
 pub(crate) fn begin_b<P: SignProblem>(problem: &P, here: &mut Place)
     requires lawful { IsLawful (P.signed problem.now) }
     requires room { HasRoom (P.signed problem.now).matrix_b here.old }
-    ensures { IsHere (P.signed problem.now).matrix_b ((P.signed problem.now).kinds_b []) here.new }
+    ensures { IsHere (P.signed problem.now).matrix_b []
+        ((P.signed problem.now).kinds_b []) here.new }
 {
     here.forget(problem.matrix_b());
     for k in 0..here.width {

@@ -1,4 +1,4 @@
-ghost use Rattle.std.specs.Prelude.{◌≡◌, ◌≤◌, ◌<◌, ◌++◌, ◌∷◌, [], List, length, IfOk};
+ghost use Rattle.std.specs.Prelude.{◌≡◌, ◌≤◌, ◌<◌, ◌++◌, ◌∷◌, [], ℕ, List, length, IfOk};
 ghost use Rattle.std.specs.List.{range_with_len};
 ghost use Rattle.crn_vec.specs.Concordance.{kind_of_sign};
 ghost use Rattle.crn_vec.specs.Elementary.{width};
@@ -6,7 +6,7 @@ ghost use Rattle.crn_vec.specs.Problems.{Signed, IsPrefix, IsLawful};
 ghost use Rattle.crn_vec.specs.Systems.{kind_at};
 ghost use Rattle.crn_vec.specs.declared.signs.Sign.{Sign};
 ghost use Rattle.crn_sign.specs.declared.bits.Bits.{Bits};
-ghost use Rattle.crn_sign.specs.Options.{AskKinds, asked_kind, word_count};
+ghost use Rattle.crn_sign.specs.Options.{AskKindsBy, asked_kind, word_count};
 ghost use Rattle.crn_sign.specs.Settled.{SettlesOnly};
 
 use crate::bits::Bits;
@@ -61,6 +61,9 @@ pub trait SignProblem {
     /// more are made of them.
     ghost are_sums: { Self → List Sign → List Bits → Type 0 };
 
+    /// The bits of the coordinates of part A that are weak: of them plus requires no more than a number at least 0.
+    ghost weak: { Self → List ℕ };
+
     /// The number of choices. Its contract has the laws that each search depends on.
     fn length(&self) -> usize
         ensures choices { result ≡ (signed self.now).choices }
@@ -74,13 +77,17 @@ pub trait SignProblem {
     fn matrix_b(&self) -> &Matrix
         ensures { result.now ≡ (signed self.now).matrix_b };
 
+    /// The coordinates of part A that are weak, by words.
+    fn weak_a(&self) -> &[u64]
+        ensures { result.now ≡ weak self.now };
+
     /// Puts what the prefix with no option requires of part A, and its sums.
     fn begin_a(&self, sums: &mut [Bits], asked: &mut [Bits])
         requires sums { length sums.old ≡ word_count (signed self.now).matrix_a }
         requires asked { length asked.old ≡ word_count (signed self.now).matrix_a }
         ensures count { length sums.new ≡ length sums.old }
         ensures sums { are_sums self.now [] sums.new }
-        ensures asked { AskKinds (signed self.now).matrix_a
+        ensures asked { AskKindsBy (signed self.now).matrix_a (weak self.now)
             ((signed self.now).kinds_a []) asked.new };
 
     /// Puts what a prefix requires of part A, and its sums, given those of the prefix without its last option.
@@ -93,7 +100,7 @@ pub trait SignProblem {
         requires asked { length asked.old ≡ word_count (signed self.now).matrix_a }
         ensures count { length sums.new ≡ length sums.old }
         ensures sums { are_sums self.now prefix.now sums.new }
-        ensures asked { AskKinds (signed self.now).matrix_a
+        ensures asked { AskKindsBy (signed self.now).matrix_a (weak self.now)
             ((signed self.now).kinds_a prefix.now) asked.new };
 
     /// What a prefix requires of a coordinate of part B, counted from 0.

@@ -92,7 +92,7 @@ fn known_cut_a<P: SignProblem>(
     here: &Place,
 ) -> Result<Option<Rc<Ints>>, SearchStop>
     requires ready { IsReady (P.signed problem.now) search.old }
-    requires here { IsAsked (P.signed problem.now).matrix_a
+    requires here { IsAsked (P.signed problem.now).matrix_a (P.weak problem.now)
         ((P.signed problem.now).kinds_a search.old.prefix.items) here.now }
     ensures place { OnOk result (SamePlace search.old search.new) }
     ensures ready { OnOk result (IsReady (P.signed problem.now) search.new) }
@@ -102,7 +102,9 @@ fn known_cut_a<P: SignProblem>(
     ensures stop { IfErr result (λ s. IsSearchStop (P.signed problem.now) s) }
 {
     let depth = search.prefix.len();
-    let u = search.a.known_cut(problem.matrix_a(), here, depth)?;
+    let u = search
+        .a
+        .known_cut(problem.matrix_a(), problem.weak_a(), here, depth)?;
     Ok(u)
 }
 
@@ -113,7 +115,7 @@ fn known_cut_b<P: SignProblem>(
     here: &Place,
 ) -> Result<Option<Rc<Ints>>, SearchStop>
     requires ready { IsReady (P.signed problem.now) search.old }
-    requires here { IsAsked (P.signed problem.now).matrix_b
+    requires here { IsAsked (P.signed problem.now).matrix_b []
         ((P.signed problem.now).kinds_b search.old.prefix.items) here.now }
     ensures place { OnOk result (SamePlace search.old search.new) }
     ensures ready { OnOk result (IsReady (P.signed problem.now) search.new) }
@@ -123,34 +125,34 @@ fn known_cut_b<P: SignProblem>(
     ensures stop { IfErr result (λ s. IsSearchStop (P.signed problem.now) s) }
 {
     let depth = search.prefix.len();
-    let u = search.b.known_cut(problem.matrix_b(), here, depth)?;
+    let u = search.b.known_cut(problem.matrix_b(), &[], here, depth)?;
     Ok(u)
 }
 
 // Notes whether what served one level above suits what is required of both parts.
 fn look<P: SignProblem>(problem: &P, _prefix: &[Sign], above: &Level, here: &mut Level)
-    requires asked { AreAsked (P.signed problem.now) _prefix.now here.old }
+    requires asked { AreAsked (P.signed problem.now) (P.weak problem.now) _prefix.now here.old }
     requires above { AreMarked (P.signed problem.now) above.now }
-    ensures asked { AreAsked (P.signed problem.now) _prefix.now here.new }
-    ensures here { AreFor (P.signed problem.now) above.now here.new }
+    ensures asked { AreAsked (P.signed problem.now) (P.weak problem.now) _prefix.now here.new }
+    ensures here { AreFor (P.signed problem.now) (P.weak problem.now) above.now here.new }
     ensures sums { here.new.sums.items ≡ here.old.sums.items }
 {
-    here.a.look(problem.matrix_a(), &above.a);
-    here.b.look(problem.matrix_b(), &above.b);
+    here.a.look(problem.matrix_a(), problem.weak_a(), &above.a);
+    here.b.look(problem.matrix_b(), &[], &above.b);
 }
 
 // Takes over what served one level above.
 fn take<P: SignProblem>(problem: &P, above: &Level, here: &mut Level)
-    requires here { AreFor (P.signed problem.now) above.now here.old }
+    requires here { AreFor (P.signed problem.now) (P.weak problem.now) above.now here.old }
     requires above { AreMarked (P.signed problem.now) above.now }
-    ensures a { IsPlace (P.signed problem.now).matrix_a here.new.a }
-    ensures b { IsPlace (P.signed problem.now).matrix_b here.new.b }
+    ensures a { IsPlace (P.signed problem.now).matrix_a (P.weak problem.now) here.new.a }
+    ensures b { IsPlace (P.signed problem.now).matrix_b [] here.new.b }
     ensures asked_a { here.new.a.asked.items ≡ here.old.a.asked.items }
     ensures asked_b { here.new.b.asked.items ≡ here.old.b.asked.items }
     ensures sums { here.new.sums.items ≡ here.old.sums.items }
 {
-    here.a.take(problem.matrix_a(), &above.a);
-    here.b.take(problem.matrix_b(), &above.b);
+    here.a.take(problem.matrix_a(), problem.weak_a(), &above.a);
+    here.b.take(problem.matrix_b(), &[], &above.b);
 }
 
 // A leaf for the prefix by past multipliers of a part, if some rule it out, or else what both parts know
@@ -163,14 +165,15 @@ fn arrive<P: SignProblem>(
 ) -> Result<Option<TreeNode>, SearchStop>
     requires ready { IsReady (P.signed problem.now) search.old }
     requires above { AreMarked (P.signed problem.now) above.now }
-    requires here { AreAsked (P.signed problem.now) search.old.prefix.items here.old }
+    requires here { AreAsked (P.signed problem.now) (P.weak problem.now)
+        search.old.prefix.items here.old }
     ensures place { OnOk result (SamePlace search.old search.new) }
     ensures ready { OnOk result (IsReady (P.signed problem.now) search.new) }
     ensures asked { OnOk result
-        (AreAsked (P.signed problem.now) search.old.prefix.items here.new) }
+        (AreAsked (P.signed problem.now) (P.weak problem.now) search.old.prefix.items here.new) }
     ensures sums { OnOk result (here.new.sums.items ≡ here.old.sums.items) }
     ensures leaf { IfOk result (λ o. MatchOption o
-        (IsLevel (P.signed problem.now) search.old.prefix.items here.new)
+        (IsLevel (P.signed problem.now) (P.weak problem.now) search.old.prefix.items here.new)
         (λ node. IsLeafAt (P.signed problem.now) search.old.prefix.items node)) }
     ensures stop { IfErr result (λ s. IsSearchStop (P.signed problem.now) s) }
 {
@@ -192,11 +195,11 @@ fn rule_out_a<P: SignProblem>(
     here: &mut Place,
 ) -> Result<Option<Rc<Ints>>, SearchStop>
     requires ready { IsReady (P.signed problem.now) search.old }
-    requires here { IsHere (P.signed problem.now).matrix_a
+    requires here { IsHere (P.signed problem.now).matrix_a (P.weak problem.now)
         ((P.signed problem.now).kinds_a search.old.prefix.items) here.old }
     ensures place { OnOk result (SamePlace search.old search.new) }
     ensures ready { OnOk result (IsReady (P.signed problem.now) search.new) }
-    ensures here { OnOk result (IsHere (P.signed problem.now).matrix_a
+    ensures here { OnOk result (IsHere (P.signed problem.now).matrix_a (P.weak problem.now)
         ((P.signed problem.now).kinds_a search.old.prefix.items) here.new) }
     ensures answer { MatchResult result
         (λ u. IsRuling (P.signed problem.now).matrix_a
@@ -204,10 +207,13 @@ fn rule_out_a<P: SignProblem>(
         (λ s. IsSearchStop (P.signed problem.now) s) }
 {
     let depth = search.prefix.len();
-    match search
-        .a
-        .ruled_out(search.alloc, problem.matrix_a(), here, depth)
-    {
+    match search.a.ruled_out(
+        search.alloc,
+        problem.matrix_a(),
+        problem.weak_a(),
+        here,
+        depth,
+    ) {
         Ok(u) => Ok(u),
         Err(stop) => Err(wide_a(stop)),
     }
@@ -220,11 +226,11 @@ fn rule_out_b<P: SignProblem>(
     here: &mut Place,
 ) -> Result<Option<Rc<Ints>>, SearchStop>
     requires ready { IsReady (P.signed problem.now) search.old }
-    requires here { IsHere (P.signed problem.now).matrix_b
+    requires here { IsHere (P.signed problem.now).matrix_b []
         ((P.signed problem.now).kinds_b search.old.prefix.items) here.old }
     ensures place { OnOk result (SamePlace search.old search.new) }
     ensures ready { OnOk result (IsReady (P.signed problem.now) search.new) }
-    ensures here { OnOk result (IsHere (P.signed problem.now).matrix_b
+    ensures here { OnOk result (IsHere (P.signed problem.now).matrix_b []
         ((P.signed problem.now).kinds_b search.old.prefix.items) here.new) }
     ensures answer { MatchResult result
         (λ u. IsRuling (P.signed problem.now).matrix_b
@@ -234,7 +240,7 @@ fn rule_out_b<P: SignProblem>(
     let depth = search.prefix.len();
     match search
         .b
-        .ruled_out(search.alloc, problem.matrix_b(), here, depth)
+        .ruled_out(search.alloc, problem.matrix_b(), &[], here, depth)
     {
         Ok(u) => Ok(u),
         Err(stop) => Err(wide_b(stop, !search.b.has_decided)),
@@ -251,14 +257,16 @@ fn rule_out<P: SignProblem>(
 ) -> Result<Option<TreeNode>, SearchStop>
     requires ready { IsReady (P.signed problem.now) search.old }
     requires above { AreMarked (P.signed problem.now) above.now }
-    requires here { AreAsked (P.signed problem.now) search.old.prefix.items here.old }
+    requires here { AreAsked (P.signed problem.now) (P.weak problem.now)
+        search.old.prefix.items here.old }
     ensures place { OnOk result (SamePlace search.old search.new) }
     ensures ready { OnOk result (IsReady (P.signed problem.now) search.new) }
     ensures asked { OnOk result
-        (AreAsked (P.signed problem.now) search.old.prefix.items here.new) }
+        (AreAsked (P.signed problem.now) (P.weak problem.now) search.old.prefix.items here.new) }
     ensures sums { OnOk result (here.new.sums.items ≡ here.old.sums.items) }
     ensures here { IfOk result (λ o. MatchOption o
-        (IsLevel (P.signed problem.now) search.old.prefix.items here.new) (λ node. Unit {0})) }
+        (IsLevel (P.signed problem.now) (P.weak problem.now) search.old.prefix.items here.new)
+        (λ node. Unit {0})) }
     ensures answer { MatchResult result
         (λ o. IsLeafOrNone (P.signed problem.now) search.old.prefix.items o)
         (λ s. IsSearchStop (P.signed problem.now) s) }
@@ -282,7 +290,8 @@ fn found_end<P: SignProblem>(
     here: &Level,
 ) -> Result<Ending, SearchStop>
     requires ready { IsReady (P.signed problem.now) search.old }
-    requires here { IsLevel (P.signed problem.now) search.old.prefix.items here.now }
+    requires here { IsLevel (P.signed problem.now) (P.weak problem.now)
+        search.old.prefix.items here.now }
     requires full { IsFull (P.signed problem.now) search.old.prefix.items }
     requires feasible { IsFeasible (P.signed problem.now) search.old.prefix.items }
     ensures place { OnOk result (SamePlace search.old search.new) }
@@ -292,16 +301,18 @@ fn found_end<P: SignProblem>(
         (λ s. IsSearchStop (P.signed problem.now) s) }
 {
     let pattern = Signs::from_slice(search.alloc, &search.prefix)?;
-    let a = match search
-        .a
-        .solution(search.alloc, problem.matrix_a(), &here.a.asked)
-    {
+    let a = match search.a.solution(
+        search.alloc,
+        problem.matrix_a(),
+        problem.weak_a(),
+        &here.a.asked,
+    ) {
         Ok(a) => a,
         Err(stop) => return Err(wide_a(stop)),
     };
     let b = match search
         .b
-        .solution(search.alloc, problem.matrix_b(), &here.b.asked)
+        .solution(search.alloc, problem.matrix_b(), &[], &here.b.asked)
     {
         Ok(b) => b,
         Err(stop) => return Err(wide_b(stop, false)),
@@ -319,7 +330,7 @@ fn enter<P: SignProblem>(problem: &P, prefix: &[Sign], above: &Level, here: &mut
     requires here { (p : List Sign) × (s : Sign) × (prefix.now ≡ p ++ s ∷ [])
         × AreAround (P.signed problem.now) p here.old
         × HasSums (P.signed problem.now) (P.are_sums problem.now) p above.now }
-    ensures asked { AreAsked (P.signed problem.now) prefix.now here.new }
+    ensures asked { AreAsked (P.signed problem.now) (P.weak problem.now) prefix.now here.new }
     ensures sums { HasSums (P.signed problem.now) (P.are_sums problem.now) prefix.now here.new }
 {
     problem.settle_a(prefix, &above.sums, &mut here.sums, &mut here.a.asked);
@@ -328,7 +339,7 @@ fn enter<P: SignProblem>(problem: &P, prefix: &[Sign], above: &Level, here: &mut
 
 // Requires of part B, to begin with, what is required one level above.
 fn surround<P: SignProblem>(_problem: &P, _prefix: &[Sign], above: &Level, here: &mut Level)
-    requires above { IsLevel (P.signed _problem.now) _prefix.now above.now }
+    requires above { IsLevel (P.signed _problem.now) (P.weak _problem.now) _prefix.now above.now }
     requires room { HasRooms (P.signed _problem.now) here.old }
     ensures { AreAround (P.signed _problem.now) _prefix.now here.new }
 {
@@ -337,8 +348,10 @@ fn surround<P: SignProblem>(_problem: &P, _prefix: &[Sign], above: &Level, here:
 
 // That a level is that of the prefix, for what is called after this.
 fn at_level<P: SignProblem>(_problem: &P, _search: &Progress, _here: &Level)
-    requires { IsLevel (P.signed _problem.now) _search.now.prefix.items _here.now }
-    ensures { IsLevel (P.signed _problem.now) _search.now.prefix.items _here.now }
+    requires { IsLevel (P.signed _problem.now) (P.weak _problem.now)
+        _search.now.prefix.items _here.now }
+    ensures { IsLevel (P.signed _problem.now) (P.weak _problem.now)
+        _search.now.prefix.items _here.now }
 {}
 
 // A level of which something is required leaves room for another prefix.
@@ -470,14 +483,15 @@ pub(crate) fn walk<P: SignProblem>(
 ) -> Result<Ending, SearchStop>
     requires ready { IsReady (P.signed problem.now) search.old }
     requires above { AreMarked (P.signed problem.now) above.now }
-    requires here { AreAsked (P.signed problem.now) search.old.prefix.items here.old }
+    requires here { AreAsked (P.signed problem.now) (P.weak problem.now)
+        search.old.prefix.items here.old }
     requires sums { HasSums (P.signed problem.now) (P.are_sums problem.now)
         search.old.prefix.items here.old }
     requires levels { AreRooms (P.signed problem.now) search.old.prefix.items levels.old }
     ensures prefix { OnOk result (search.new.prefix.items ≡ search.old.prefix.items) }
     ensures ready { OnOk result (IsReady (P.signed problem.now) search.new) }
     ensures here { OnOk result
-        (AreAsked (P.signed problem.now) search.old.prefix.items here.new) }
+        (AreAsked (P.signed problem.now) (P.weak problem.now) search.old.prefix.items here.new) }
     ensures sums { OnOk result (here.new.sums.items ≡ here.old.sums.items) }
     ensures levels { OnOk result
         (AreRooms (P.signed problem.now) search.old.prefix.items levels.new) }
@@ -564,7 +578,8 @@ fn rooms<P: SignProblem>(alloc: Global, problem: &P) -> Result<Vec<Level>, NoMem
 
 // What both parts know at the prefix with no choice.
 fn first_level<P: SignProblem>(alloc: Global, problem: &P) -> Result<Level, NoMemory>
-    ensures level { IfOk result (λ made. IsLevel (P.signed problem.now) [] made) }
+    ensures level { IfOk result
+        (λ made. IsLevel (P.signed problem.now) (P.weak problem.now) [] made) }
     ensures sums { IfOk result
         (λ made. HasSums (P.signed problem.now) (P.are_sums problem.now) [] made) }
 {

@@ -14,6 +14,7 @@ use Rattle.crn_vec.specs.Systems.{HasKind, kind_at}
 use Rattle.crn_sign.specs.declared.bits.Bits.{Bits}
 use Rattle.crn_sign.specs.declared.marks.Mark.{Mark}
 use Rattle.crn_sign.specs.declared.marks.Mark.TheVariants.{Zero, Plus, Minus, Any}
+use Rattle.crn_sign.specs.Options.{bit_of, weakened}
 use Rattle.crn_sign.specs.Inner.Bits.{mark_at, word_count}
 
 -- a number has a mark
@@ -74,9 +75,13 @@ kind_of_mark Plus = Pos
 kind_of_mark Minus = Neg
 kind_of_mark Any = ZeroKind
 
--- the kinds that are required of the coordinates of a matrix
-unfoldable pub kinds_of : Mat → List Bits → List Kind
-kinds_of a asked = map (λ k. kind_of_mark (mark_at asked k)) (range_with_len 0 (width a))
+-- the kind that is required of a coordinate, of which those of `weak` are weak
+abbrev pub kind_there : List ℕ → List Bits → ℕ → Kind
+kind_there weak asked k = weakened (kind_of_mark (mark_at asked k)) (bit_of weak k)
+
+-- the kinds that are required of the coordinates of a matrix, of which those of `weak` are weak
+unfoldable pub kinds_of : Mat → List ℕ → List Bits → List Kind
+kinds_of a weak asked = map (kind_there weak asked) (range_with_len 0 (width a))
 
 -- each mark is made of those of two lists at its coordinate
 pub record AreMadeBy (f : Mark → Mark → Mark) (one old new : List Bits) : Type 0 where
@@ -96,20 +101,14 @@ AreOpposite Minus Minus = ⊥
 AreOpposite Minus Any = ⊥
 AreOpposite Any mark = ⊥
 
--- a mark is what is required: 0 if both signs are, and any if none is
-abbrev pub Meets : Mark → Mark → Type 0
-Meets Zero mark = Unit {0}
-Meets Plus mark = mark ≡ Plus
-Meets Minus mark = mark ≡ Minus
-Meets Any mark = mark ≡ Zero
-
--- each mark is what is required at its coordinate
-abbrev pub AreMet : List Bits → List Bits → Type 0
-AreMet asked marks = (k : ℕ) → k < length asked * 64 → Meets (mark_at asked k) (mark_at marks k)
-
 -- each number of this mark is of this kind
 abbrev pub Suits : Kind → Mark → Type 0
 Suits kind mark = (x : ℤ) → HasMark mark x → HasKind kind x
+
+-- each number of a mark is what is required at its coordinate
+abbrev pub AreMet : List ℕ → List Bits → List Bits → Type 0
+AreMet weak asked marks = (k : ℕ) → k < length asked * 64
+    → Suits (kind_there weak asked k) (mark_at marks k)
 
 -- each number of a mark is of the kind of its coordinate
 abbrev pub AreSuited : List Kind → List Bits → Type 0

@@ -8,6 +8,7 @@ use Rattle.crn_vec.specs.Elementary.{InDualSpace}
 use Rattle.crn_vec.specs.Systems.{MayWeigh, is_signed}
 use Rattle.crn_sign.specs.declared.bits.Bits.{Bits}
 use Rattle.crn_sign.specs.declared.marks.Mark.{Mark}
+use Rattle.crn_sign.specs.Options.{bit_of, weakened}
 use Rattle.crn_sign.specs.Inner.Bits.{mark_at, word_count}
 use Rattle.crn_sign.specs.Inner.Marks.{HasMark, kind_of_mark, negative}
 
@@ -33,9 +34,9 @@ mark_of_multiple false mark = negative mark
 abbrev pub Weighs : Mark → Mark → Type 0
 Weighs asked mark = (x : ℤ) → HasMark mark x → MayWeigh (kind_of_mark asked) x
 
--- a sign is required, and no number of the mark is 0
-pub record Counts (asked mark : Mark) : Type 0 where
-  pub signed : is_signed (kind_of_mark asked) ≡ true
+-- a sign is required, and not weakly, and no number of the mark is 0
+pub record Counts (asked : Mark) (weak : ℕ) (mark : Mark) : Type 0 where
+  pub signed : is_signed (weakened (kind_of_mark asked) weak) ≡ true
   pub some : (x : ℤ) → HasMark mark x → x ≢ pos 0
 
 -- numbers of these marks, or their negatives, may be weighed everywhere
@@ -44,5 +45,5 @@ AllWeigh asked stays marks = (k : ℕ) → k < length asked * 64
     → Weighs (mark_at asked k) (mark_of_multiple stays (mark_at marks k))
 
 -- some coordinate has to be positive or negative, and numbers of its mark are not 0
-abbrev pub SomeCounts : List Bits → List Bits → Type 0
-SomeCounts asked marks = (k : ℕ) × Counts (mark_at asked k) (mark_at marks k)
+abbrev pub SomeCounts : List ℕ → List Bits → List Bits → Type 0
+SomeCounts weak asked marks = (k : ℕ) × Counts (mark_at asked k) (bit_of weak k) (mark_at marks k)

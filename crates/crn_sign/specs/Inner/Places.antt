@@ -1,6 +1,7 @@
 -- For the contracts of private functions alone.
 -- What a part knows at a prefix.
--- Shapes: `kinds` has a member for each coordinate, and `settled` lists coordinates, counted from 0.
+-- Shapes: `kinds` has a member for each coordinate, `settled` lists coordinates, counted from 0, and
+-- `weak` has their bits.
 use Rattle.std.specs.Prelude.{◌≡◌, ◌<◌, ℕ, List, [], ◌∷◌, ◌++◌, length, IsTrue}
 use Rattle.crn_vec.specs.declared.signs.Sign.{Sign}
 use Rattle.crn_vec.specs.declared.signs.Kind.{Kind}
@@ -19,26 +20,26 @@ pub record HasRoom (a : Mat) (l : Place) : Type 0 where
   pub marks : length l.marks.items ≡ word_count a
 
 -- the marks are of a vector (x, Ax), and suit the kinds that are required if they are said to
-pub record IsPlace (a : Mat) (l : Place) : Type 0 where
+pub record IsPlace (a : Mat) (weak : List ℕ) (l : Place) : Type 0 where
   pub width_is : l.width ≡ width a
   pub asked : length l.asked.items ≡ word_count a
   pub marks : AreRowMarks a l.marks.items
-  pub suits : IsTrue l.suits → AreSuited (kinds_of a l.asked.items) l.marks.items
+  pub suits : IsTrue l.suits → AreSuited (kinds_of a weak l.asked.items) l.marks.items
 
 -- and the kinds are these
-pub record IsHere (a : Mat) (kinds : List Kind) (l : Place) : Type 0 where
-  pub place : IsPlace a l
-  pub kinds_are : kinds_of a l.asked.items ≡ kinds
+pub record IsHere (a : Mat) (weak : List ℕ) (kinds : List Kind) (l : Place) : Type 0 where
+  pub place : IsPlace a weak l
+  pub kinds_are : kinds_of a weak l.asked.items ≡ kinds
 
 -- what is required is of these kinds
-pub record IsAsked (a : Mat) (kinds : List Kind) (l : Place) : Type 0 where
+pub record IsAsked (a : Mat) (weak : List ℕ) (kinds : List Kind) (l : Place) : Type 0 where
   pub room : HasRoom a l
-  pub kinds_are : kinds_of a l.asked.items ≡ kinds
+  pub kinds_are : kinds_of a weak l.asked.items ≡ kinds
 
 -- the marks one level above suit what is required if they are said to
-pub record IsFor (a : Mat) (above l : Place) : Type 0 where
+pub record IsFor (a : Mat) (weak : List ℕ) (above l : Place) : Type 0 where
   pub room : HasRoom a l
-  pub suits : IsTrue l.suits → AreSuited (kinds_of a l.asked.items) above.marks.items
+  pub suits : IsTrue l.suits → AreSuited (kinds_of a weak l.asked.items) above.marks.items
 
 -- what is required is right of all coordinates whose kinds one choice more leaves as they are
 pub record IsAround (a : Mat) (kinds : List Sign → List Kind) (p : List Sign) (l : Place)

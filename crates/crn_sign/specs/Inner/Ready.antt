@@ -1,6 +1,7 @@
 -- For the contracts of private functions alone.
 -- What a search works with, for a problem.
-use Rattle.std.specs.Prelude.{◌≡◌, ◌≤◌, ◌+◌, List, length, vec_capacity}
+-- Shapes: `weak` has the bits of part A's coordinates; none of part B is weak.
+use Rattle.std.specs.Prelude.{◌≡◌, ◌≤◌, ◌+◌, ℕ, List, [], length, vec_capacity}
 use Rattle.std.specs.List.{AllByRecursion}
 use Rattle.crn_vec.specs.declared.signs.Sign.{Sign}
 use Rattle.crn_vec.specs.Problems.{Signed, IsPrefix, IsLawful}
@@ -21,14 +22,14 @@ pub record IsReady (w : Signed) (s : Progress) : Type 0 where
   pub room : w.choices ≤ vec_capacity s.prefix
 
 -- what both parts know at a prefix
-pub record IsLevel (w : Signed) (p : List Sign) (l : Level) : Type 0 where
-  pub a : IsHere w.matrix_a (w.kinds_a p) l.a
-  pub b : IsHere w.matrix_b (w.kinds_b p) l.b
+pub record IsLevel (w : Signed) (weak : List ℕ) (p : List Sign) (l : Level) : Type 0 where
+  pub a : IsHere w.matrix_a weak (w.kinds_a p) l.a
+  pub b : IsHere w.matrix_b [] (w.kinds_b p) l.b
 
 -- what is required of both parts at a prefix
-pub record AreAsked (w : Signed) (p : List Sign) (l : Level) : Type 0 where
-  pub a : IsAsked w.matrix_a (w.kinds_a p) l.a
-  pub b : IsAsked w.matrix_b (w.kinds_b p) l.b
+pub record AreAsked (w : Signed) (weak : List ℕ) (p : List Sign) (l : Level) : Type 0 where
+  pub a : IsAsked w.matrix_a weak (w.kinds_a p) l.a
+  pub b : IsAsked w.matrix_b [] (w.kinds_b p) l.b
 
 -- both parts have the marks of a vector
 pub record AreMarked (w : Signed) (l : Level) : Type 0 where
@@ -36,9 +37,9 @@ pub record AreMarked (w : Signed) (l : Level) : Type 0 where
   pub b : AreRowMarks w.matrix_b l.b.marks.items
 
 -- the marks one level above suit what is required of both parts if they are said to
-pub record AreFor (w : Signed) (above l : Level) : Type 0 where
-  pub a : IsFor w.matrix_a above.a l.a
-  pub b : IsFor w.matrix_b above.b l.b
+pub record AreFor (w : Signed) (weak : List ℕ) (above l : Level) : Type 0 where
+  pub a : IsFor w.matrix_a weak above.a l.a
+  pub b : IsFor w.matrix_b [] above.b l.b
 
 -- the sums of a prefix, as its problem says what they are
 pub record HasSums (w : Signed) (are_sums : List Sign → List Bits → Type 0) (p : List Sign) (l : Level)

@@ -2,16 +2,22 @@ use Rattle.std.proofs.Common.{ℕ, ◌≡◌, ◌/◌, ◌%◌, ◌∙◌, inl, 
 use Rattle.std.specs.Int.{bit_at}
 use Rattle.std.proofs.lemmas.Nat.Bits.{bit_at-zero}
 use Rattle.crn_vec.proofs.CallerLemmas.{eq_or}
+use Rattle.crn_sign.specs.Options.{weakened, word_of}
 use Rattle.crn_sign.specs.Inner.Bits.{mark_at, mark_in, word_at}
-use Rattle.crn_sign.specs.Inner.Marks.{Meets}
+use Rattle.crn_sign.specs.Inner.Marks.{Suits, kind_of_mark, kind_there}
 use Rattle.crn_sign.proofs.marks.all_meet.Goals as goal
 
 pub loop-w-preserved : goal.loop-w-preserved
 loop-w-preserved c = λ k lt.
-    elim (eq_or (k / 64) c.loop-w.w) as (λ _. Meets (mark_at c.args.asked.now k) (mark_at c.args.marks.now k)) [
+    let weak = c.args.weak.now in
+    let asked = c.args.asked.now in
+    let marks = c.args.marks.now in
+    let i = k % 64 in
+    elim (eq_or (k / 64) c.loop-w.w) as (λ _. Suits (kind_there weak asked k) (mark_at marks k)) [
       | inl e ↦
           let none : c.misfits.result ≡ 0 = omega arith in
-          subst (λ (v : ℕ). Meets (mark_in (word_at c.args.asked.now v) (k % 64)) (mark_in (word_at c.args.marks.now v) (k % 64))) (sym e)
-          (c.misfits.ensures (k % 64) (ap (λ (n : ℕ). bit_at n (k % 64)) none ∙ bit_at-zero (k % 64)))
+          subst (λ (v : ℕ). Suits (weakened (kind_of_mark (mark_in (word_at asked v) i)) (bit_at (word_of weak v) i)) (mark_in (word_at marks v) i)) (sym e)
+          (subst (λ (n : ℕ). Suits (weakened (kind_of_mark (mark_in (word_at asked c.loop-w.w) i)) (bit_at n i)) (mark_in (word_at marks c.loop-w.w) i)) c.word_of.ensures
+          (c.misfits.ensures i (ap (λ (n : ℕ). bit_at n i) none ∙ bit_at-zero i)))
       | inr ne ↦ c.loop-w.invariant k (omega (arith, lt, ne))
     ]

@@ -1,7 +1,7 @@
 use Rattle.std.proofs.Common.{◌<◌, ◌*◌, ℕ}
 use Rattle.crn_sign.specs.Inner.Bits.{mark_at}
-use Rattle.crn_sign.specs.Inner.Marks.{Meets}
+use Rattle.crn_sign.specs.Inner.Marks.{Suits, kind_there}
 use Rattle.crn_sign.proofs.marks.all_meet.Given as goal
 
 abbrev pub invariant-loop-w : goal.invariant-loop-w
-invariant-loop-w l = (k : ℕ) → k < l.w * 64 → Meets (mark_at l.asked k) (mark_at l.marks k)
+invariant-loop-w l = (k : ℕ) → k < l.w * 64 → Suits (kind_there l.weak l.asked k) (mark_at l.marks k)

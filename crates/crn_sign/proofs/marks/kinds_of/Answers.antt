@@ -1,4 +1,5 @@
 use Rattle.std.proofs.Common.{◌≡◌, ◌<◌, ◌+◌, ◌*◌, ◌/◌, ◌%◌, ℕ, List, length, inl, inr, sym, ap, ◌∙◌, arith}
+use Rattle.std.specs.Int.{bit_at}
 use Rattle.std.proofs.lemmas.List.{length-replicate, get_or-replicate}
 use Rattle.std.proofs.lemmas.List.FromFn.{fill_by_all}
 use lib.ListN.{replicate}
@@ -7,8 +8,9 @@ use Rattle.crn_vec.specs.declared.signs.Kind.TheVariants.{Free}
 use Rattle.crn_vec.specs.Elementary.{width}
 use Rattle.crn_vec.specs.Systems.{kind_at}
 use Rattle.crn_vec.proofs.CallerLemmas.{eq_or}
-use Rattle.crn_sign.specs.Inner.Bits.{mark_at, mark_in, word_at}
-use Rattle.crn_sign.specs.Inner.Marks.{kind_of_mark}
+use Rattle.crn_sign.specs.Options.{weakened, word_of}
+use Rattle.crn_sign.specs.Inner.Bits.{mark_in, word_at}
+use Rattle.crn_sign.specs.Inner.Marks.{kind_of_mark, kind_there}
 use Rattle.crn_sign.proofs.MarkLaws.{kinds_by}
 use Rattle.crn_sign.proofs.marks.kinds_of.Goals as goal
 
@@ -34,13 +36,14 @@ loop-w-preserved c =
     let w = c.loop-w.w in
     let put = c.put_kinds.ensures in
     let new = c.put_kinds.new.kinds.items in
-    let f = λ (k : ℕ). kind_of_mark (mark_at c.args.asked.now k) in
+    let f = kind_there c.args.weak.now c.args.asked.now in
     record {
       count = put.count ∙ c.loop-w.invariant.count;
       done = λ k lt before. elim (eq_or (k / 64) w) as (λ _. kind_at new k ≡ f k) [
         | inl e ↦ let at : 64 * w + k % 64 ≡ k = omega (arith, e) in
             ap (λ (x : ℕ). kind_at new x) (sym at) ∙ put.here (k % 64) (omega arith) (omega (arith, at, lt, c.loop-w.invariant.count))
-            ∙ ap (λ (x : ℕ). kind_of_mark (mark_in (word_at c.args.asked.now x) (k % 64))) (sym e)
+            ∙ ap (λ (x : ℕ). weakened (kind_of_mark (mark_in (word_at c.args.asked.now w) (k % 64))) (bit_at x (k % 64))) c.word_of.ensures
+            ∙ ap (λ (x : ℕ). weakened (kind_of_mark (mark_in (word_at c.args.asked.now x) (k % 64))) (bit_at (word_of c.args.weak.now x) (k % 64))) (sym e)
         | inr ne ↦ put.others k ne ∙ c.loop-w.invariant.done k lt (omega (arith, before, ne))
       ];
       rest = λ k lt from. put.others k (λ e. absurd (omega (arith, from, e))) ∙ c.loop-w.invariant.rest k lt (omega (arith, from));
@@ -49,10 +52,10 @@ loop-w-preserved c =
 pub returns : goal.returns
 returns c =
     let a = c.args.matrix.now in
-    let f = λ (k : ℕ). kind_of_mark (mark_at c.args.asked.now k) in
+    let f = kind_there c.args.weak.now c.args.asked.now in
     let all : (k : ℕ) → k < width a → kind_at c.loop-w.kinds.items k ≡ f k =
     λ k lt. c.loop-w.invariant.done k lt (omega (arith, lt, c.loop-w-test.false, c.requires)) in
     record {
-      kinds = fill_by_all f c.loop-w.kinds.items (width a) Free c.loop-w.invariant.count all ∙ kinds_by a c.args.asked.now;
+      kinds = fill_by_all f c.loop-w.kinds.items (width a) Free c.loop-w.invariant.count all ∙ kinds_by a c.args.weak.now c.args.asked.now;
       long = c.loop-w.invariant.count;
     }

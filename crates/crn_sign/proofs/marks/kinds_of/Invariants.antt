@@ -2,13 +2,12 @@ use Rattle.std.proofs.Common.{◌≡◌, ◌<◌, ◌≤◌, ◌/◌, ℕ, lengt
 use Rattle.crn_vec.specs.declared.signs.Kind.TheVariants.{Free}
 use Rattle.crn_vec.specs.Systems.{kind_at}
 use Rattle.crn_vec.specs.Elementary.{width}
-use Rattle.crn_sign.specs.Inner.Bits.{mark_at}
-use Rattle.crn_sign.specs.Inner.Marks.{kind_of_mark}
+use Rattle.crn_sign.specs.Inner.Marks.{kind_there}
 use Rattle.crn_sign.proofs.marks.kinds_of.Given as goal
 
 abbrev pub invariant-loop-w : goal.invariant-loop-w
 invariant-loop-w l = record {
   count : length l.kinds.items ≡ width l.matrix;
-  done : (k : ℕ) → k < width l.matrix → k / 64 < l.w → kind_at l.kinds.items k ≡ kind_of_mark (mark_at l.asked k);
+  done : (k : ℕ) → k < width l.matrix → k / 64 < l.w → kind_at l.kinds.items k ≡ kind_there l.weak l.asked k;
   rest : (k : ℕ) → k < width l.matrix → l.w ≤ k / 64 → kind_at l.kinds.items k ≡ Free;
 }

@@ -1,8 +1,10 @@
-use Rattle.std.proofs.Common.{◌≡◌, ◌≢◌, ◌+◌, ◌*◌, ℕ, inl, inr, refl, sym, ap, ◌∙◌, w64, arith}
+use Rattle.std.proofs.Common.{◌≡◌, ◌≢◌, ◌+◌, ◌*◌, ℕ, inl, inr, refl, sym, ap, ap₂, ◌∙◌, w64, arith}
 use Rattle.std.specs.Int.{bit_at, trailing_zeros}
 use Rattle.std.proofs.lemmas.Nat.Bits.{bit_at-zero, bit_at-trailing_zeros}
+use Rattle.crn_vec.specs.declared.signs.Kind.{Kind}
 use Rattle.crn_vec.specs.Systems.{kind_at}
 use Rattle.crn_vec.proofs.CallerLemmas.{eq_or}
+use Rattle.crn_sign.specs.Options.{weakened}
 use Rattle.crn_sign.specs.Inner.Bits.{mark_in}
 use Rattle.crn_sign.specs.Inner.Marks.{kind_of_mark}
 use Rattle.crn_sign.proofs.marks.put_kinds.Goals as goal
@@ -12,11 +14,14 @@ bits-init c = record {
   fits = c.asked_places-rest.type_inv;
   count = refl;
   others = λ k ne. refl;
-  done = λ i lt z inside. c.requires.free i lt inside ∙ sym (c.asked_places-rest.ensures i z);
+  done = λ i lt z inside. c.requires.free i lt inside ∙ sym (ap (λ (t : Kind). weakened t (bit_at c.args.weak i)) (c.asked_places-rest.ensures i z));
 }
 
 pub mark_in-requires : goal.mark_in-requires
 mark_in-requires c = (bit_at-trailing_zeros w64 c.bits.rest (omega (arith, c.bits-test.true)) c.bits.invariant.fits).0
+
+pub bit_in-requires : goal.bit_in-requires
+bit_in-requires c = (bit_at-trailing_zeros w64 c.bits.rest (omega (arith, c.bits-test.true)) c.bits.invariant.fits).0
 
 pub without_bit-rest-requires : goal.without_bit-rest-requires
 without_bit-rest-requires c = (bit_at-trailing_zeros w64 c.bits.rest (omega (arith, c.bits-test.true)) c.bits.invariant.fits).0
@@ -32,9 +37,10 @@ bits-preserved c =
       fits = c.without_bit-rest.type_inv;
       count = put.count ∙ c.bits.invariant.count;
       others = λ k ne. put.others k (λ e. ne (omega (arith, e, lowest.0))) ∙ c.bits.invariant.others k ne;
-      done = λ j lt z inside. elim (eq_or j i) as (λ _. kind_at new (64 * w + j) ≡ kind_of_mark (mark_in c.args.bits j)) [
+      done = λ j lt z inside. elim (eq_or j i) as (λ _. kind_at new (64 * w + j) ≡ weakened (kind_of_mark (mark_in c.args.bits j)) (bit_at c.args.weak j)) [
         | inl e ↦ ap (λ (x : ℕ). kind_at new (64 * w + x)) e ∙ put.here (omega (arith, inside, c.bits.invariant.count, e))
-            ∙ c.kind_of_mark.ensures ∙ ap kind_of_mark c.mark_in.ensures ∙ ap (λ (x : ℕ). kind_of_mark (mark_in c.args.bits x)) (sym e)
+            ∙ c.weakened-kind.ensures ∙ ap₂ (λ (t : Kind) (b : ℕ). weakened t b) (c.kind_of_mark.ensures ∙ ap kind_of_mark c.mark_in.ensures) c.bit_in.ensures
+            ∙ ap (λ (x : ℕ). weakened (kind_of_mark (mark_in c.args.bits x)) (bit_at c.args.weak x)) (sym e)
         | inr ne ↦ put.others (64 * w + j) (λ e. ne (omega (arith, e))) ∙ c.bits.invariant.done j lt (sym (c.without_bit-rest.ensures.others j lt ne) ∙ z) inside
       ];
     }

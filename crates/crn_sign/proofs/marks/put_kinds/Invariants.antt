@@ -1,6 +1,7 @@
 use Rattle.std.proofs.Common.{◌≡◌, ◌≢◌, ◌<◌, ◌+◌, ◌*◌, ◌/◌, ℕ, length}
 use Rattle.std.specs.Int.{bit_at}
 use Rattle.crn_vec.specs.Systems.{kind_at}
+use Rattle.crn_sign.specs.Options.{weakened}
 use Rattle.crn_sign.specs.Inner.Bits.{mark_in}
 use Rattle.crn_sign.specs.Inner.Marks.{kind_of_mark}
 use Rattle.crn_sign.proofs.marks.put_kinds.Given as goal
@@ -11,7 +12,7 @@ invariant-bits l = record {
   count : length l.kinds.items ≡ length l.fn.kinds.items;
   others : (k : ℕ) → k / 64 ≢ l.w → kind_at l.kinds.items k ≡ kind_at l.fn.kinds.items k;
   done : (i : ℕ) → i < 64 → bit_at l.rest i ≡ 0 → 64 * l.w + i < length l.fn.kinds.items
-      → kind_at l.kinds.items (64 * l.w + i) ≡ kind_of_mark (mark_in l.bits i);
+      → kind_at l.kinds.items (64 * l.w + i) ≡ weakened (kind_of_mark (mark_in l.bits i)) (bit_at l.weak i);
 }
 
 abbrev pub decreases-bits : goal.decreases-bits

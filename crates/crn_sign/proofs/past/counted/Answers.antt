@@ -1,5 +1,5 @@
 use Rattle.std.specs.Int.{bit_at}
-use Rattle.std.proofs.lemmas.Nat.Bits.{bit_at-lt, bit_at_and, bit_at_xor}
+use Rattle.std.proofs.lemmas.Nat.Bits.{bit_at-lt, bit_at_and, bit_at_or, bit_at_xor}
 use Rattle.crn_sign.proofs.BitLaws.{counted}
 use Rattle.crn_sign.proofs.past.counted.Goals as goal
 
@@ -7,4 +7,4 @@ pub returns : goal.returns
 returns c = λ i e.
     let q = c.args.asked in
     let m = c.args.marks in
-    counted (bit_at q.plus i) (bit_at q.minus i) (bit_at m.plus i) (bit_at m.minus i) (bit_at-lt q.plus i) (bit_at-lt q.minus i) (bit_at-lt m.plus i) (bit_at-lt m.minus i) (simp (bit_at_and, bit_at_xor) at e)
+    counted (bit_at q.plus i) (bit_at q.minus i) (bit_at c.args.weak i) (bit_at m.plus i) (bit_at m.minus i) (bit_at-lt q.plus i) (bit_at-lt q.minus i) (bit_at-lt c.args.weak i) (bit_at-lt m.plus i) (bit_at-lt m.minus i) (simp (bit_at_and, bit_at_or, bit_at_xor) at e)

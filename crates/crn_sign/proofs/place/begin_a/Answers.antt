@@ -22,5 +22,5 @@ returns-clause-here g c =
         marks = subst (λ (a : Mat). AreRowMarks a c.forget.new.self.marks.items) c.matrix_a.ensures c.forget.ensures.marks;
         suits = λ t. absurd (cc);
       };
-      kinds_are = ap (λ (q : List Bits). kinds_of w.matrix_a q) is ∙ asked_kinds w.matrix_a (w.kinds_a []) new (c.requires.lawful.long_a [] (omega arith)) asks;
+      kinds_are = ap (λ (q : List Bits). kinds_of w.matrix_a (g.P.SignProblem.weak c.args.problem.now) q) is ∙ asked_kinds w.matrix_a (g.P.SignProblem.weak c.args.problem.now) (w.kinds_a []) new (c.requires.lawful.long_a [] (omega arith)) asks;
     }

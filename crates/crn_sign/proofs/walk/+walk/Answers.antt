@@ -122,7 +122,7 @@ walk-returns-clause-answer g t c =
 pub walk-at_level-requires : goal.walk-at_level-requires
 walk-at_level-requires g t c =
     let w : Signed = g.P.SignProblem.signed c.args.problem.now in
-    level_moved w c.args.search.now.prefix.items c.rule_out.new.search.prefix.items c.rule_out.new.here c.in_ok-node.ensures.place.prefix (rw c.in_default.is at c.in_ok-node.ensures.here)
+    level_moved w (g.P.SignProblem.weak c.args.problem.now) c.args.search.now.prefix.items c.rule_out.new.search.prefix.items c.rule_out.new.here c.in_ok-node.ensures.place.prefix (rw c.in_default.is at c.in_ok-node.ensures.here)
 
 pub child-returns-clause-ready : goal.child-returns-clause-ready
 child-returns-clause-ready g t c =
@@ -141,4 +141,4 @@ child-enter-requires-clause-here g t c = (c.args.search.now.prefix.items, c.args
 pub child-returns-clause-next : goal.child-returns-clause-next
 child-returns-clause-next g t c =
     let w : Signed = g.P.SignProblem.signed c.args.problem.now in
-    asked_around w c.args.search.now.prefix.items _ c.args.option c.walk.new.here c.push_reserved.ensures.items (ap (λ (l : List Bits). length l) c.in_ok-end.ensures.sums ∙ c.enter.ensures.sums.count) c.in_ok-end.ensures.here
+    asked_around w (g.P.SignProblem.weak c.args.problem.now) c.args.search.now.prefix.items _ c.args.option c.walk.new.here c.push_reserved.ensures.items (ap (λ (l : List Bits). length l) c.in_ok-end.ensures.sums ∙ c.enter.ensures.sums.count) c.in_ok-end.ensures.here

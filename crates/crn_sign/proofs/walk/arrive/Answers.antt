@@ -24,11 +24,11 @@ pub returns-clause-leaf : goal.returns-clause-leaf
 returns-clause-leaf g c =
     let w : Signed = g.P.SignProblem.signed c.args.problem.now in
     let t = c.take.ensures in
-    taken_level w c.args.search.now.prefix.items c.look.new.here c.take.new.here t.a t.b t.asked_a t.asked_b (subst (λ (p : List Sign). AreAsked w p c.look.new.here) c.deref.ensures.value c.look.ensures.asked)
+    taken_level w (g.P.SignProblem.weak c.args.problem.now) c.args.search.now.prefix.items c.look.new.here c.take.new.here t.a t.b t.asked_a t.asked_b (subst (λ (p : List Sign). AreAsked w (g.P.SignProblem.weak c.args.problem.now) p c.look.new.here) c.deref.ensures.value c.look.ensures.asked)
 
 pub returns-clause-asked : goal.returns-clause-asked
 returns-clause-asked g c =
     let w : Signed = g.P.SignProblem.signed c.args.problem.now in
     let t = c.take.ensures in
-    level_asked w c.args.search.now.prefix.items c.take.new.here
-    (taken_level w c.args.search.now.prefix.items c.look.new.here c.take.new.here t.a t.b t.asked_a t.asked_b (subst (λ (p : List Sign). AreAsked w p c.look.new.here) c.deref.ensures.value c.look.ensures.asked))
+    level_asked w (g.P.SignProblem.weak c.args.problem.now) c.args.search.now.prefix.items c.take.new.here
+    (taken_level w (g.P.SignProblem.weak c.args.problem.now) c.args.search.now.prefix.items c.look.new.here c.take.new.here t.a t.b t.asked_a t.asked_b (subst (λ (p : List Sign). AreAsked w (g.P.SignProblem.weak c.args.problem.now) p c.look.new.here) c.deref.ensures.value c.look.ensures.asked))

@@ -40,7 +40,7 @@ returns g c =
       asked = record {
         a = record {
           room = record { width_is = h.3.a.width_is; asked = ap (λ (l : List Bits). length l) asked_is ∙ asks.count; marks = h.3.a.marks };
-          kinds_are = ap (λ (l : List Bits). kinds_of w.matrix_a l) asked_is ∙ asked_kinds w.matrix_a (w.kinds_a q) asked (c.requires.lawful.long_a q c.requires.prefix) asks;
+          kinds_are = ap (λ (l : List Bits). kinds_of w.matrix_a (g.P.SignProblem.weak c.args.problem.now) l) asked_is ∙ asked_kinds w.matrix_a (g.P.SignProblem.weak c.args.problem.now) (w.kinds_a q) asked (c.requires.lawful.long_a q c.requires.prefix) asks;
         };
         b = c.enter_b.ensures;
       };

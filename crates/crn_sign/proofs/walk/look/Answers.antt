@@ -1,4 +1,4 @@
-use Rattle.std.proofs.Common.{List, refl, sym, ap, subst, ◌∙◌}
+use Rattle.std.proofs.Common.{ℕ, List, [], refl, sym, ap, subst, ◌∙◌}
 use Rattle.crn_vec.specs.Vectors.{Mat}
 use Rattle.crn_vec.specs.Problems.{Signed}
 use Rattle.crn_sign.specs.declared.bits.Bits.{Bits}
@@ -25,12 +25,13 @@ look-requires-2 g c =
 pub returns : goal.returns
 returns g c =
     let w : Signed = g.P.SignProblem.signed c.args.problem.now in
-    let a = subst (λ (m : Mat). IsFor m c.args.above.now.a c.look.new.self) c.matrix_a.ensures c.look.ensures.here in
-    let b = subst (λ (m : Mat). IsFor m c.args.above.now.b c.look-2.new.self) c.matrix_b.ensures c.look-2.ensures.here in
+    let weak : List ℕ = g.P.SignProblem.weak c.args.problem.now in
+    let a = subst (λ (v : List ℕ). IsFor w.matrix_a v c.args.above.now.a c.look.new.self) c.weak_a.ensures (subst (λ (m : Mat). IsFor m c.weak_a.result.now c.args.above.now.a c.look.new.self) c.matrix_a.ensures c.look.ensures.here) in
+    let b = subst (λ (m : Mat). IsFor m [] c.args.above.now.b c.look-2.new.self) c.matrix_b.ensures c.look-2.ensures.here in
     record {
       asked = record {
-        a = record { room = a.room; kinds_are = ap (λ (q : List Bits). kinds_of w.matrix_a q) c.look.ensures.asked ∙ c.requires.asked.a.kinds_are };
-        b = record { room = b.room; kinds_are = ap (λ (q : List Bits). kinds_of w.matrix_b q) c.look-2.ensures.asked ∙ c.requires.asked.b.kinds_are };
+        a = record { room = a.room; kinds_are = ap (λ (q : List Bits). kinds_of w.matrix_a weak q) c.look.ensures.asked ∙ c.requires.asked.a.kinds_are };
+        b = record { room = b.room; kinds_are = ap (λ (q : List Bits). kinds_of w.matrix_b [] q) c.look-2.ensures.asked ∙ c.requires.asked.b.kinds_are };
       };
       here = record { a = a; b = b };
       sums = refl;

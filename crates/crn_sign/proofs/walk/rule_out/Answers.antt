@@ -1,4 +1,4 @@
-use Rattle.std.proofs.Common.{List, ℤ, ◌∙◌, refl, sym, subst}
+use Rattle.std.proofs.Common.{List, [], ℤ, ◌∙◌, refl, sym, subst}
 use Rattle.crn_vec.specs.declared.signs.Sign.{Sign}
 use Rattle.crn_vec.specs.Problems.{Signed, SolvesA, SolvesB}
 use Rattle.crn_farkas.specs.Decision.{IsSmallCut}
@@ -35,13 +35,13 @@ pub rule_out_b-requires-clause-here : goal.rule_out_b-requires-clause-here
 rule_out_b-requires-clause-here g c =
     let w : Signed = g.P.SignProblem.signed c.args.problem.now in
     let l = rw c.in_default.is at c.in_ok-node.ensures.leaf in
-    subst (λ (p : List Sign). IsHere w.matrix_b (w.kinds_b p) c.arrive.new.here.b) (sym c.in_ok-node.ensures.place.prefix) l.b
+    subst (λ (p : List Sign). IsHere w.matrix_b [] (w.kinds_b p) c.arrive.new.here.b) (sym c.in_ok-node.ensures.place.prefix) l.b
 
 pub rule_out_a-requires-clause-here : goal.rule_out_a-requires-clause-here
 rule_out_a-requires-clause-here g c =
     let w : Signed = g.P.SignProblem.signed c.args.problem.now in
     let l = rw c.in_default.is at c.in_ok-node.ensures.leaf in
-    subst (λ (p : List Sign). IsHere w.matrix_a (w.kinds_a p) c.arrive.new.here.a) (sym (c.in_ok-u.ensures.place.prefix ∙ c.in_ok-node.ensures.place.prefix)) l.a
+    subst (λ (p : List Sign). IsHere w.matrix_a (g.P.SignProblem.weak c.args.problem.now) (w.kinds_a p) c.arrive.new.here.a) (sym (c.in_ok-u.ensures.place.prefix ∙ c.in_ok-node.ensures.place.prefix)) l.a
 
 pub returns-in-Some-2-clause-asked : goal.returns-in-Some-2-clause-asked
 returns-in-Some-2-clause-asked g c =
@@ -49,7 +49,7 @@ returns-in-Some-2-clause-asked g c =
     let p : List Sign = c.args.search.now.prefix.items in
     record {
       a = c.in_ok-node.ensures.asked.a;
-      b = asked_at w.matrix_b (w.kinds_b p) c.rule_out_b.new.here (subst (λ (r : List Sign). IsHere w.matrix_b (w.kinds_b r) c.rule_out_b.new.here) c.in_ok-node.ensures.place.prefix c.in_ok-u.ensures.here);
+      b = asked_at w.matrix_b [] (w.kinds_b p) c.rule_out_b.new.here (subst (λ (r : List Sign). IsHere w.matrix_b [] (w.kinds_b r) c.rule_out_b.new.here) c.in_ok-node.ensures.place.prefix c.in_ok-u.ensures.here);
     }
 
 pub returns-in-Some-3-clause-asked : goal.returns-in-Some-3-clause-asked
@@ -57,21 +57,21 @@ returns-in-Some-3-clause-asked g c =
     let w : Signed = g.P.SignProblem.signed c.args.problem.now in
     let p : List Sign = c.args.search.now.prefix.items in
     let l : Level = record { a = c.rule_out_a.new.here; b = c.rule_out_b.new.here; sums = c.arrive.new.here.sums } in
-    level_asked w p l (level_at w p c.rule_out_b.new.search.prefix.items l (c.in_ok-u.ensures.place.prefix ∙ c.in_ok-node.ensures.place.prefix) c.in_ok-u-2.ensures.here
-    (subst (λ (r : List Sign). IsHere w.matrix_b (w.kinds_b r) c.rule_out_b.new.here) c.in_ok-node.ensures.place.prefix c.in_ok-u.ensures.here))
+    level_asked w (g.P.SignProblem.weak c.args.problem.now) p l (level_at w (g.P.SignProblem.weak c.args.problem.now) p c.rule_out_b.new.search.prefix.items l (c.in_ok-u.ensures.place.prefix ∙ c.in_ok-node.ensures.place.prefix) c.in_ok-u-2.ensures.here
+    (subst (λ (r : List Sign). IsHere w.matrix_b [] (w.kinds_b r) c.rule_out_b.new.here) c.in_ok-node.ensures.place.prefix c.in_ok-u.ensures.here))
 
 pub returns-clause-asked : goal.returns-clause-asked
 returns-clause-asked g c =
     let w : Signed = g.P.SignProblem.signed c.args.problem.now in
     let p : List Sign = c.args.search.now.prefix.items in
     let l : Level = record { a = c.rule_out_a.new.here; b = c.rule_out_b.new.here; sums = c.arrive.new.here.sums } in
-    level_asked w p l (level_at w p c.rule_out_b.new.search.prefix.items l (c.in_ok-u.ensures.place.prefix ∙ c.in_ok-node.ensures.place.prefix) c.in_ok-u-2.ensures.here
-    (subst (λ (r : List Sign). IsHere w.matrix_b (w.kinds_b r) c.rule_out_b.new.here) c.in_ok-node.ensures.place.prefix c.in_ok-u.ensures.here))
+    level_asked w (g.P.SignProblem.weak c.args.problem.now) p l (level_at w (g.P.SignProblem.weak c.args.problem.now) p c.rule_out_b.new.search.prefix.items l (c.in_ok-u.ensures.place.prefix ∙ c.in_ok-node.ensures.place.prefix) c.in_ok-u-2.ensures.here
+    (subst (λ (r : List Sign). IsHere w.matrix_b [] (w.kinds_b r) c.rule_out_b.new.here) c.in_ok-node.ensures.place.prefix c.in_ok-u.ensures.here))
 
 pub returns-clause-here : goal.returns-clause-here
 returns-clause-here g c =
     let w : Signed = g.P.SignProblem.signed c.args.problem.now in
     let p : List Sign = c.args.search.now.prefix.items in
     let l : Level = record { a = c.rule_out_a.new.here; b = c.rule_out_b.new.here; sums = c.arrive.new.here.sums } in
-    level_at w p c.rule_out_b.new.search.prefix.items l (c.in_ok-u.ensures.place.prefix ∙ c.in_ok-node.ensures.place.prefix) c.in_ok-u-2.ensures.here
-    (subst (λ (r : List Sign). IsHere w.matrix_b (w.kinds_b r) c.rule_out_b.new.here) c.in_ok-node.ensures.place.prefix c.in_ok-u.ensures.here)
+    level_at w (g.P.SignProblem.weak c.args.problem.now) p c.rule_out_b.new.search.prefix.items l (c.in_ok-u.ensures.place.prefix ∙ c.in_ok-node.ensures.place.prefix) c.in_ok-u-2.ensures.here
+    (subst (λ (r : List Sign). IsHere w.matrix_b [] (w.kinds_b r) c.rule_out_b.new.here) c.in_ok-node.ensures.place.prefix c.in_ok-u.ensures.here)

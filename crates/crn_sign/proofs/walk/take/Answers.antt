@@ -1,4 +1,4 @@
-use Rattle.std.proofs.Common.{refl, sym, subst}
+use Rattle.std.proofs.Common.{ℕ, List, [], refl, sym, subst}
 use Rattle.crn_vec.specs.Vectors.{Mat}
 use Rattle.crn_sign.specs.Inner.Marks.{AreRowMarks}
 use Rattle.crn_sign.specs.Inner.Places.{IsFor, IsPlace}
@@ -8,7 +8,7 @@ pub take-requires : goal.take-requires
 take-requires g c =
     let e = c.matrix_a.ensures in
     record {
-      here = subst (λ (m : Mat). IsFor m c.args.above.now.a c.args.here.now.a) (sym e) c.requires.here.a;
+      here = subst (λ (m : Mat). IsFor m c.weak_a.result.now c.args.above.now.a c.args.here.now.a) (sym e) (subst (λ (v : List ℕ). IsFor (g.P.SignProblem.signed c.args.problem.now).matrix_a v c.args.above.now.a c.args.here.now.a) (sym c.weak_a.ensures) c.requires.here.a);
       above = subst (λ (m : Mat). AreRowMarks m c.args.above.now.a.marks.items) (sym e) c.requires.above.a;
     }
 
@@ -16,14 +16,14 @@ pub take-requires-2 : goal.take-requires-2
 take-requires-2 g c =
     let e = c.matrix_b.ensures in
     record {
-      here = subst (λ (m : Mat). IsFor m c.args.above.now.b c.args.here.now.b) (sym e) c.requires.here.b;
+      here = subst (λ (m : Mat). IsFor m [] c.args.above.now.b c.args.here.now.b) (sym e) c.requires.here.b;
       above = subst (λ (m : Mat). AreRowMarks m c.args.above.now.b.marks.items) (sym e) c.requires.above.b;
     }
 
 pub returns : goal.returns
 returns g c = record {
-  a = subst (λ (m : Mat). IsPlace m c.take.new.self) c.matrix_a.ensures c.take.ensures.here;
-  b = subst (λ (m : Mat). IsPlace m c.take-2.new.self) c.matrix_b.ensures c.take-2.ensures.here;
+  a = subst (λ (v : List ℕ). IsPlace (g.P.SignProblem.signed c.args.problem.now).matrix_a v c.take.new.self) c.weak_a.ensures (subst (λ (m : Mat). IsPlace m c.weak_a.result.now c.take.new.self) c.matrix_a.ensures c.take.ensures.here);
+  b = subst (λ (m : Mat). IsPlace m [] c.take-2.new.self) c.matrix_b.ensures c.take-2.ensures.here;
   asked_a = c.take.ensures.asked;
   asked_b = c.take-2.ensures.asked;
   sums = refl;

@@ -1,6 +1,7 @@
 use Rattle.std.proofs.Common.{◌<◌, List, [], length, sym, ap, subst, ◌∙◌, arith}
 use Rattle.crn_sign.specs.declared.bits.Bits.{Bits}
 use Rattle.crn_conc.specs.Inner.Columns.{AreSettled, AreSums, IsChosen}
+use Rattle.crn_sign.proofs.CallerLemmas.{firm_kinds}
 use Rattle.crn_conc.proofs.SumLaws.{asks_of, no_sums}
 use Rattle.crn_conc.proofs.problem.TableProblemSignProblem.begin_a.Goals as goal
 
@@ -26,6 +27,6 @@ returns c =
     record {
       count = c.put_no_sums.ensures.count;
       sums = sums;
-      asked = asks_of p.matrix.now p.table.now [] c.deref.result.now c.put_no_sums.new.sums c.args.asked.now c.put_asked_of_sums.new.asked p.reactions c.requires.asked sums
-          (subst (λ (l : List Bits). AreSettled p.matrix.now p.table.now 0 l) (sym c.deref.ensures.value) chosen.settled) c.put_asked_of_sums.ensures;
+      asked = firm_kinds _ _ _ (asks_of p.matrix.now p.table.now [] c.deref.result.now c.put_no_sums.new.sums c.args.asked.now c.put_asked_of_sums.new.asked p.reactions c.requires.asked sums
+          (subst (λ (l : List Bits). AreSettled p.matrix.now p.table.now 0 l) (sym c.deref.ensures.value) chosen.settled) c.put_asked_of_sums.ensures);
     }

@@ -4,6 +4,7 @@ use Rattle.crn_vec.specs.declared.signs.Sign.{Sign}
 use Rattle.crn_vec.specs.declared.signs.Sign.TheVariants.{Zero}
 use Rattle.crn_sign.specs.declared.bits.Bits.{Bits}
 use Rattle.crn_conc.specs.Inner.Columns.{AreSettled, AreSignsOf, AreSums, IsChosen}
+use Rattle.crn_sign.proofs.CallerLemmas.{firm_kinds}
 use Rattle.crn_conc.proofs.SumLaws.{asks_of, last_option, sums_more}
 use Rattle.crn_conc.proofs.problem.TableProblemSignProblem.settle_a.Goals as goal
 
@@ -49,6 +50,6 @@ returns c =
     record {
       count = c.put_extended.ensures.count;
       sums = sums;
-      asked = asks_of p.matrix.now p.table.now q c.deref-2.result.now c.put_extended.new.sums c.args.asked.now c.put_asked_of_sums.new.asked p.reactions c.requires.asked sums
-          (subst (λ (l : List Bits). AreSettled p.matrix.now p.table.now (length q) l) (sym c.deref-2.ensures.value) chosen.settled) c.put_asked_of_sums.ensures;
+      asked = firm_kinds _ _ _ (asks_of p.matrix.now p.table.now q c.deref-2.result.now c.put_extended.new.sums c.args.asked.now c.put_asked_of_sums.new.asked p.reactions c.requires.asked sums
+          (subst (λ (l : List Bits). AreSettled p.matrix.now p.table.now (length q) l) (sym c.deref-2.ensures.value) chosen.settled) c.put_asked_of_sums.ensures);
     }

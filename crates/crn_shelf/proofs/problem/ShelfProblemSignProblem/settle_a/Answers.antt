@@ -6,6 +6,7 @@ use Rattle.crn_vec.specs.Signals.{Shape, shelf_at}
 use Rattle.crn_sign.specs.declared.bits.Bits.{Bits}
 use Rattle.crn_shelf.specs.declared.choice.Choice.{Choice}
 use Rattle.crn_shelf.specs.Inner.Choices.{AreChoices, IsAdded, added_by}
+use Rattle.crn_sign.proofs.CallerLemmas.{firm_kinds}
 use Rattle.crn_shelf.proofs.Gradual.{last_at}
 use Rattle.crn_shelf.proofs.Joins.{added_is, asks_joined}
 use Rattle.crn_shelf.proofs.problem.ShelfProblemSignProblem.settle_a.Goals as goal
@@ -50,5 +51,5 @@ returns c =
     record {
       count = made.sums.count ∙ c.requires.long ∙ sym c.requires.sums;
       sums = asks_joined s h.0 q h.1 c.args.above.now c.added.result.now c.put_joined.new.sums h.2 h.3 is made.sums;
-      asked = asks_joined s h.0 q h.1 c.args.above.now c.added.result.now c.put_joined.new.asked h.2 h.3 is made.asked;
+      asked = firm_kinds _ _ _ (asks_joined s h.0 q h.1 c.args.above.now c.added.result.now c.put_joined.new.asked h.2 h.3 is made.asked);
     }

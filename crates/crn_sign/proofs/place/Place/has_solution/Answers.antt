@@ -6,4 +6,4 @@ pub returns : goal.returns
 returns c =
     let a = c.args._matrix.now in
     let l = c.args.self.now in
-    suited_solution a (kinds_of a l.asked.items) l.marks.items (kinds_long a l.asked.items) c.requires.place.marks (c.requires.place.suits c.requires.suits)
+    suited_solution a (kinds_of a c.args._weak.now l.asked.items) l.marks.items (kinds_long a c.args._weak.now l.asked.items) c.requires.place.marks (c.requires.place.suits c.requires.suits)

@@ -1,6 +1,6 @@
 use Rattle.crn_sign.specs.Inner.Marks.{AreRowMarks}
 use Rattle.crn_sign.specs.Inner.Parts.{IsFinder}
-use Rattle.crn_sign.proofs.part.Finder.serve.Given as goal
+use Rattle.crn_sign.proofs.part.Finder.serve_words.Given as goal
 
 abbrev pub invariant-loop-w : goal.invariant-loop-w
 invariant-loop-w l = record {
