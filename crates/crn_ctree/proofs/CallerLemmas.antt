@@ -8,3 +8,5 @@ pub use Rattle.crn_ctree.proofs.TreeEnds.{passing_none, passing_taken}
 pub use Rattle.crn_ctree.proofs.TreeEnds.{complete_if_and_only_if_valid, complete_trees_show}
 -- The tests of the trees of question 13 by the shape of the network and of the vector of question 12.
 pub use Rattle.crn_ctree.proofs.SignalTrees.{signal_nodes, first_signal_faults}
+-- A kind and a number that equal those of a row.
+pub use Rattle.crn_ctree.proofs.SignalLaws.{has_both}

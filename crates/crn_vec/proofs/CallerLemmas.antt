@@ -6,7 +6,7 @@ pub use Rattle.crn_vec.proofs.Lists.{distinct_push, map_distinct, map_same, map_
 pub use Rattle.crn_vec.proofs.Lists.{all_in, all_from, all_given, all_at, all_push, all_set, all_map, any_default}
 pub use Rattle.crn_vec.proofs.Lists.{distinct_of_map, apart_of, all_append, flat_map_push, in_flat_map, of_flat_map}
 pub use Rattle.crn_vec.proofs.Lists.{in_take, long_take, below_suc, written}
-pub use Rattle.crn_vec.proofs.Level.{head_is, tail_is}
+pub use Rattle.crn_vec.proofs.Level.{head_is, tail_is, minus-dot}
 -- Tests that decide: whether two agree, and whether one finds a member.
 pub use Rattle.crn_vec.proofs.Lists.{same_test, any_is, any_true, any_false, any_some, any_has, any_push, and_true, and_no, or_right, not_true, refused}
 -- What holds of an answer that is there.
@@ -93,18 +93,18 @@ pub use Rattle.crn_vec.proofs.NetTables.{networks_have_tables, length-minus}
 pub use Rattle.crn_vec.proofs.NetTables.{vector_at, column_long, row_is, rows_count}
 pub use Rattle.crn_vec.proofs.NetRows.{reaction_long, vectors_count, vector_width, some_species, column_is, combined_past}
 -- The kinds of the rows at a prefix, and the signs of numbers.
-pub use Rattle.crn_vec.proofs.TableKinds.{column_in_a, row_in_a, column_in_b, row_in_b, zip_append, length-rows, one_at_most, count_at_most, plus-opposite, minus-opposite, sum-opposite, cond-opposite, products_none}
+pub use Rattle.crn_vec.proofs.TableKinds.{column_in_a, row_in_a, column_in_b, row_in_b, zip_append, length-rows, one_at_most, count_at_most, plus-opposite, minus-opposite, sum-opposite, cond-opposite, products_none, all_refined, rows_longer, sign_opposite, rows_opposite, all_opposite, count-append, count_none}
 pub use Rattle.crn_vec.proofs.PrefixKinds.{row_chosen, row_open, rows_are, kinds_more, sign_is}
 -- The sign of a product, and of a negative, by the signs of the numbers.
 pub use Rattle.crn_vec.proofs.SignTables.{product_is, opposite_is}
 -- Labels of strong classes, reaction by reaction.
 pub use Rattle.crn_vec.proofs.EvenLabels.{IsEvenAt, even_at, weak_if_even, uneven_not_weak}
 pub use Rattle.crn_vec.proofs.TableLawful.{tables_are_lawful, tables_are_steady, dot-neg, entry-neg, length-neg, and_first}
-pub use Rattle.crn_vec.proofs.Discordance.{tables_feasible, entry-after, share_sign, zeros_signs, some_or_zeros, some_not_zero, columns_have, columns_go}
+pub use Rattle.crn_vec.proofs.Discordance.{tables_feasible, entry-after, share_sign, zeros_signs, some_or_zeros, some_not_zero, columns_have, columns_go, rows_have, rows_are as row_signs_are, frees_have, entry-image, vector_is, solution_of, parts_of}
 -- The sign problem of the signals of a network, and the shape that it uses.
 pub use Rattle.crn_vec.proofs.NetSignalLaws.{top_inside, some_is, none_some, option_or, shapes_are_one, multiples_share_signals, signals_feasible}
 pub use Rattle.crn_vec.proofs.BothOrders.{signals_are_of_shape}
 pub use Rattle.crn_vec.proofs.OppositeShapes.{negatives_have_opposite_shapes}
 pub use Rattle.crn_vec.proofs.FewPairs.{networks_are_lawful, few_pairs, mark_yes, mark_no, other_step}
 pub use Rattle.crn_vec.proofs.SignalLawful.{signals_are_lawful, signals_are_steady}
-pub use Rattle.crn_vec.proofs.Shelves.{shelves_feasible, dot-last, kind_has, has_kind, pair_has, has_pair, top_full, pair_full}
+pub use Rattle.crn_vec.proofs.Shelves.{shelves_feasible, dot-last, kind_has, has_kind, pair_has, has_pair, top_full, pair_full, map-append, prefix_zip, back_zip}

@@ -202,7 +202,7 @@ entry-after [] ys (suc n) i e = absurd (omega (arith, e))
 entry-after (x ∷ xs) ys zero i e = absurd (omega (arith, e))
 entry-after (x ∷ xs) ys (suc n) i e = let k : suc n + i ≡ suc (n + i) = omega arith in rw k (entry-after xs ys n i (omega (arith, e)))
 
-vector_is : (m : Mat) (x : List ℤ) → length x ≡ m.cols → InRowSpace m (x ++ image m x)
+pub vector_is : (m : Mat) (x : List ℤ) → length x ≡ m.cols → InRowSpace m (x ++ image m x)
 vector_is m x e =
     let prefix : take m.cols (x ++ image m x) ≡ x = ap (λ (n : ℕ). take n (x ++ image m x)) (sym e) ∙ take-append_seam x (image m x) in
     record {

@@ -144,7 +144,7 @@ wide_all : (mu : List ℤ) (n : ℕ) (ys : List (List ℤ)) → length mu ≡ n 
 wide_all mu n [] e h = tt
 wide_all mu n (y ∷ ys) e h = (h.0 ∙ sym e, wide_all mu n ys e h.1)
 
-map-append : {A B : Type 0} (f : A → B) (xs ys : List A) → map f (xs ++ ys) ≡ map f xs ++ map f ys
+pub map-append : {A B : Type 0} (f : A → B) (xs ys : List A) → map f (xs ++ ys) ≡ map f xs ++ map f ys
 map-append f [] ys = refl
 map-append f (x ∷ xs) ys = ap (λ t. f x ∷ t) (map-append f xs ys)
 
@@ -242,10 +242,10 @@ last_of (y ∷ []) zero e = refl
 last_of (y ∷ z ∷ x) zero e = absurd (omega (arith, e))
 last_of (y ∷ x) (suc n) e = ap (λ (t : List ℤ). y ∷ t) (last_of x n (omega (arith, e)))
 
-prefix_zip : (ks qs : List Kind) (v u : List ℤ) → length ks ≡ length v → AllZip HasKind (ks ++ qs) (v ++ u) → AllZip HasKind ks v
+pub prefix_zip : (ks qs : List Kind) (v u : List ℤ) → length ks ≡ length v → AllZip HasKind (ks ++ qs) (v ++ u) → AllZip HasKind ks v
 prefix_zip ks qs v u e h = subst (λ (l : List ℤ). AllZip HasKind ks l) (ap (λ (n : ℕ). take n (v ++ u)) e ∙ take-append_seam v u) (zip_prefix HasKind ks qs (v ++ u) h)
 
-back_zip : (ks qs : List Kind) (v u : List ℤ) → length ks ≡ length v → AllZip HasKind (ks ++ qs) (v ++ u) → AllZip HasKind qs u
+pub back_zip : (ks qs : List Kind) (v u : List ℤ) → length ks ≡ length v → AllZip HasKind (ks ++ qs) (v ++ u) → AllZip HasKind qs u
 back_zip ks qs v u e h = subst (λ (l : List ℤ). AllZip HasKind qs l) (ap (λ (n : ℕ). drop n (v ++ u)) e ∙ drop-append_seam v u) (zip_back HasKind ks qs (v ++ u) h)
 
 or_false : (a b c d : Bool) → c ≡ true → ((a && b) || (c && d)) ≡ false → d ≡ false
