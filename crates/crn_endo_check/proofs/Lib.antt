@@ -1,0 +1,10 @@
+pub mod CallerLemmas
+mod SlopeRows
+mod SlopeLawful
+mod Against
+mod Members
+mod SlopeCoordinates
+mod SlopeEntries
+mod AnswersRight
+mod CutLaws
+mod WeakCoordinates
