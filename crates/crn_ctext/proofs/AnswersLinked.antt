@@ -57,7 +57,7 @@ linkage_next known a f = ap (λ (v : Verdict). known.earlier ++ (Q1, v) ∷ []) 
 pub strong_next : (known : Known) (a : Answer) → IsFormedOf known.net known.earlier Q2 a.verdict a.proof → (known_after Q2 known a).earlier ≡ known.earlier ++ (Q2, tight a.verdict) ∷ []
 strong_next known a f = ap (λ (v : Verdict). known.earlier ++ (Q2, v) ∷ []) (block_says known Q2 a.verdict a.proof tt f)
 
-formed_by : (b : Bool) (qs : List Question) → AreInOrder b qs → (known : Known) (answers : List Answer) → AreKnown b known.earlier → AreFormed known.net known.earlier qs answers → documents.AreFormed meaning qs known (all_records meaning qs known answers)
+pub formed_by : (b : Bool) (qs : List Question) → AreInOrder b qs → (known : Known) (answers : List Answer) → AreKnown b known.earlier → AreFormed known.net known.earlier qs answers → documents.AreFormed meaning qs known (all_records meaning qs known answers)
 unfolding documents.AreFormed all_records
 formed_by b [] links known [] n f = refl
 formed_by b [] links known (a ∷ answers) n f = absurd f
@@ -75,7 +75,7 @@ answers_formed net answers f = formed_by false built built_in_order (meaning.sta
 abbrev Rest : List Question → Known → Known → List Answer → Type 0
 Rest qs known from answers = documents.AreValid meaning qs known (all_records meaning qs from answers)
 
-valid_by : (b : Bool) (qs : List Question) → AreInOrder b qs → (known : Known) (answers : List Answer) → AreKnown b known.earlier → AreFormed known.net known.earlier qs answers → AreValid known.net known.earlier qs answers → Rest qs known known answers
+pub valid_by : (b : Bool) (qs : List Question) → AreInOrder b qs → (known : Known) (answers : List Answer) → AreKnown b known.earlier → AreFormed known.net known.earlier qs answers → AreValid known.net known.earlier qs answers → Rest qs known known answers
 unfolding documents.AreValid all_records
 valid_by b [] links known [] n f v = refl
 valid_by b [] links known (a ∷ answers) n f v = absurd f
@@ -90,7 +90,7 @@ valid_by b (q ∷ qs) links known (a ∷ answers) n f v =
 pub answers_valid : (net : Net) (answers : List Answer) → AreFormed net [] built answers → AreValid net [] built answers → documents.AreValid meaning built (meaning.start net) (records_of net answers)
 answers_valid net answers f v = valid_by false built built_in_order (meaning.start net) answers tt f v
 
-back_by : (b : Bool) (qs : List Question) → AreInOrder b qs → (known : Known) (answers : List Answer) → AreKnown b known.earlier → IsStrongTrue b known → AreFormed known.net known.earlier qs answers → Rest qs known known answers → AreValid known.net known.earlier qs answers
+pub back_by : (b : Bool) (qs : List Question) → AreInOrder b qs → (known : Known) (answers : List Answer) → AreKnown b known.earlier → IsStrongTrue b known → AreFormed known.net known.earlier qs answers → Rest qs known known answers → AreValid known.net known.earlier qs answers
 unfolding documents.AreValid all_records
 back_by b [] links known [] n t f v = tt
 back_by b [] links known (a ∷ answers) n t f v = absurd f

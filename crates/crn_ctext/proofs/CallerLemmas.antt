@@ -71,6 +71,22 @@ pub use Rattle.crn_ctext.proofs.FieldsTyped.{rising}
 -- Records of a part's forms, and the lines of an answer.
 pub use Rattle.crn_ctext.proofs.PartRecords.{only, bare_back, one_back, bits_back, bits_fit, small_numbers_fit, wide_fields, wide_numbers, wide_numbers_fit, species_few, reactions_few, free_bounded, species_row, reactions_row, small_bounded, rising_bounded, bare_row, plain_bare}
 pub use Rattle.crn_ctext.proofs.PartAnswers.{IsFirst, first_back, Say, one_said, none_said, line_on, given, test_back, test_on, either_no_end}
+-- Blocks of version 1 without trees, within the lines of a part.
+pub use Rattle.crn_ctext.proofs.PartBlocks.{AreTreeless, blocks_read, blocks_written, answers_learned, answers_few}
+pub use Rattle.crn_ctext.proofs.DocumentsShort.{built_few}
+pub use Rattle.crn_ctext.proofs.BlocksWritten.{all_of, blocks_no_end}
+pub use Rattle.crn_ctext.proofs.Settled.{blocks_settled}
+pub use Rattle.crn_ctext.proofs.MeaningDecided.{OfNetwork, meaning_decided}
+pub use Rattle.crn_ctext.proofs.ShortAnswers.{valid_are_formed}
+pub use Rattle.crn_ctext.proofs.MeaningShort.{IsSmall, networks_are_small, meaning_short}
+pub use Rattle.crn_ctext.proofs.RanksDecided.{left_decided}
+pub use Rattle.crn_ctext.proofs.ReachDecided.{terminal_decided}
+pub use Rattle.crn_ctext.proofs.Decided.{lt_decided}
+-- Records of formed and of valid answers to some questions, and the answers of such records.
+pub use Rattle.crn_ctext.proofs.RecordsTold.{AreInOrder}
+pub use Rattle.crn_ctext.proofs.AnswersLinked.{formed_by, valid_by, back_by}
+pub use Rattle.crn_ctext.proofs.RecordsLinked.{answers_by}
+pub use Rattle.crn_ctext.proofs.WrittenAnswers.{sees_first, sees_second, sees_rank, alone_records}
 -- Documents of a part.
 pub use Rattle.crn_ctext.proofs.PartsRead.{IsAnswered, read_is_document, document_is_read, documents_are_judged, part_document_short}
 -- Lines that are written one after another.

@@ -96,12 +96,12 @@ few_lines version net records n s few =
 -- ---- records
 
 -- the most records below a head of the question: those of deficiencies prove the rank of each linkage class
-abbrev most : Question → ℕ
+abbrev pub most : Question → ℕ
 most Q6 = 40000
 most q = 1000
 
 -- few records below a head, if the sizes are those of a network
-abbrev IsFew : Question → Type 0
+abbrev pub IsFew : Question → Type 0
 IsFew q = (known : Known) (h : Record) → IsSmall known → IsOneOf (heads q (sizes_of known)) h → length (below q (shapes_of known) h) ≤ most q
 
 linkage_few : (s : Shapes) (place : ℕ) (n : List ℤ) → length (rows Q1 s place n) ≤ 1000
@@ -212,7 +212,7 @@ strongly_few s (suc (suc (suc k))) n = omega arith
 pub strongly_is_few : IsFew Q15
 strongly_is_few known h s o = strongly_few (shapes_of known) (place_of (heads Q15 (sizes_of known)) h.words) h.numbers
 
-built_few : AllByRecursion IsFew built
+pub built_few : AllByRecursion IsFew built
 built_few = (
   (λ known h s o. linkage_few (shapes_of known) (place_of (heads Q1 (sizes_of known)) h.words) h.numbers),
   (

@@ -118,7 +118,7 @@ document_is_written {Known} version table m versions built net answers ls i t n 
     start = record { known = m.start net; by_tree = false; line = 3 + count + length records; blocks = [] }
 
     blocks : (end : AfterBlocks Known) × IsWrittenBy (asks_blocks m version table built start) ls end
-    blocks = blocks_are_written version table m built start ls answers of v s
+    blocks = let w = blocks_are_written version table m built start ls answers of v s in (w.0, w.1)
 
     read : ReadOf
     read = record { net = net; blocks = blocks.0.blocks }

@@ -40,6 +40,7 @@ mod MeaningDecided
 mod TreesAlike
 mod TreesRead
 mod BlocksRead
+mod PartBlocks
 mod Bounded
 mod ShortAnswers
 mod NetworkLines

@@ -21,7 +21,7 @@ use Rattle.crn_ctext.proofs.RecordsTold.{AreInOrder, pairs_for, told}
 
 -- ---- all answers
 
-answers_by : (b : Bool) (qs : List Question) → AreInOrder b qs → (known : Known) (answers : List (List Record)) → AreKnown b known.earlier → documents.AreFormed meaning qs known answers
+pub answers_by : (b : Bool) (qs : List Question) → AreInOrder b qs → (known : Known) (answers : List (List Record)) → AreKnown b known.earlier → documents.AreFormed meaning qs known answers
     → (given : List Answer) × AreFormed known.net known.earlier qs given × (all_records meaning qs known given ≡ answers) × (verdicts_said qs known answers ≡ verdicts_of given)
 unfolding documents.AreFormed all_records
 answers_by b [] r known answers k f = ([], tt, sym f, refl)

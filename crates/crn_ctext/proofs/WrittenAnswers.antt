@@ -22,11 +22,12 @@ use Rattle.crn_cert.specs.Built.{built}
 use Rattle.crn_cert.specs.Formed.{AreFormed, IsFormedOf, IsFormed as IsFormedAnswer}
 use Rattle.crn_cert.specs.declared.head_kind.HeadKind.{HeadKind}
 use Rattle.crn_cert.specs.Table.{trees}
-use Rattle.crn_cert.specs.Questions.{Earlier, Question, Q1, Q2, Q3, Q4, Q5, Q6, Q7, Q8, Q9, Q10, Q11, Q12, Q13, Q14, Q15, on}
+use Rattle.crn_cert.proofs.CallerLemmas.{numbered}
+use Rattle.crn_cert.specs.Questions.{number, Earlier, Question, Q1, Q2, Q3, Q4, Q5, Q6, Q7, Q8, Q9, Q10, Q11, Q12, Q13, Q14, Q15, on}
 use Rattle.crn_cert.specs.Valid.{pair_places}
 use Rattle.crn_cert.specs.declared.answer.Gap.TheVariants.{Wide, Budget, Rests}
 use Rattle.crn_cert.specs.declared.answer.Verdict.{Verdict}
-use Rattle.crn_cert.specs.declared.answer.Verdict.TheVariants.{Classes, Strong, Unknown}
+use Rattle.crn_cert.specs.declared.answer.Verdict.TheVariants.{Classes, Strong, Rank, Unknown}
 use Rattle.crn_cert.specs.declared.answer.Proof.{Proof}
 use Rattle.crn_cert.specs.declared.answer.Proof.TheVariants as proof
 use Rattle.crn_cert.specs.declared.answer.Answer.{Answer}
@@ -35,8 +36,9 @@ use Rattle.crn_ctext.specs.Questions.{Shapes, opens}
 use Rattle.crn_ctext.specs.Answers.{records, all_records, head_of, verdict_records, later_records, side_records, records_below, proof_records, proof_nodes, nodes}
 use Rattle.crn_ctext.specs.Documents.{Share, FitsShare, is_cut_leaf, cut_lists, document, document2, opening, record_lines, table_records, written, in_sections, section}
 use Rattle.crn_ctext.specs.Meaning.{Known, pairs_of, shapes_of, sizes_of, verdict_of, meaning}
+use Rattle.crn_ctext.specs.PartBlocks.{HoldsNoSides}
 use Rattle.crn_ctext.specs.Linked.{records_of}
-use Rattle.crn_ctext.specs.Inner.Written.{shapes_with, blocks, strong_pairs, pairs_in}
+use Rattle.crn_ctext.specs.Inner.Written.{question_at, shapes_with, blocks, strong_pairs, pairs_in}
 use Rattle.crn_cert.specs.Verdicts.{tight}
 use Rattle.crn_ctext.proofs.KnownBefore.{IsStrong, formed_right, strong_stays, strong_tight, pairs_known, pairs_stay}
 use Rattle.crn_ctext.proofs.AnswersLinked.{linkage_next, strong_next}
@@ -44,13 +46,8 @@ use Rattle.crn_ctext.proofs.WrittenLines.{lines_append}
 use Rattle.crn_ctext.proofs.WrittenLeaves.{IsPlain, written_none}
 use Rattle.crn_ctext.proofs.WrittenBlocks.{prefix_plain}
 
--- the proof has no sides of pairs
-abbrev pub SeesNoPairs : Proof → Type 0
-SeesNoPairs (proof.Sides rows) = ⊥
-SeesNoPairs p = Unit {0}
-
 -- without sides the records of a proof are the same, whatever the pairs
-same_rows : (s other : Shapes) (p : Proof) → SeesNoPairs p → proof_records s p ≡ proof_records other p
+same_rows : (s other : Shapes) (p : Proof) → HoldsNoSides p → proof_records s p ≡ proof_records other p
 same_rows s other proof.Nothing h = refl
 same_rows s other (proof.Forest up depth) h = refl
 same_rows s other (proof.Strong from from_depth to to_depth level) h = refl
@@ -80,7 +77,7 @@ same_records q s other a e = ap (λ (rs : List Record). head_of q a.verdict ∷ 
 
 -- ---- formed answers to the first two questions have no sides
 
-sees_first : (net : Net) (earlier : Earlier) (v : Verdict) (p : Proof) → IsFormedOf net earlier Q1 v p → SeesNoPairs p
+pub sees_first : (net : Net) (earlier : Earlier) (v : Verdict) (p : Proof) → IsFormedOf net earlier Q1 v p → HoldsNoSides p
 sees_first net earlier (Classes count label) (proof.Sides rows) f = absurd (let s = f.1.1 in cc)
 sees_first net earlier (Unknown (Wide system class index basis)) (proof.Sides rows) f = let b = f.0 in absurd b.head
 sees_first net earlier (Unknown (Budget nodes)) (proof.Sides rows) f = let b = f.0 in absurd b.head
@@ -88,13 +85,32 @@ sees_first net earlier (Unknown (Rests question)) (proof.Sides rows) f = let b =
 sees_first net earlier v (proof.Sides rows) f = let b = f.0 in absurd b.head
 sees_first net earlier v p f = tt
 
-sees_second : (net : Net) (earlier : Earlier) (v : Verdict) (p : Proof) → IsFormedOf net earlier Q2 v p → SeesNoPairs p
+pub sees_second : (net : Net) (earlier : Earlier) (v : Verdict) (p : Proof) → IsFormedOf net earlier Q2 v p → HoldsNoSides p
 sees_second net earlier (Strong count terminal label exit) (proof.Sides rows) f = absurd (let s = f.1.1 in cc)
 sees_second net earlier (Unknown (Wide system class index basis)) (proof.Sides rows) f = let b = f.0 in absurd b.head
 sees_second net earlier (Unknown (Budget nodes)) (proof.Sides rows) f = let b = f.0 in absurd b.head
 sees_second net earlier (Unknown (Rests question)) (proof.Sides rows) f = let b = f.0 in absurd b.head
 sees_second net earlier v (proof.Sides rows) f = let b = f.0 in absurd b.head
 sees_second net earlier v p f = tt
+
+pub sees_rank : (net : Net) (earlier : Earlier) (v : Verdict) (p : Proof) → IsFormedOf net earlier Q5 v p → HoldsNoSides p
+sees_rank net earlier (Rank rank base) (proof.Sides rows) f = absurd (let s = f.1.1 in cc)
+sees_rank net earlier (Unknown (Wide system class index basis)) (proof.Sides rows) f = absurd (let s = f.1.1 in cc)
+sees_rank net earlier (Unknown (Budget nodes)) (proof.Sides rows) f = let b = f.0 in absurd b.head
+sees_rank net earlier (Unknown (Rests question)) (proof.Sides rows) f = let b = f.0 in absurd b.head
+sees_rank net earlier v (proof.Sides rows) f = let b = f.0 in absurd b.head
+sees_rank net earlier v p f = tt
+
+-- the records of an answer without sides are the same, whatever the pairs
+pub alone_records : (q : Question) (s other : Shapes) (a : Answer) → HoldsNoSides a.proof → records q s a ≡ records q other a
+alone_records q s other a h = same_records q s other a (same_rows s other a.proof h)
+
+-- so are their lines, without numbers of leaves
+pub alone_lines : (q : Question) (n : ℕ) (shapes : Shapes) (a : Answer) → HoldsNoSides a.proof → number q ≡ n → record_lines (records q shapes a) ≡ record_lines (written [] (records (question_at n) (shapes_with []) a))
+alone_lines q n shapes a h e =
+    let same : q ≡ question_at n = sym (numbered q) ∙ ap question_at e in
+    ap (λ (rs : List Record). record_lines rs)
+    (alone_records q shapes (shapes_with []) a h ∙ ap (λ (p : Question). records p (shapes_with []) a) same ∙ sym (written_none (records (question_at n) (shapes_with []) a)))
 
 -- a formed answer to the question has no trees
 abbrev pub IsShortQuestion : Question → Type 0

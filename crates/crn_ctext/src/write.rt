@@ -1,10 +1,13 @@
 ghost use Rattle.std.specs.Prelude.{◌≡◌, ◌≤◌, [], IfOk, length};
 ghost use Rattle.crn_cert.specs.Built.{built};
 ghost use Rattle.crn_cert.specs.Formed.{AreFormed};
+ghost use Rattle.crn_cert.specs.Questions.{Question, number};
 ghost use Rattle.crn_io.specs.Write.{Wrote};
 ghost use Rattle.crn_ctext.specs.Answers.{records};
+ghost use Rattle.crn_ctext.specs.Questions.{Shapes};
 ghost use Rattle.crn_ctext.specs.Documents.{document, document2, opening, record_lines, table_records, written, Share as Said};
 ghost use Rattle.crn_ctext.specs.Linked.{records_of};
+ghost use Rattle.crn_ctext.specs.PartBlocks.{HoldsNoSides};
 ghost use Rattle.crn_ctext.specs.Parts.{part_head};
 ghost use Rattle.crn_ctext.specs.Inner.Written.{question_at, headings, shapes_with, blocks, block, leaves_after};
 
@@ -81,6 +84,19 @@ pub(crate) fn put_answer<'a, K: Sink>(
     put_proof(sink, pairs, &answer.proof)?;
     put_exits(sink, &answer.verdict)?;
     put_trees(sink, &answer.proof, leaf)
+}
+
+/// Writes the records of an answer to this question that has no sides of pairs. Takes no memory.
+pub fn put_alone<K: Sink>(sink: &mut K, question: usize, answer: &Answer) -> Result<(), WriteFault>
+    requires some { 1 ≤ question }
+    requires few { question ≤ 15 }
+    requires sides { HoldsNoSides answer.now.proof }
+    ensures { (q : Question) (shapes : Shapes) → number q ≡ question
+        → Wrote (record_lines (records q shapes answer.now))
+        (K.seen sink.old) (K.seen sink.new) result }
+{
+    put_answer(sink, question, &[], answer, &[])?;
+    Ok(())
 }
 
 // The line that opens a section before this question, if there are sections and one opens there.
