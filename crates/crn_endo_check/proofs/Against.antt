@@ -97,20 +97,25 @@ in_range : (n c : ℕ) → c < n → IsIn c (range_with_len 0 n)
 in_range n c lt =
     subst (λ (k : ℕ). IsIn k (range_with_len 0 n)) (get_or-range_with_len 0 n c 0 lt ∙ (omega arith)) (at_in (range_with_len 0 n) c 0 (omega (arith, lt, length-range_with_len 0 n)))
 
-not_eqb : (c d : ℕ) → c ≢ d → not (eqb c d) ≡ true
+pub not_eqb : (c d : ℕ) → c ≢ d → not (eqb c d) ≡ true
 not_eqb c d ne = by (eqb c d) refl
   where
     by : (b : Bool) → eqb c d ≡ b → not (eqb c d) ≡ true
     by true f = absurd (ne (eqb-true c d f))
     by false f = ap not f
 
--- the reactant of a reaction is among the further ones, unless it is that of r
+-- the reactant of a reaction is a reactant complex
+pub in_reactants : (net : Net) → IsNetwork net → (q : ℕ) → q < length net.reactions → IsIn (reaction_at net q).0 (reactants net)
+in_reactants net n q lt =
+    let c = (reaction_at net q).0 in
+    let some : is_reactant net c ≡ true = any_at (λ (p : ℕ × ℕ). p.0 == c) net.reactions q (0, 0) lt (eq-eqb c c refl) in
+    filter_has (is_reactant net) (range_with_len 0 (length net.complexes)) c (in_range (length net.complexes) c (joins_at net n q lt).1) some
+
+-- and among the further ones, unless it is that of r
 in_others : (net : Net) → IsNetwork net → (r q : ℕ) → q < length net.reactions → (reaction_at net q).0 ≢ (reaction_at net r).0 → IsIn (reaction_at net q).0 (others net r)
 in_others net n r q lt ne =
     let c = (reaction_at net q).0 in
-    let some : is_reactant net c ≡ true = any_at (λ (p : ℕ × ℕ). p.0 == c) net.reactions q (0, 0) lt (eq-eqb c c refl) in
-    filter_has (λ d. not (d == (reaction_at net r).0)) (reactants net) c
-    (filter_has (is_reactant net) (range_with_len 0 (length net.complexes)) c (in_range (length net.complexes) c (joins_at net n q lt).1) some) (not_eqb c (reaction_at net r).0 ne)
+    filter_has (λ d. not (d == (reaction_at net r).0)) (reactants net) c (in_reactants net n q lt) (not_eqb c (reaction_at net r).0 ne)
 
 -- ---- a slope that is against the reaction gives a full feasible prefix
 

@@ -8,3 +8,4 @@ mod SlopeEntries
 mod AnswersRight
 mod CutLaws
 mod WeakCoordinates
+mod Formed

@@ -30,4 +30,4 @@ returns-clause-weak c =
     let reactions : c.reactions-reactions.result ≡ length s.net.reactions = c.reactions-reactions.ensures.count ∙ ap (λ (u : KeptSlopes). length u.net.reactions) c.self.view_is in
     let own : c.self.inside.reaction ≡ s.reaction = ap (λ (u : KeptSlopes). u.reaction) c.self.view_is in
     λ yes. either_at s.net s.reaction k (omega (arith, species, c.if-coordinate-species.false)) (omega (arith, species, reactions, c.if-row-reactions.false))
-        (λ e. absurd (omega (arith, species, own, c.if-row-self.false, e)))
+    (λ e. absurd (omega (arith, species, own, c.if-row-self.false, e)))
