@@ -1,0 +1,6 @@
+pub mod CallerLemmas
+mod Together
+mod Searched
+mod NodeCounts
+mod Answered
+mod WeakWords

@@ -1,0 +1,46 @@
+use Rattle.std.proofs.Common.{◌≡◌, ◌<◌, ℕ, inl, inr, sym, ap, subst, ◌∙◌, arith}
+use Rattle.crn_vec.specs.declared.signs.Kind.{Kind}
+use Rattle.crn_vec.specs.Vectors.{Mat}
+use Rattle.crn_vec.specs.Elementary.{width}
+use Rattle.crn_vec.specs.Systems.{kind_at}
+use Rattle.crn_vec.proofs.CallerLemmas.{eq_or}
+use Rattle.crn_sign.specs.Options.{bit_of, kind_in, weakened}
+use Rattle.crn_sign.proofs.CallerLemmas.{put_here, put_other}
+use Rattle.crn_endo_check.specs.Slopes.{slope_kinds}
+use Rattle.crn_endo.specs.Inner.Asked.{firm_kind}
+use Rattle.crn_endo.proofs.problem.SlopeProblem.ask.Goals as goal
+
+pub kind-requires : goal.kind-requires
+kind-requires c =
+    let p = c.args.self.now in
+    let lt : c.loop-k.k < width p.matrix = omega (arith, c.loop-k-test.true, c.cols.ensures.count, c.rows.ensures.count) in
+    subst (λ (a : Mat). c.loop-k.k < width a) p.matrix_is lt
+
+pub put_asked-requires : goal.put_asked-requires
+put_asked-requires c = omega (arith, c.loop-k.invariant.count, c.loop-k-test.true, c.cols.ensures.count, c.rows.ensures.count)
+
+pub loop-k-preserved : goal.loop-k-preserved
+loop-k-preserved c =
+    let old = c.loop-k.asked in
+    let new = c.put_asked.new.words in
+    let s = c.args.self.now.given.now in
+    let kinds = slope_kinds s.net s.reaction c.args.prefix.now in
+    let is = c.put_asked.ensures in
+    let x = c.asked_of_kind.result in
+    record {
+      count = is.count ∙ c.loop-k.invariant.count;
+      done = λ j lt. elim (eq_or j c.loop-k.k) as (λ _. kind_in new j ≡ firm_kind (kind_at kinds j)) [
+        | inl e ↦ subst (λ (i : ℕ). kind_in new i ≡ firm_kind (kind_at kinds i)) (sym e) (put_here old c.loop-k.k x new is ∙ c.asked_of_kind.ensures ∙ ap firm_kind c.kind.ensures)
+        | inr ne ↦ put_other old c.loop-k.k x new is j ne ∙ c.loop-k.invariant.done j (omega (arith, lt, ne))
+      ];
+    }
+
+pub returns : goal.returns
+returns c =
+    let p = c.args.self.now in
+    record {
+      count = c.loop-k.invariant.count;
+      each = λ k lt.
+          ap (λ (t : Kind). weakened t (bit_of p.weak.items k)) (c.loop-k.invariant.done k (omega (arith, lt, c.loop-k-test.false, c.cols.ensures.count, c.rows.ensures.count)))
+          ∙ p.weak_is c.args.prefix.now k (subst (λ (a : Mat). k < width a) p.matrix_is lt);
+    }

@@ -1,0 +1,14 @@
+use Rattle.std.proofs.Common.{◌≡◌, ◌<◌, ◌≤◌, ℕ, List, length}
+use Rattle.crn_vec.specs.declared.signs.Sign.{Sign}
+use Rattle.crn_vec.specs.Systems.{kind_at}
+use Rattle.crn_sign.specs.Options.{bit_of}
+use Rattle.crn_endo_check.specs.Slopes.{slope_kinds}
+use Rattle.crn_endo.specs.Inner.Asked.{IsAskable}
+use Rattle.crn_endo.proofs.problem.put_weak_words.Given as goal
+
+abbrev pub invariant-loop-k : goal.invariant-loop-k
+invariant-loop-k l = record {
+  count : length l.words ≡ length l.initial.words;
+  done : (p : List Sign) (j : ℕ) → j < l.k → IsAskable (bit_of l.words j) (kind_at (slope_kinds l.given.net l.given.reaction p) j);
+  rest : (j : ℕ) → l.k ≤ j → bit_of l.words j ≡ 0;
+}
