@@ -39,7 +39,8 @@ use Rattle.crn_cert.specs.Verdicts.{tight}
 use Rattle.crn_document.specs.declared.parts.Part.{Part}
 use Rattle.crn_document.specs.Inner.Answer.{kind_of, verdict_of_head}
 use Rattle.crn_document.specs.Inner.Answers.{FitAnswer, part_proofs, proof_of_head}
-use Rattle.crn_document.specs.Inner.Parts.{IsKnown, before, parts_below}
+use Rattle.crn_document.specs.Facts.{IsKnownFor}
+use Rattle.crn_document.specs.Inner.Parts.{parts_below}
 use Rattle.crn_document.specs.Inner.Records.{AreRows, MayBeRow, fixed_rows, many_rows, part_rows, row_form, rows_below}
 use Rattle.crn_document.specs.declared.rows.Row.{Row}
 use Rattle.crn_document.specs.declared.rows.Row.TheVariants.{Comb, Dual, M, Mu, Shelves, Side, Tie, Weights}
@@ -75,7 +76,7 @@ fail_after (t ∷ hs) ts part code h (inr f) = fail_after hs ts part code h.1 f.
 pub block_length : (net : Net) (earlier : Earlier) (n : ℕ) (head : List ℤ) (rows : List (List ℤ)) (h : Record) (rs : List Record) → IsBlock net earlier n head rows h rs → length rows ≡ length rs
 block_length net earlier n head rows h rs b = ap (λ (x : List (List ℤ)). length x) b.rows_are ∙ length-map rs (λ (r : Record). r.numbers)
 
-pub block_fits : (net : Net) (n : ℕ) (facts : KeptFacts) (head : List ℤ) (rows : List (List ℤ)) (h : Record) (rs : List Record) → IsBuilt n → IsKnown net (before n) facts → HeadHolds net facts.earlier n head → IsBlock net facts.earlier n head rows h rs → FitAnswer (asked n) head (parts_after net facts.earlier n head) rows
+pub block_fits : (net : Net) (n : ℕ) (facts : KeptFacts) (head : List ℤ) (rows : List (List ℤ)) (h : Record) (rs : List Record) → IsBuilt n → IsKnownFor net n facts → HeadHolds net facts.earlier n head → IsBlock net facts.earlier n head rows h rs → FitAnswer (asked n) head (parts_after net facts.earlier n head) rows
 block_fits net n facts head rows h rs built known hold b =
     let f = said_facts net n facts head h built known b.is_head in
     subst (λ (x : List (List ℤ)). FitAnswer (asked n) head (parts_after net facts.earlier n head) x) (sym b.rows_are) (let g = f.fit in g rs hold b.fit)
@@ -175,7 +176,7 @@ other_answer P net earlier n head rs a is p =
     subst (λ (v : Verdict). P v (said_proof net earlier n head rs)) is.verdict_is (subst (λ (w : Proof). P a.verdict w) is.proof_is p)
 
 -- the pairs are known on which the forms rest
-pairs_for : (net : Net) (n : ℕ) (facts : KeptFacts) → IsBuilt n → IsKnown net (before n) facts → PairsFor (asked n) (known_of net facts.earlier)
+pairs_for : (net : Net) (n : ℕ) (facts : KeptFacts) → IsBuilt n → IsKnownFor net n facts → PairsFor (asked n) (known_of net facts.earlier)
 pairs_for net n facts (inl e) k = subst (λ (m : ℕ). PairsFor (asked m) (known_of net facts.earlier)) (sym e) tt
 pairs_for net n facts (inr (inl e)) k = subst (λ (m : ℕ). PairsFor (asked m) (known_of net facts.earlier)) (sym e) tt
 pairs_for net n facts (inr (inr (inl e))) k = subst (λ (m : ℕ). PairsFor (asked m) (known_of net facts.earlier)) (sym e) tt
@@ -193,7 +194,7 @@ pairs_for net n facts (inr (inr (inr (inr (inr (inr (inr (inr (inr (inr (inr (in
 pairs_for net n facts (inr (inr (inr (inr (inr (inr (inr (inr (inr (inr (inr (inr (inr (inr (inl e))))))))))))))) k = subst (λ (m : ℕ). PairsFor (asked m) (known_of net facts.earlier)) (sym e) tt
 pairs_for net n facts (inr (inr (inr (inr (inr (inr (inr (inr (inr (inr (inr (inr (inr (inr (inr (none)))))))))))))))) k = absurd none
 
-pub answer_formed : (net : Net) (n : ℕ) (facts : KeptFacts) (head : List ℤ) (rows : List (List ℤ)) (h : Record) (rs : List Record) (a : Answer) → (AsksForTree n → said.number head 0 ≡ tree_place n → ⊥) → IsBuilt n → IsKnown net (before n) facts → HeadHolds net facts.earlier n head → IsBlock net facts.earlier n head rows h rs → IsAnswerOf net facts.earlier n head rs a → IsFormed net facts.earlier (asked n) a
+pub answer_formed : (net : Net) (n : ℕ) (facts : KeptFacts) (head : List ℤ) (rows : List (List ℤ)) (h : Record) (rs : List Record) (a : Answer) → (AsksForTree n → said.number head 0 ≡ tree_place n → ⊥) → IsBuilt n → IsKnownFor net n facts → HeadHolds net facts.earlier n head → IsBlock net facts.earlier n head rows h rs → IsAnswerOf net facts.earlier n head rs a → IsFormed net facts.earlier (asked n) a
 answer_formed net n facts head rows h rs a other built known hold b is =
     let earlier = facts.earlier in
     let q = asked n in
@@ -218,14 +219,14 @@ answer_heads net earlier n head rs a hold is =
 pub answer_tight : (net : Net) (earlier : Earlier) (n : ℕ) (head : List ℤ) (rs : List Record) (a : Answer) → IsAnswerOf net earlier n head rs a → tight a.verdict ≡ a.verdict
 answer_tight net earlier n head rs a is = ap tight is.verdict_is ∙ (tight_and_bare (kind_of (asked n) head) (later_numbers head) (lists rs)).0 ∙ sym is.verdict_is
 
-pub answer_fails : (net : Net) (n : ℕ) (facts : KeptFacts) (head : List ℤ) (rows : List (List ℤ)) (h : Record) (rs : List Record) (a : Answer) (part code : ℕ) → IsBuilt n → IsKnown net (before n) facts → HeadHolds net facts.earlier n head → IsBlock net facts.earlier n head rows h rs → IsAnswerOf net facts.earlier n head rs a
+pub answer_fails : (net : Net) (n : ℕ) (facts : KeptFacts) (head : List ℤ) (rows : List (List ℤ)) (h : Record) (rs : List Record) (a : Answer) (part code : ℕ) → IsBuilt n → IsKnownFor net n facts → HeadHolds net facts.earlier n head → IsBlock net facts.earlier n head rows h rs → IsAnswerOf net facts.earlier n head rs a
     → FailsFirst (tests_of net facts.earlier (asked n) a) part code → FailsFirst (row_tests net facts.earlier (asked n) (said_verdict n head rs) (said_proof net facts.earlier n head rs)) part code
 answer_fails net n facts head rows h rs a part code built known hold b is f =
     let earlier = facts.earlier in
     let same = answer_heads net earlier n head rs a hold is in
     other_answer (λ v p. FailsFirst (row_tests net earlier (asked n) v p) part code) net earlier n head rs a is (fail_after (head_tests net earlier (asked n) a.verdict) (row_tests net earlier (asked n) a.verdict a.proof) part code same f)
 
-pub answer_part : (net : Net) (n : ℕ) (facts : KeptFacts) (head : List ℤ) (rows : List (List ℤ)) (h : Record) (rs : List Record) (a : Answer) (part code : ℕ) → IsBuilt n → IsKnown net (before n) facts → HeadHolds net facts.earlier n head → IsBlock net facts.earlier n head rows h rs → IsAnswerOf net facts.earlier n head rs a
+pub answer_part : (net : Net) (n : ℕ) (facts : KeptFacts) (head : List ℤ) (rows : List (List ℤ)) (h : Record) (rs : List Record) (a : Answer) (part code : ℕ) → IsBuilt n → IsKnownFor net n facts → HeadHolds net facts.earlier n head → IsBlock net facts.earlier n head rows h rs → IsAnswerOf net facts.earlier n head rs a
     → FailsFirst (tests_of net facts.earlier (asked n) a) part code → part ≤ suc (length rows)
 answer_part net n facts head rows h rs a part code built known hold b is f =
     let g = said_facts net n facts head h built known b.is_head in
@@ -234,7 +235,7 @@ answer_part net n facts head rows h rs a part code built known hold b is f =
     omega (arith, l, w)
 
 -- the tests of the records hold, and this is known after the block
-pub block_learns : (net : Net) (n : ℕ) (facts : KeptFacts) (head : List ℤ) (rows : List (List ℤ)) (h : Record) (rs : List Record) (a : Answer) (new : Earlier) (line : ℕ) → IsBuilt n → IsKnown net (before n) facts → HeadHolds net facts.earlier n head → IsBlock net facts.earlier n head rows h rs → IsAnswerOf net facts.earlier n head rs a
+pub block_learns : (net : Net) (n : ℕ) (facts : KeptFacts) (head : List ℤ) (rows : List (List ℤ)) (h : Record) (rs : List Record) (a : Answer) (new : Earlier) (line : ℕ) → IsBuilt n → IsKnownFor net n facts → HeadHolds net facts.earlier n head → IsBlock net facts.earlier n head rows h rs → IsAnswerOf net facts.earlier n head rs a
     → AllHold (tests_of net facts.earlier (asked n) a) → new ≡ facts.earlier ++ (asked n, tight a.verdict) ∷ []
     → Learns net facts.earlier n new h rs × ((place : Place) → Gives (tests_course net facts.earlier n line h rs) place tt place)
 block_learns net n facts head rows h rs a new line built known hold b is holds kept =
@@ -250,7 +251,7 @@ block_learns net n facts head rows h rs a new line built known hold b is holds k
     )
 
 -- or the first test that the answer fails is that of the records
-pub block_fails : (net : Net) (n : ℕ) (facts : KeptFacts) (head : List ℤ) (rows : List (List ℤ)) (h : Record) (rs : List Record) (a : Answer) (line part code : ℕ) → IsBuilt n → IsKnown net (before n) facts → HeadHolds net facts.earlier n head → IsBlock net facts.earlier n head rows h rs → IsAnswerOf net facts.earlier n head rs a → FailsFirst (tests_of net facts.earlier (asked n) a) part code
+pub block_fails : (net : Net) (n : ℕ) (facts : KeptFacts) (head : List ℤ) (rows : List (List ℤ)) (h : Record) (rs : List Record) (a : Answer) (line part code : ℕ) → IsBuilt n → IsKnownFor net n facts → HeadHolds net facts.earlier n head → IsBlock net facts.earlier n head rows h rs → IsAnswerOf net facts.earlier n head rs a → FailsFirst (tests_of net facts.earlier (asked n) a) part code
     → (place : Place) → course.FailsFirst (tests_course net facts.earlier n line h rs) place (line + part) code
 block_fails net n facts head rows h rs a line part code built known hold b is fails place =
     let earlier = facts.earlier in
@@ -328,7 +329,7 @@ vector_shown net earlier n head e place hold =
     (subst (λ (k : ℕ). AllHold (head_tests net earlier Q13 (verdict_by (kind_at Q13 k) (later_numbers head) []))) two h).0
 
 -- no test of the records fails, and this is known after the block
-pub block_shown : (net : Net) (n : ℕ) (facts : KeptFacts) (head : List ℤ) (rows : List (List ℤ)) (h : Record) (rs : List Record) (new : Earlier) (line : ℕ) → IsBuilt n → IsKnown net (before n) facts → IsBlock net facts.earlier n head rows h rs → AsksForTree n → said.number head 0 ≡ tree_place n → new ≡ facts.earlier ++ (asked n, shown_by_tree (asked n)) ∷ []
+pub block_shown : (net : Net) (n : ℕ) (facts : KeptFacts) (head : List ℤ) (rows : List (List ℤ)) (h : Record) (rs : List Record) (new : Earlier) (line : ℕ) → IsBuilt n → IsKnownFor net n facts → IsBlock net facts.earlier n head rows h rs → AsksForTree n → said.number head 0 ≡ tree_place n → new ≡ facts.earlier ++ (asked n, shown_by_tree (asked n)) ∷ []
     → Learns net facts.earlier n new h rs × ((place : Place) → Gives (tests_course net facts.earlier n line h rs) place tt place)
 block_shown net n facts head rows h rs new line built known b tree place kept =
     let earlier = facts.earlier in
@@ -376,7 +377,7 @@ block_then net earlier new n line version place table h rs blocks result mid las
 -- ---- after a head
 
 -- what is said of the course of these records is said of what is due below the head
-pub rows_course_by : (P : Course (AfterBlocks Known) → Type 0) (version : ℕ) (table : List (List ℤ)) (net : Net) (facts : KeptFacts) (n m line : ℕ) (head : List ℤ) (h : Record) (blocks : List (List Record)) → IsBuilt n → IsKnown net (before n) facts → IsHead net facts.earlier n head h → m + 1 ≡ line
+pub rows_course_by : (P : Course (AfterBlocks Known) → Type 0) (version : ℕ) (table : List (List ℤ)) (net : Net) (facts : KeptFacts) (n m line : ℕ) (head : List ℤ) (h : Record) (blocks : List (List Record)) → IsBuilt n → IsKnownFor net n facts → IsHead net facts.earlier n head h → m + 1 ≡ line
     → P (asks_all version line false (forms_below net facts.earlier n head) >>= (λ rows. end_course version table (asked n) (after_at net facts.earlier m blocks) h rows)) → P (rows_course version table (asked n) (after_at net facts.earlier m blocks) h)
 rows_course_by P version table net facts n m line head h blocks built known said next p =
     let earlier = facts.earlier in
@@ -388,7 +389,7 @@ rows_course_by P version table net facts n m line head h blocks built known said
 abbrev head_by : List {1} Test → Net → Earlier → ℕ → List (List Record) → (version : ℕ) → List (List ℤ) → Question → Record → Course (AfterBlocks Known)
 head_by ts net earlier n blocks version table q h = claims n ts >>= (λ x. rows_course version table q (after_at net earlier n blocks) h)
 
-pub head_course_by : (P : Course (AfterBlocks Known) → Type 0) (version : ℕ) (table : List (List ℤ)) (net : Net) (facts : KeptFacts) (n m : ℕ) (head : List ℤ) (h : Record) (blocks : List (List Record)) → IsBuilt n → IsKnown net (before n) facts → IsHead net facts.earlier n head h
+pub head_course_by : (P : Course (AfterBlocks Known) → Type 0) (version : ℕ) (table : List (List ℤ)) (net : Net) (facts : KeptFacts) (n m : ℕ) (head : List ℤ) (h : Record) (blocks : List (List Record)) → IsBuilt n → IsKnownFor net n facts → IsHead net facts.earlier n head h
     → P (claims m (head_tests net facts.earlier (asked n) (said_verdict n head [])) >>= (λ x. rows_course version table (asked n) (after_at net facts.earlier m blocks) h)) → P (head_course version table (asked n) (after_at net facts.earlier m blocks) h)
 head_course_by P version table net facts n m head h blocks built known said p =
     let earlier = facts.earlier in

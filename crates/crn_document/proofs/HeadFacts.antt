@@ -18,7 +18,7 @@ use Rattle.crn_ctext.specs.Records.{Record, Form, AreRising, Rising, Fits, AreOf
 use Rattle.crn_ctext.specs.Kinds.{small, just, small_form}
 use Rattle.crn_ctext.specs.Blocks.{below}
 use Rattle.crn_ctext.specs.Documents.{IsOneOf}
-use Rattle.crn_ctext.specs.Meaning.{number, row, lists, pairs_of, sizes_of, shapes_of, proof_of}
+use Rattle.crn_ctext.specs.Meaning.{row, lists, pairs_of, sizes_of, shapes_of, proof_of}
 use Rattle.crn_check.specs.Facts.{asked}
 use Rattle.crn_document.specs.Inner.Answer.{AreSmall, AreSmallAt, verdict_of_head}
 use Rattle.crn_document.specs.Inner.Answers.{FitAnswer, proof_of_head}

@@ -9,7 +9,7 @@ use Rattle.crn_ctext.specs.Questions.{Sizes, heads, head, yes, no, no_by, none_b
 use Rattle.crn_ctext.specs.Expect.{question_of}
 use Rattle.crn_check.specs.Facts.{KeptFacts, asked}
 use Rattle.crn_check.specs.Check.{IsBuilt}
-use Rattle.crn_document.specs.Inner.Parts.{IsKnown, before}
+use Rattle.crn_document.specs.Facts.{IsKnownFor}
 use Rattle.crn_document.specs.Inner.Heads.{HasClassSizes, IsHead}
 use Rattle.crn_document.proofs.Linkages.{count_few, pairs_known}
 use Rattle.crn_document.proofs.HeadFacts.{HeadFacts, FactsAt}
@@ -39,7 +39,7 @@ head_facts net earlier n h (inr (inr (inr (inr (inr (inr (inr (inr (inr (inr (in
 head_facts net earlier n h (inr (inr (inr (inr (inr (inr (inr (inr (inr (inr (inr (inr (inr (inr (inl e))))))))))))))) = subst (FactsAt net earlier h) (sym e) (by_strongly net earlier h)
 head_facts net earlier n h (inr (inr (inr (inr (inr (inr (inr (inr (inr (inr (inr (inr (inr (inr (inr (none)))))))))))))))) = absurd none
 
-pub said_facts : (net : Net) (n : ℕ) (facts : KeptFacts) (head : List ℤ) (h : Record) → IsBuilt n → IsKnown net (before n) facts → IsHead net facts.earlier n head h → HeadFacts net facts.earlier n h head
+pub said_facts : (net : Net) (n : ℕ) (facts : KeptFacts) (head : List ℤ) (h : Record) → IsBuilt n → IsKnownFor net n facts → IsHead net facts.earlier n head h → HeadFacts net facts.earlier n h head
 said_facts net n facts head h built known said =
     subst (λ (t : List ℤ). HeadFacts net facts.earlier n h t) (sym said.tag) (head_facts net facts.earlier n h built known.network (count_few net n facts built known) (pairs_known net n facts known) said.form)
 

@@ -1,5 +1,5 @@
 -- What is kept after a block: the sides of question 11, and with which verdicts.
-use Rattle.std.proofs.Common.{w32, to_z, of_z, ◌≡◌, ◌∙◌, ◌<◌, ◌==◌, ◌++◌, ℕ, Bool, false, if◌then◌else◌, List, [], ◌∷◌, refl, sym, ap, subst, inl, inr, arith}
+use Rattle.std.proofs.Common.{w32, to_z, of_z, ◌≡◌, ◌∙◌, ◌<◌, ◌≤◌, ◌==◌, ◌++◌, ℕ, Bool, false, if◌then◌else◌, List, [], ◌∷◌, refl, sym, ap, subst, inl, inr, arith}
 use Rattle.std.specs.Prelude.{ℤ}
 use Rattle.std.specs.List.{AllByRecursion}
 use Rattle.std.specs.Option.{IsSome}
@@ -22,8 +22,7 @@ use Rattle.crn_check.specs.Facts.{KeptFacts, asked}
 use Rattle.crn_check.proofs.CallerLemmas.{formed_on, sides_of_answer}
 use Rattle.crn_shape.specs.Sides.{AreSides}
 use Rattle.crn_document.specs.Inner.Blocks.{KeepSides}
-use Rattle.crn_document.specs.Inner.Parts.{IsKnown, before}
-use Rattle.crn_document.proofs.Places.{needs_at, none_later}
+use Rattle.crn_document.specs.Facts.{IsKnownFor}
 
 -- ---- the verdict on a question after one more
 
@@ -99,13 +98,24 @@ sides_new net n es new v old sides keep built is eleven shown below =
     }
 
 -- what is kept of the sides after a verdict
-pub sides_after : (net : Net) (n : ℕ) (facts : KeptFacts) (new : Earlier) (v : Verdict) (old sides : List (List ℤ)) → KeepSides net facts.earlier old → IsBuilt n → IsKnown net (before n) facts → new ≡ facts.earlier ++ (asked n, v) ∷ [] → (n ≡ 11 → v ≡ Yes → AreSides net sides) → ((n ≡ 11 → ⊥) → sides ≡ old) → (n ≡ 12 → IsSome (vector_given v) → on facts.earlier Q11 ≡ Yes) → KeepSides net new sides
+pub sides_after : (net : Net) (n : ℕ) (facts : KeptFacts) (new : Earlier) (v : Verdict) (old sides : List (List ℤ)) → KeepSides net facts.earlier old → IsBuilt n → IsKnownFor net n facts → new ≡ facts.earlier ++ (asked n, v) ∷ [] → (n ≡ 11 → v ≡ Yes → AreSides net sides) → ((n ≡ 11 → ⊥) → sides ≡ old) → (n ≡ 12 → IsSome (vector_given v) → on facts.earlier Q11 ≡ Yes) → KeepSides net new sides
 sides_after net n facts new v old sides keep built known is shown same vector =
-    let below : AreBelow n facts.earlier = none_later facts.earlier n built known.so_far in
+    let below : AreBelow n facts.earlier = known.none in
     elim (cases_eq n 11) [
       | inl eleven ↦ sides_new net n facts.earlier new v old sides keep built is eleven (shown eleven) below
       | inr other ↦ sides_same net n facts.earlier new v old sides keep built is other (same other) vector below
     ]
+
+below_more : (n m : ℕ) (es : Earlier) → n ≤ m → AreBelow n es → AreBelow m es
+below_more n m [] le b = tt
+below_more n m (e ∷ es) le b = (omega (arith, b.0, le), below_more n m es le b.1)
+
+-- there are no sides before question 11
+pub none_kept : (net : Net) (n : ℕ) (es : Earlier) → AreBelow n es → n ≤ 11 → KeepSides net es []
+none_kept net n es below le = record {
+  are_sides = λ yes. let no : NotApplicable ≡ Yes = sym (on_none es Q11 (below_more n 11 es le below)) ∙ yes in absurd cc;
+  with_vector = λ has. let none : IsSome (vector_given NotApplicable) = subst (λ (w : Verdict). IsSome (vector_given w)) (on_none es Q12 (below_more n 12 es (omega (arith, le)) below)) has in absurd cc;
+}
 
 -- ---- where the vector is
 
@@ -119,9 +129,9 @@ vector_head earlier (YesVec vector) some h = h.0
 vector_head earlier v some h = absurd cc
 
 -- question 12 gives a vector after a yes to question 11 alone
-pub vector_after : (net : Net) (n : ℕ) (facts : KeptFacts) (v : Verdict) → IsBuilt n → IsKnown net (before n) facts → n ≡ 12 → AllHold (head_tests net facts.earlier (asked n) v) → IsSome (vector_given v) → on facts.earlier Q11 ≡ Yes
+pub vector_after : (net : Net) (n : ℕ) (facts : KeptFacts) (v : Verdict) → IsBuilt n → IsKnownFor net n facts → n ≡ 12 → AllHold (head_tests net facts.earlier (asked n) v) → IsSome (vector_given v) → on facts.earlier Q11 ≡ Yes
 vector_after net n facts v built known twelve holds some =
-    let needs = needs_at facts.earlier n built known.so_far in
+    let needs = known.needs in
     let f = subst (λ (m : ℕ). HoldsNeeds facts.earlier m) twelve needs in
     let formed = formed_on net [] facts.earlier Q11 known.facts_of.formed f.1.1.1.0 in
     yes_regular net formed.0 (on facts.earlier Q11) formed.1 (vector_head facts.earlier v some (subst (λ (m : ℕ). AllHold (head_tests net facts.earlier (asked m) v)) twelve holds))
@@ -132,9 +142,9 @@ formed_sides : (net : Net) (e : Earlier) (p : Proof) → IsFormedOf net e Q11 Ye
 formed_sides net e (Sides sides) f = (sides, refl)
 formed_sides net e p f = absurd (let e = f.1.1 in cc)
 
-pub sides_shown : (net : Net) (n : ℕ) (facts : KeptFacts) (a : Answer) (kept : List (List ℤ)) → IsBuilt n → IsKnown net (before n) facts → n ≡ 11 → IsFormed net facts.earlier (asked n) a → AllHold (tests_of net facts.earlier (asked n) a) → ((sides : List (List ℤ)) → a.proof ≡ Sides sides → kept ≡ sides) → a.verdict ≡ Yes → AreSides net kept
+pub sides_shown : (net : Net) (n : ℕ) (facts : KeptFacts) (a : Answer) (kept : List (List ℤ)) → IsBuilt n → IsKnownFor net n facts → n ≡ 11 → IsFormed net facts.earlier (asked n) a → AllHold (tests_of net facts.earlier (asked n) a) → ((sides : List (List ℤ)) → a.proof ≡ Sides sides → kept ≡ sides) → a.verdict ≡ Yes → AreSides net kept
 sides_shown net n facts a kept built known eleven formed holds same said =
-    let needs = subst (λ (m : ℕ). HoldsNeeds facts.earlier m) eleven (needs_at facts.earlier n built known.so_far) in
+    let needs = subst (λ (m : ℕ). HoldsNeeds facts.earlier m) eleven known.needs in
     let f : IsFormed net facts.earlier Q11 a = subst (λ (m : ℕ). IsFormed net facts.earlier (asked m) a) eleven formed in
     let t : AllHold (tests_of net facts.earlier Q11 a) = subst (λ (m : ℕ). AllHold (tests_of net facts.earlier (asked m) a)) eleven holds in
     let s = formed_sides net facts.earlier a.proof (subst (λ (v : Verdict). IsFormedOf net facts.earlier Q11 v a.proof) said f) in
@@ -152,7 +162,7 @@ shown_twelve n (inl e) d = omega (arith, d, e)
 shown_twelve n (inr (inl e)) d = omega (arith, d, e)
 shown_twelve n (inr (inr e)) d = omega (arith, d, e)
 
-pub sides_after_trees : (net : Net) (n : ℕ) (facts : KeptFacts) (new : Earlier) (sides : List (List ℤ)) → KeepSides net facts.earlier sides → IsBuilt n → IsKnown net (before n) facts → AsksForTree n → new ≡ facts.earlier ++ (asked n, shown_by_tree (asked n)) ∷ [] → KeepSides net new sides
+pub sides_after_trees : (net : Net) (n : ℕ) (facts : KeptFacts) (new : Earlier) (sides : List (List ℤ)) → KeepSides net facts.earlier sides → IsBuilt n → IsKnownFor net n facts → AsksForTree n → new ≡ facts.earlier ++ (asked n, shown_by_tree (asked n)) ∷ [] → KeepSides net new sides
 sides_after_trees net n facts new sides keep built known tree is =
     sides_after net n facts new (shown_by_tree (asked n)) sides sides keep built known is (λ e. absurd (shown_eleven n tree e)) (λ other. refl) (λ e. absurd (shown_twelve n tree e))
 

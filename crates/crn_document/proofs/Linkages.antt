@@ -1,5 +1,5 @@
 -- The linkage classes that are known before a block, by the verdicts on all questions before it.
-use Rattle.std.proofs.Common.{◌≡◌, ◌≤◌, ◌+◌, ◌-◌, ◌++◌, ◌∙◌, ℕ, zero, suc, Bool, List, [], ◌∷◌, length, map, drop, refl, sym, subst, ap, inl, inr, arith}
+use Rattle.std.proofs.Common.{◌≡◌, ◌≤◌, ◌+◌, ◌-◌, ◌++◌, ◌∙◌, ℕ, zero, suc, Bool, List, [], ◌∷◌, length, map, drop, take, refl, sym, subst, ap, inl, inr, arith}
 use Rattle.std.specs.Prelude.{codes, filter, replicate, ◌&&◌, ◌⊎◌}
 use Rattle.std.proofs.Common.{ap₂, append_assoc, Result, Ok, Err, OnOk, Bor}
 use Rattle.std.specs.List.{AllByRecursion, range_with_len}
@@ -16,15 +16,18 @@ use Rattle.crn_cert.specs.declared.answer.Verdict.TheVariants.{Classes, Strong, 
 use Rattle.crn_cert.specs.Built.{built}
 use Rattle.crn_cert.specs.Questions.{Earlier, Question, Q1, Q2, number, on, labels_of, count_of, terminal_of}
 use Rattle.crn_cert.specs.FormedVerdicts.{IsFormedVerdict}
+use Rattle.crn_cert.proofs.CallerLemmas.{some_number}
 use Rattle.crn_ctext.specs.Records.{Members}
 use Rattle.crn_ctext.specs.Kinds.{record_form}
 use Rattle.crn_ctext.specs.declared.expect.Due.TheVariants.{Base as DueBase}
-use Rattle.crn_check.specs.Facts.{KeptFacts, HoldsOn}
-use Rattle.crn_check.specs.Check.{IsBuilt}
-use Rattle.crn_check.proofs.CallerLemmas.{formed_on, terminal_few as terminal_fits}
+use Rattle.crn_check.specs.Facts.{KeptFacts, HoldsNoneFrom, HoldsOn}
+use Rattle.crn_check.specs.Check.{HoldsNeeds, IsBuilt}
+use Rattle.crn_check.proofs.CallerLemmas.{built_at, formed_on, terminal_few as terminal_fits}
 use Rattle.crn_document.specs.declared.linkage.Linkage.{Linkage}
+use Rattle.crn_document.specs.Facts.{IsKnownFor}
 use Rattle.crn_document.specs.Inner.Parts.{IsKnown, IsLinkage, before, class_counts, is_in_class, members_of}
 use Rattle.crn_document.specs.Inner.Heads.{FitsCounts, HasClassSizes, known_of}
+use Rattle.crn_document.proofs.Places.{place_of_built, needs_at, none_later}
 use Rattle.crn_document.specs.Inner.Records.{IsOwnDue}
 use Rattle.crn_cert.specs.Valid.{ends_at, is_least_of_pair, is_within_terminal, linkage, linkage_count, class_places, pair_places}
 use Rattle.crn_ctext.specs.Meaning.{Known, lengths, pairs_by, pairs_of}
@@ -37,37 +40,36 @@ linkage_fits net e (Unknown (Budget nodes)) h = absurd h.0
 linkage_fits net e (Unknown (Rests question)) h = absurd h.0
 linkage_fits net e v h = absurd h.0
 
-none_yet : (es : Earlier) → map (λ (e : Question × Verdict). e.0) es ≡ [] → es ≡ []
-none_yet [] is = refl
-none_yet (e ∷ es) is = absurd cc
+none_yet : (es : Earlier) → HoldsNoneFrom 1 es → es ≡ []
+none_yet [] none = refl
+none_yet (e ∷ es) none = absurd (omega (arith, some_number e.0, none.0))
 
 first_of : (es : Earlier) (qs : List Question) → map (λ (e : Question × Verdict). e.0) es ≡ Q1 ∷ qs → HoldsOn es 1
 first_of [] qs is = absurd cc
 first_of (e ∷ es) qs is = let same : e.0 ≡ Q1 = cc in inl (sym (ap number same))
 
 -- the verdict on the first question is held before all later ones
-pub holds_first : (net : Net) (n : ℕ) (facts : KeptFacts) → IsBuilt n → (n ≡ 1 → ⊥) → IsKnown net (before n) facts → HoldsOn facts.earlier 1
-holds_first net n facts (inl e) differs k = absurd (differs e)
-holds_first net n facts (inr (inl e)) differs k = first_of facts.earlier [] (k.so_far ∙ ap (λ (m : ℕ). before m) e)
-holds_first net n facts (inr (inr (inl e))) differs k = first_of facts.earlier _ (k.so_far ∙ ap (λ (m : ℕ). before m) e)
-holds_first net n facts (inr (inr (inr (inl e)))) differs k = first_of facts.earlier _ (k.so_far ∙ ap (λ (m : ℕ). before m) e)
-holds_first net n facts (inr (inr (inr (inr (inl e))))) differs k = first_of facts.earlier _ (k.so_far ∙ ap (λ (m : ℕ). before m) e)
-holds_first net n facts (inr (inr (inr (inr (inr (inl e)))))) differs k = first_of facts.earlier _ (k.so_far ∙ ap (λ (m : ℕ). before m) e)
-holds_first net n facts (inr (inr (inr (inr (inr (inr (inl e))))))) differs k = first_of facts.earlier _ (k.so_far ∙ ap (λ (m : ℕ). before m) e)
-holds_first net n facts (inr (inr (inr (inr (inr (inr (inr (inl e)))))))) differs k = first_of facts.earlier _ (k.so_far ∙ ap (λ (m : ℕ). before m) e)
-holds_first net n facts (inr (inr (inr (inr (inr (inr (inr (inr (inl e))))))))) differs k = first_of facts.earlier _ (k.so_far ∙ ap (λ (m : ℕ). before m) e)
-holds_first net n facts (inr (inr (inr (inr (inr (inr (inr (inr (inr (inl e)))))))))) differs k = first_of facts.earlier _ (k.so_far ∙ ap (λ (m : ℕ). before m) e)
-holds_first net n facts (inr (inr (inr (inr (inr (inr (inr (inr (inr (inr (inl e))))))))))) differs k = first_of facts.earlier _ (k.so_far ∙ ap (λ (m : ℕ). before m) e)
-holds_first net n facts (inr (inr (inr (inr (inr (inr (inr (inr (inr (inr (inr (inl e)))))))))))) differs k = first_of facts.earlier _ (k.so_far ∙ ap (λ (m : ℕ). before m) e)
-holds_first net n facts (inr (inr (inr (inr (inr (inr (inr (inr (inr (inr (inr (inr (inl e))))))))))))) differs k = first_of facts.earlier _ (k.so_far ∙ ap (λ (m : ℕ). before m) e)
-holds_first net n facts (inr (inr (inr (inr (inr (inr (inr (inr (inr (inr (inr (inr (inr (inl e)))))))))))))) differs k = first_of facts.earlier _ (k.so_far ∙ ap (λ (m : ℕ). before m) e)
-holds_first net n facts (inr (inr (inr (inr (inr (inr (inr (inr (inr (inr (inr (inr (inr (inr (inl e))))))))))))))) differs k = first_of facts.earlier _ (k.so_far ∙ ap (λ (m : ℕ). before m) e)
-holds_first net n facts (inr (inr (inr (inr (inr (inr (inr (inr (inr (inr (inr (inr (inr (inr (inr (none)))))))))))))))) differs k = absurd none
+holds_first : (net : Net) (n : ℕ) (facts : KeptFacts) → IsBuilt n → IsKnown net (before n) facts → (n ≡ 1 → ⊥) → HoldsOn facts.earlier 1
+holds_first net n facts answered k differs = let p = place_of_built n answered in by p.0 p.3 (k.so_far ∙ p.2)
+  where
+    by : (place : ℕ) → built_at place ≡ n → map (λ (e : Question × Verdict). e.0) facts.earlier ≡ take place built → HoldsOn facts.earlier 1
+    by zero is e = absurd (differs (sym is))
+    by (suc place) is e = first_of facts.earlier (take place (drop 1 built)) e
+
+-- if all blocks before one are known, what it rests on is
+pub known_for : (net : Net) (n : ℕ) (facts : KeptFacts) → IsBuilt n → IsKnown net (before n) facts → IsKnownFor net n facts
+known_for net n facts built k = record {
+  network = k.network;
+  facts_of = k.facts_of;
+  needs = needs_at facts.earlier n built k.so_far;
+  none = none_later facts.earlier n built k.so_far;
+  first = holds_first net n facts built k;
+}
 
 -- no class is known before the first block
-pub linkage_none : (net : Net) (n : ℕ) (facts : KeptFacts) (l : Linkage) → IsKnown net (before n) facts → n ≡ 1 → l.labels.now ≡ [] → l.count ≡ 0 → IsLinkage facts.earlier l
+pub linkage_none : (net : Net) (n : ℕ) (facts : KeptFacts) (l : Linkage) → IsKnownFor net n facts → n ≡ 1 → l.labels.now ≡ [] → l.count ≡ 0 → IsLinkage facts.earlier l
 linkage_none net n facts l k first labels count =
-    let none : facts.earlier ≡ [] = none_yet facts.earlier (k.so_far ∙ ap (λ (m : ℕ). before m) first) in record {
+    let none : facts.earlier ≡ [] = none_yet facts.earlier (subst (λ (m : ℕ). HoldsNoneFrom m facts.earlier) first k.none) in record {
       labels_are = labels ∙ sym (ap (λ (es : Earlier). labels_of (on es Q1)) none);
       count_is = count ∙ sym (ap (λ (es : Earlier). count_of (on es Q1)) none);
       long = (let e = ap (λ (x : List ℕ). length x) labels in omega (arith, e));
@@ -75,9 +77,9 @@ linkage_none net n facts l k first labels count =
     }
 
 -- later the classes are those of the first verdict
-pub linkage_is : (net : Net) (n : ℕ) (facts : KeptFacts) (v : Verdict) (l : Linkage) → IsBuilt n → (n ≡ 1 → ⊥) → IsKnown net (before n) facts → v ≡ on facts.earlier Q1 → l.labels.now ≡ labels_of v → l.count ≡ count_of v → IsLinkage facts.earlier l
+pub linkage_is : (net : Net) (n : ℕ) (facts : KeptFacts) (v : Verdict) (l : Linkage) → IsBuilt n → (n ≡ 1 → ⊥) → IsKnownFor net n facts → v ≡ on facts.earlier Q1 → l.labels.now ≡ labels_of v → l.count ≡ count_of v → IsLinkage facts.earlier l
 linkage_is net n facts v l built differs k is labels count =
-    let f = formed_on net [] facts.earlier Q1 k.facts_of.formed (holds_first net n facts built differs k) in
+    let f = formed_on net [] facts.earlier Q1 k.facts_of.formed (let held = k.first in held differs) in
     let fits = linkage_fits net f.0 (on facts.earlier Q1) f.1 in
     let limit = k.network.partial.complexes_limit in
     let same = labels ∙ ap (λ (w : Verdict). labels_of w) is in
@@ -90,15 +92,10 @@ linkage_is net n facts v l built differs k is labels count =
 
 -- ---- the strong classes
 
-second_of : (es : Earlier) (qs : List Question) → map (λ (e : Question × Verdict). e.0) es ≡ Q1 ∷ Q2 ∷ qs → HoldsOn es 2
-second_of [] qs is = absurd cc
-second_of (e ∷ []) qs is = absurd cc
-second_of (e ∷ f ∷ es) qs is = let same : f.0 ≡ Q2 = cc in inr (inl (sym (ap number same)))
-
 -- the verdict on the second question is held before questions 11 and 13
-pub holds_second : (net : Net) (n : ℕ) (facts : KeptFacts) → (n ≡ 11) ⊎ (n ≡ 13) → IsKnown net (before n) facts → HoldsOn facts.earlier 2
-holds_second net n facts (inl e) k = second_of facts.earlier _ (k.so_far ∙ ap (λ (m : ℕ). before m) e)
-holds_second net n facts (inr e) k = second_of facts.earlier _ (k.so_far ∙ ap (λ (m : ℕ). before m) e)
+pub holds_second : (net : Net) (n : ℕ) (facts : KeptFacts) → (n ≡ 11) ⊎ (n ≡ 13) → IsKnownFor net n facts → HoldsOn facts.earlier 2
+holds_second net n facts (inl e) k = (subst (λ (m : ℕ). HoldsNeeds facts.earlier m) e k.needs).1.0
+holds_second net n facts (inr e) k = (subst (λ (m : ℕ). HoldsNeeds facts.earlier m) e k.needs).0
 
 strong_pairs : (net : Net) (e : Earlier) (known : Known) (v : Verdict) → IsFormedVerdict net e Q2 v → pairs_by known v ≡ pair_places known.net known.earlier
 strong_pairs net e known (Strong count terminal label exit) h = refl
@@ -108,13 +105,13 @@ strong_pairs net e known (Unknown (Rests question)) h = absurd h.0
 strong_pairs net e known v h = absurd h.0
 
 -- before questions 11 and 13 the strong classes are known, and so are the linked pairs within terminal ones
-pub pairs_known : (net : Net) (n : ℕ) (facts : KeptFacts) → IsKnown net (before n) facts → (n ≡ 11) ⊎ (n ≡ 13) → pairs_of (known_of net facts.earlier) ≡ pair_places net facts.earlier
+pub pairs_known : (net : Net) (n : ℕ) (facts : KeptFacts) → IsKnownFor net n facts → (n ≡ 11) ⊎ (n ≡ 13) → pairs_of (known_of net facts.earlier) ≡ pair_places net facts.earlier
 pairs_known net n facts k e =
     let f = formed_on net [] facts.earlier Q2 k.facts_of.formed (holds_second net n facts e k) in
     strong_pairs net f.0 (known_of net facts.earlier) (on facts.earlier Q2) f.1
 
 -- and there are few terminal classes
-pub terminal_few : (net : Net) (n : ℕ) (facts : KeptFacts) → IsKnown net (before n) facts → n ≡ 13 → terminal_of (on facts.earlier Q2) ≤ MAX_COMPLEXES
+pub terminal_few : (net : Net) (n : ℕ) (facts : KeptFacts) → IsKnownFor net n facts → n ≡ 13 → terminal_of (on facts.earlier Q2) ≤ MAX_COMPLEXES
 terminal_few net n facts k e =
     let f = formed_on net [] facts.earlier Q2 k.facts_of.formed (holds_second net n facts (inr e) k) in
     let t = terminal_fits net f.0 (on facts.earlier Q2) f.1 in
@@ -160,12 +157,12 @@ pub members_all : (net : Net) (labels : List ℕ) → members_of net labels 0 �
 members_all net labels = all_pass labels net (range_with_len 1 (length net.reactions))
 
 -- there are at most as many classes as the limit of complexes
-pub count_few : (net : Net) (n : ℕ) (facts : KeptFacts) → IsBuilt n → IsKnown net (before n) facts → count_of (on facts.earlier Q1) ≤ MAX_COMPLEXES
+pub count_few : (net : Net) (n : ℕ) (facts : KeptFacts) → IsBuilt n → IsKnownFor net n facts → count_of (on facts.earlier Q1) ≤ MAX_COMPLEXES
 count_few net n facts (inl e) k =
-    let none : facts.earlier ≡ [] = none_yet facts.earlier (k.so_far ∙ ap (λ (m : ℕ). before m) e) in
+    let none : facts.earlier ≡ [] = none_yet facts.earlier (subst (λ (m : ℕ). HoldsNoneFrom m facts.earlier) e k.none) in
     let zero_is = ap (λ (es : Earlier). count_of (on es Q1)) none in omega (arith, zero_is)
 count_few net n facts (inr more) k =
-    let f = formed_on net [] facts.earlier Q1 k.facts_of.formed (holds_first net n facts (inr more) (later_than more) k) in
+    let f = formed_on net [] facts.earlier Q1 k.facts_of.formed (let held = k.first in held (later_than more)) in
     let fits = linkage_fits net f.0 (on facts.earlier Q1) f.1 in
     let f1 = fits.1 in
     let limit = k.network.partial.complexes_limit in omega (arith, f1, limit)

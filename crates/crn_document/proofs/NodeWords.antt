@@ -13,7 +13,6 @@ use Rattle.crn_ctext.specs.Questions.{first_number}
 use Rattle.crn_ctext.specs.Blocks.{Node, Split, Flat, CutA, CutB, node_of, word_of}
 use Rattle.crn_ctext.specs.Documents.{IsOneOf}
 use Rattle.crn_ctext.specs.Expect.{text_of}
-use Rattle.crn_ctext.specs.Meaning.{number}
 use Rattle.crn_ctext.specs.declared.word.Word.{Word}
 use Rattle.crn_ctext.specs.declared.word.Word.TheVariants as words
 use Rattle.crn_ctree.specs.declared.node.Step.{Step}

@@ -41,7 +41,7 @@ few : (k : ℕ) → k < 15 → k < length built
 few k lt = lt
 
 -- the place of a question, counted from 0
-place_of_built : (n : ℕ) → IsBuilt n → (k : ℕ) × (k < length built) × (before n ≡ take k built) × (built_at k ≡ n)
+pub place_of_built : (n : ℕ) → IsBuilt n → (k : ℕ) × (k < length built) × (before n ≡ take k built) × (built_at k ≡ n)
 place_of_built n (inl e) = (0, few 0 (omega arith), ap (λ (m : ℕ). before m) e, sym e)
 place_of_built n (inr (inl e)) = (1, few 1 (omega arith), ap (λ (m : ℕ). before m) e, sym e)
 place_of_built n (inr (inr (inl e))) = (2, few 2 (omega arith), ap (λ (m : ℕ). before m) e, sym e)

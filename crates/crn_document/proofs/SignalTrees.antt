@@ -22,7 +22,7 @@ use Rattle.crn_reading.specs.declared.reading.Reading.{Reading}
 use Rattle.crn_reading.specs.declared.fault.CheckStop.{CheckStop}
 use Rattle.crn_reading.specs.declared.fault.CheckStop.TheVariants as stop
 use Rattle.crn_document.specs.Inner.Heads.{known_of}
-use Rattle.crn_document.specs.Inner.Parts.{IsKnown, before}
+use Rattle.crn_document.specs.Facts.{IsKnownFor}
 use Rattle.crn_document.specs.Inner.Signals.{vector_or_none}
 use Rattle.crn_reading.specs.Steps.{StepIs, StopIs}
 use Rattle.crn_document.proofs.SignalsKnown.{of_vector, sizes, some_vector, vector_has, vector_known}
@@ -42,7 +42,7 @@ abbrev pub shape_problem : Net → Shape → Problem
 shape_problem net s = problem_with (s.count + s.species) (length s.complexes + length s.pairs) (length net.names) (Fits (signals s (reaction_system net)))
 
 pub as_signal_tree : {T : Type 0} (net : Net) (facts : KeptFacts) (turn : ℤ) (s : Shape) (version n : ℕ) (table : List (List ℤ)) (Says : T → ℕ → Type 0) (result : Result T CheckStop) (old new : Reading) (before_it now : SourceSeen)
-    → IsKnown net (before 13) facts → HasVector facts.earlier → IsTurn turn → OfVector facts.earlier turn (λ g. IsShapeOf net g s)
+    → IsKnownFor net 13 facts → HasVector facts.earlier → IsTurn turn → OfVector facts.earlier turn (λ g. IsShapeOf net g s)
     → StepIs (asks_tree version table (shape_problem net s) (s.count + s.species) [] n) Says result old new before_it now
     → StepIs (asks_tree version table (signal_problem (known_of net facts.earlier) turn) (terminal_of (on facts.earlier Q2) + length net.names) [] n) Says result old new before_it now
 as_signal_tree net facts turn s version n table Says result old new before_it now k some is of p =
@@ -62,7 +62,7 @@ as_signal_tree net facts turn s version n table Says result old new before_it no
     (step_like (asks_tree version table (problem_with choices a b H) choices [] n) (asks_tree version table (problem_with choices a b K) choices [] n) (trees_like version table choices a b H K together choices [] n) Says result old new before_it now p))
 
 -- what that tree shows
-pub no_signal_shown : (net : Net) (facts : KeptFacts) (turn : ℤ) (s : Shape) → IsKnown net (before 13) facts → HasVector facts.earlier → OfVector facts.earlier turn (λ g. IsShapeOf net g s) → ((g : List ℤ) → IsRegular net → IsShapeOf net g s → HasNoSignal net g) → OfVector facts.earlier turn (λ g. HasNoSignal net g)
+pub no_signal_shown : (net : Net) (facts : KeptFacts) (turn : ℤ) (s : Shape) → IsKnownFor net 13 facts → HasVector facts.earlier → OfVector facts.earlier turn (λ g. IsShapeOf net g s) → ((g : List ℤ) → IsRegular net → IsShapeOf net g s → HasNoSignal net g) → OfVector facts.earlier turn (λ g. HasNoSignal net g)
 no_signal_shown net facts turn s k some of shows =
     let o = vector_given (on facts.earlier Q12) in
     of_vector o (λ g. HasNoSignal net (by_turn turn g)) some (shows (by_turn turn (vector_or_none o)) (vector_known net facts k some).regular (vector_has o (λ g. IsShapeOf net (by_turn turn g) s) of))

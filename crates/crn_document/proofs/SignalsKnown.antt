@@ -19,17 +19,12 @@ use Rattle.crn_cert.specs.Says.{IsTrueOf, IsTurn, by_turn}
 use Rattle.crn_cert.specs.Valid.{HasVector, OfVector}
 use Rattle.crn_cert.proofs.CallerLemmas.{shape_count, shapes_exist, none_at_all}
 use Rattle.crn_ctext.specs.Meaning.{is_yes, pairs_of}
-use Rattle.crn_check.specs.Check.{IsBuilt}
 use Rattle.crn_check.specs.Facts.{HoldsOn, KeptFacts}
 use Rattle.crn_check.proofs.CallerLemmas.{formed_on, sound_on, strong_true, weak_true}
 use Rattle.crn_document.specs.Inner.Heads.{known_of}
-use Rattle.crn_document.specs.Inner.Parts.{IsKnown, before}
+use Rattle.crn_document.specs.Facts.{IsKnownFor}
 use Rattle.crn_document.specs.Inner.Signals.{vector_or_none}
 use Rattle.crn_document.proofs.Linkages.{pairs_known}
-use Rattle.crn_document.proofs.Places.{needs_at}
-
-thirteen : IsBuilt 13
-thirteen = inr (inr (inr (inr (inr (inr (inr (inr (inr (inr (inr (inr (inl refl))))))))))))
 
 -- the verdicts at which question 13 looks are known
 pub record Held (es : Earlier) : Type 0 where
@@ -37,8 +32,8 @@ pub record Held (es : Earlier) : Type 0 where
   pub weak : HoldsOn es 4
   pub confluence : HoldsOn es 12
 
-pub held : (net : Net) (facts : KeptFacts) → IsKnown net (before 13) facts → Held facts.earlier
-held net facts k = let n = needs_at facts.earlier 13 thirteen k.so_far in record { strong = n.0; weak = n.1.0; confluence = n.1.1.0 }
+pub held : (net : Net) (facts : KeptFacts) → IsKnownFor net 13 facts → Held facts.earlier
+held net facts k = let n = k.needs in record { strong = n.0; weak = n.1.0; confluence = n.1.1.0 }
 
 -- ---- the confluence vector
 
@@ -54,7 +49,7 @@ vector_by : (net : Net) (e : Earlier) (v : Verdict) → IsFormedVerdict net e Q1
 vector_by net e (YesVec vector) f h some = record { regular = h.0; line = h.1; normal = h.2; long = f.1.long; narrow = f.1.each }
 vector_by net e v f h some = absurd cc
 
-pub vector_known : (net : Net) (facts : KeptFacts) → IsKnown net (before 13) facts → HasVector facts.earlier → VectorKnown net (vector_or_none (vector_given (on facts.earlier Q12)))
+pub vector_known : (net : Net) (facts : KeptFacts) → IsKnownFor net 13 facts → HasVector facts.earlier → VectorKnown net (vector_or_none (vector_given (on facts.earlier Q12)))
 vector_known net facts k some =
     let h = (held net facts k).confluence in
     let f = formed_on net [] facts.earlier Q12 k.facts_of.formed h in
@@ -90,7 +85,7 @@ turn_long : (g : List ℤ) (turn : ℤ) → IsTurn turn → length (by_turn turn
 turn_long g turn (inl e) = ap (λ (t : ℤ). length (by_turn t g)) e
 turn_long g turn (inr e) = ap (λ (t : ℤ). length (by_turn t g)) e ∙ length-scale (negsuc 0) g
 
-pub sizes : (net : Net) (facts : KeptFacts) (turn : ℤ) (s : Shape) → IsKnown net (before 13) facts → HasVector facts.earlier → IsTurn turn → IsShapeOf net (by_turn turn (vector_or_none (vector_given (on facts.earlier Q12)))) s → Sizes net facts.earlier s
+pub sizes : (net : Net) (facts : KeptFacts) (turn : ℤ) (s : Shape) → IsKnownFor net 13 facts → HasVector facts.earlier → IsTurn turn → IsShapeOf net (by_turn turn (vector_or_none (vector_given (on facts.earlier Q12)))) s → Sizes net facts.earlier s
 sizes net facts turn s k some is sh =
     let earlier = facts.earlier in
     let g = vector_or_none (vector_given (on earlier Q12)) in
@@ -110,7 +105,7 @@ weak_is net Yes h w = refl
 weak_is net (NoReaction r) h w = absurd (h.3 ((weakly_reversible_by_reactions net.reactions).1 w h.0 h.1 (reaction_in net.reactions (r - 1) (h.0, h.1) h.2.1.0 h.2.1.1)))
 weak_is net v h w = absurd h
 
-pub none_shown : (net : Net) (facts : KeptFacts) → IsKnown net (before 13) facts → HasVector facts.earlier → OfVector facts.earlier (pos 1) (λ g. HasNoSignal net g) → (is_yes (on facts.earlier Q4) ≡ true → OfVector facts.earlier (negsuc 0) (λ g. HasNoSignal net g)) → IsTrueOf net Q13 No
+pub none_shown : (net : Net) (facts : KeptFacts) → IsKnownFor net 13 facts → HasVector facts.earlier → OfVector facts.earlier (pos 1) (λ g. HasNoSignal net g) → (is_yes (on facts.earlier Q4) ≡ true → OfVector facts.earlier (negsuc 0) (λ g. HasNoSignal net g)) → IsTrueOf net Q13 No
 none_shown net facts k some first second =
     let o = vector_given (on facts.earlier Q12) in
     let v = vector_known net facts k some in

@@ -1,2 +1,3 @@
 pub mod Check
+pub mod Facts
 pub mod Inner

@@ -1,4 +1,4 @@
-ghost use Rattle.std.specs.Prelude.{◌≡◌, ◌≤◌, ◌+◌, ◌++◌, ℕ, ℤ, List, [], ◌∷◌, length, IfOk, OnOk};
+ghost use Rattle.std.specs.Prelude.{◌≡◌, ◌≤◌, ◌+◌, ◌++◌, ℕ, ℤ, List, [], ◌∷◌, false, length, IfOk, OnOk};
 ghost use Rattle.crn_io.specs.Device.{SourceSeen};
 ghost use Rattle.crn_io.specs.declared.lines.TheConstants.{MAX_SHARED};
 ghost use Rattle.crn_ctext.specs.Records.{Record};
@@ -11,11 +11,11 @@ ghost use Rattle.crn_ctext.specs.Meaning.{meaning, number, problems_by};
 ghost use Rattle.crn_check.specs.Facts.{AreFactsOf, asked};
 ghost use Rattle.crn_check.specs.Check.{AsksForTree, HoldsNoTree, IsBuilt, Judges, shown_by_tree, tree_place};
 ghost use Rattle.crn_cert.specs.Verdicts.{tight};
-ghost use Rattle.crn_document.specs.Inner.Parts.{before, up_to};
+ghost use Rattle.crn_document.specs.Facts.{with_next};
 ghost use Rattle.crn_reading.specs.Steps.{GoesOn, StepIs};
 ghost use Rattle.crn_document.specs.Inner.Answer.{AreSmall};
 ghost use Rattle.crn_document.specs.Inner.Heads.{IsHead, class_count, known_of};
-ghost use Rattle.crn_document.specs.Inner.Blocks.{HeadHolds, IsAfter, IsBlock, IsReady, Learns, after_at, after_by, end_course, head_course, parts_after, rows_course, tests_course};
+ghost use Rattle.crn_document.specs.Inner.Blocks.{HeadHolds, IsAfter, IsBlock, IsReady, IsReadyFor, Learns, after_at, after_by, end_course, head_course, parts_after, rows_course, tests_course};
 
 use crate::answer::{answer_of, bare_verdict};
 use crate::head::next_head;
@@ -52,7 +52,7 @@ fn check_records(
     answer: &Answer,
 ) -> Result<Result<(), CheckFault>, NoMemory>
     requires built { IsBuilt question }
-    requires ready { IsReady net.now (before question) checked.old }
+    requires ready { IsReadyFor net.now question checked.old }
     requires heads { let earlier = checked.old.facts.earlier in
         AllHold (head_tests net.now earlier (asked question) answer.now.verdict) }
     requires formed { let earlier = checked.old.facts.earlier in
@@ -102,7 +102,7 @@ fn accept(
 ) -> Result<(), CheckStop>
     requires goes { GoesOn at.now }
     requires built { IsBuilt question }
-    requires ready { IsReady net.now (before question) checked.old }
+    requires ready { IsReadyFor net.now question checked.old }
     requires line { line + 1 + length rows.now ≡ at.now.line }
     requires heads { HeadHolds net.now checked.old.facts.earlier question head.now }
     requires treeless { AsksForTree question → number head.now 0 ≡ tree_place question → ⊥ }
@@ -116,7 +116,8 @@ fn accept(
         (λ _ _. Learns net.now checked.old.facts.earlier question
         checked.new.facts.earlier h rs)
         result at.now at.now seen seen }
-    ensures ready { OnOk result (IsReady net.now (up_to question) checked.new) }
+    ensures ready { OnOk result
+        (IsReady net.now (with_next checked.old.facts.earlier question) checked.new) }
 {
     let answer = answer_of(at.alloc, question, head, parts, rows)?;
     match check_records(at.alloc, net, checked, question, &answer)? {
@@ -144,7 +145,7 @@ fn accept_shown<S: Source>(
     requires few { length table.now ≤ MAX_SHARED }
     requires tree { AsksForTree question }
     requires built { IsBuilt question }
-    requires ready { IsReady net.now (before question) checked.old }
+    requires ready { IsReadyFor net.now question checked.old }
     requires vector { question ≡ 13 → HasVector checked.old.facts.earlier }
     ensures step { let known = known_of net.now checked.old.facts.earlier in
         let due = problems_by (asked question) known (tree_place question) in
@@ -156,7 +157,8 @@ fn accept_shown<S: Source>(
         ++ (asked question, shown_by_tree (asked question)) ∷ []) }
     ensures goes { OnOk result (GoesOn at.new) }
     ensures version { at.new.version ≡ at.old.version }
-    ensures ready { OnOk result (IsReady net.now (up_to question) checked.new) }
+    ensures ready { OnOk result
+        (IsReady net.now (with_next checked.old.facts.earlier question) checked.new) }
 {
     next_trees(source, at, net, table, checked, question)?;
     accept_tree(net, &mut checked.facts, question);
@@ -180,7 +182,7 @@ fn end_block<S: Source>(
     requires goes { GoesOn at.old }
     requires few { length table.now ≤ MAX_SHARED }
     requires built { IsBuilt question }
-    requires ready { IsReady net.now (before question) checked.old }
+    requires ready { IsReadyFor net.now question checked.old }
     requires line { line + 1 + length rows.now ≡ at.old.line }
     requires heads { HeadHolds net.now checked.old.facts.earlier question head.now }
     requires parts { parts.now
@@ -195,7 +197,9 @@ fn end_block<S: Source>(
         result at.old at.new (S.seen source.old) (S.seen source.new) }
     ensures goes { OnOk result (GoesOn at.new) }
     ensures version { at.new.version ≡ at.old.version }
-    ensures ready { OnOk result (IsReady net.now (up_to question) checked.new) }
+    ensures ready { OnOk result
+        (IsReady net.now (with_next checked.old.facts.earlier question) checked.new) }
+    ensures plain { OnOk result ((AsksForTree question → ⊥) → checked.new.by_tree ≡ false) }
 {
     if ends_in_tree(question, number_of(head, 0)) {
         accept_shown(source, at, net, table, checked, question)?;
@@ -232,7 +236,7 @@ fn read_rows<S: Source>(
     requires few { length table.now ≤ MAX_SHARED }
     requires some { 1 ≤ at.old.line }
     requires built { IsBuilt question }
-    requires ready { IsReady net.now (before question) checked.old }
+    requires ready { IsReadyFor net.now question checked.old }
     requires heads { HeadHolds net.now checked.old.facts.earlier question head.now }
     requires head { (h : Record)
         × IsHead net.now checked.old.facts.earlier question head.now h }
@@ -244,7 +248,9 @@ fn read_rows<S: Source>(
         result at.old at.new (S.seen source.old) (S.seen source.new) }
     ensures goes { OnOk result (GoesOn at.new) }
     ensures version { at.new.version ≡ at.old.version }
-    ensures ready { OnOk result (IsReady net.now (up_to question) checked.new) }
+    ensures ready { OnOk result
+        (IsReady net.now (with_next checked.old.facts.earlier question) checked.new) }
+    ensures plain { OnOk result ((AsksForTree question → ⊥) → checked.new.by_tree ≡ false) }
 {
     let line = at.line - 1;
     let linkage = linkage_of(net, &checked.facts, question);
@@ -287,7 +293,7 @@ fn after_head<S: Source>(
     requires few { length table.now ≤ MAX_SHARED }
     requires some { 1 ≤ at.old.line }
     requires built { IsBuilt question }
-    requires ready { IsReady net.now (before question) checked.old }
+    requires ready { IsReadyFor net.now question checked.old }
     requires head { (h : Record)
         × IsHead net.now checked.old.facts.earlier question at.old.numbers.list h }
     ensures step { (h : Record) (n : ℕ) (blocks : List (List Record))
@@ -299,7 +305,9 @@ fn after_head<S: Source>(
         result at.old at.new (S.seen source.old) (S.seen source.new) }
     ensures goes { OnOk result (GoesOn at.new) }
     ensures version { at.new.version ≡ at.old.version }
-    ensures ready { OnOk result (IsReady net.now (up_to question) checked.new) }
+    ensures ready { OnOk result
+        (IsReady net.now (with_next checked.old.facts.earlier question) checked.new) }
+    ensures plain { OnOk result ((AsksForTree question → ⊥) → checked.new.by_tree ≡ false) }
 {
     let head = Ints::from_slice(at.alloc, at.numbers.as_slice())?;
     let verdict = bare_verdict(at.alloc, question, head.as_slice())?;
@@ -325,7 +333,7 @@ pub(crate) fn next_block<S: Source>(
     requires goes { GoesOn at.old }
     requires few { length table.now ≤ MAX_SHARED }
     requires built { IsBuilt question }
-    requires ready { IsReady net.now (before question) checked.old }
+    requires ready { IsReadyFor net.now question checked.old }
     ensures step { (blocks : List (List Record)) →
         StepIs (asks_block meaning at.old.version table.now (asked question)
         (after_by net.now checked.old.facts.earlier after_tree at.old.line blocks))
@@ -333,7 +341,9 @@ pub(crate) fn next_block<S: Source>(
         result at.old at.new (S.seen source.old) (S.seen source.new) }
     ensures goes { OnOk result (GoesOn at.new) }
     ensures version { at.new.version ≡ at.old.version }
-    ensures ready { OnOk result (IsReady net.now (up_to question) checked.new) }
+    ensures ready { OnOk result
+        (IsReady net.now (with_next checked.old.facts.earlier question) checked.new) }
+    ensures plain { OnOk result ((AsksForTree question → ⊥) → checked.new.by_tree ≡ false) }
 {
     next_head(source, at, net, &checked.facts, question, after_tree)?;
     after_head(source, at, net, table, checked, question)

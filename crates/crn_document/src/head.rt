@@ -11,7 +11,7 @@ ghost use Rattle.crn_check.specs.Check.{IsBuilt};
 ghost use Rattle.crn_reading.specs.Steps.{IsVersion, GoesOn, StepIs};
 ghost use Rattle.crn_document.specs.Inner.Records.{Expects};
 ghost use Rattle.crn_document.specs.Inner.Heads.{FitsCounts, FitsSignals, HasClassSizes, IsHead, head_forms};
-ghost use Rattle.crn_document.specs.Inner.Parts.{IsKnown, before};
+ghost use Rattle.crn_document.specs.Facts.{IsKnownFor};
 
 use crate::linkage::linkage_of;
 use crate::parts::counts_of;
@@ -53,7 +53,7 @@ fn signal_sizes(
     question: u32,
 ) -> Result<SignalSizes, NoMemory>
     requires built { IsBuilt question }
-    requires known { IsKnown net.now (before question) facts.now }
+    requires known { IsKnownFor net.now question facts.now }
     ensures { IfOk result (FitsSignals net.now facts.now.earlier question) }
 {
     if question == 13 && gives_vector(facts) {
@@ -80,7 +80,7 @@ fn has_class_sizes(question: u32) -> bool
 // many classes there are; and else nothing.
 fn class_sizes(alloc: Global, net: &Network, facts: &Facts, question: u32) -> Result<Nums, NoMemory>
     requires built { IsBuilt question }
-    requires known { IsKnown net.now (before question) facts.now }
+    requires known { IsKnownFor net.now question facts.now }
     ensures { IfOk result (λ made. FitsCounts net.now facts.now.earlier question made.list) }
 {
     if has_class_sizes(question) {
@@ -140,7 +140,7 @@ pub(crate) fn next_head<S: Source>(
 ) -> Result<(), CheckStop>
     requires goes { GoesOn at.old }
     requires built { IsBuilt question }
-    requires known { IsKnown net.now (before question) facts.now }
+    requires known { IsKnownFor net.now question facts.now }
     ensures step { let forms = head_forms net.now facts.now.earlier question in
         StepIs (asks at.old.version at.old.line after_tree forms)
         (λ _ h. IsHead net.now facts.now.earlier question at.new.numbers.list h)

@@ -6,6 +6,7 @@ mod block;
 mod check;
 mod document;
 mod ending;
+mod fact;
 mod head;
 mod kind;
 mod linkage;
@@ -28,3 +29,4 @@ mod verdict;
 
 pub use check::{Accepted, check_document};
 pub use crn_reading::CheckStop;
+pub use fact::next_fact;

@@ -2,7 +2,8 @@ ghost use Rattle.std.specs.Prelude.{◌≡◌, ◌≤◌, ◌<◌, ◌+◌, ◌+
 ghost use Rattle.crn_vec.specs.Deficiency.{class_members};
 ghost use Rattle.crn_vec.specs.declared.limits.TheConstants.{MAX_COMPLEXES, MAX_REACTIONS};
 ghost use Rattle.crn_check.specs.Check.{IsBuilt};
-ghost use Rattle.crn_document.specs.Inner.Parts.{IsKnown, IsLinkage, before, is_in_class, members_of};
+ghost use Rattle.crn_document.specs.Facts.{IsKnownFor};
+ghost use Rattle.crn_document.specs.Inner.Parts.{IsLinkage, is_in_class, members_of};
 
 use crn_cert::Verdict;
 use crn_check::Facts;
@@ -20,7 +21,7 @@ pub(crate) struct Linkage<'a> {
 // The linkage classes, as they are known before the block of a question.
 pub(crate) fn linkage_of<'a>(net: &Network, facts: &'a Facts, question: u32) -> Linkage<'a>
     requires built { IsBuilt question }
-    requires known { IsKnown net.now (before question) facts.now }
+    requires known { IsKnownFor net.now question facts.now }
     ensures { IsLinkage facts.now.earlier result }
 {
     if question == 1 {

@@ -8,7 +8,7 @@ ghost use Rattle.crn_ctext.specs.Expect.{sizes_of, tag_of};
 ghost use Rattle.crn_ctext.specs.declared.expect.Due.TheVariants.{Part as DuePart};
 ghost use Rattle.crn_reading.specs.Steps.{IsVersion, GoesOn, StepIs};
 ghost use Rattle.crn_document.specs.Inner.Records.{AreMembers, AreRows, Expects, IsRow, IsRowDue, MayBeRow, fixed_rows, many_rows, pair_rows, part_rows, row_form, rows_below};
-ghost use Rattle.crn_document.specs.Inner.Parts.{IsKnown, before};
+ghost use Rattle.crn_document.specs.Facts.{IsKnownFor};
 ghost use Rattle.crn_document.specs.declared.rows.Row.TheVariants.{M, Mu, Shelves, Side, Weights};
 ghost use Rattle.crn_cert.specs.Questions.{Q2, on, terminal_of};
 ghost use Rattle.crn_cert.specs.Valid.{strong, exits};
@@ -201,7 +201,7 @@ fn push_many(
     into: &mut Vec<Row>,
 ) -> Result<(), NoMemory>
     requires built { IsBuilt question }
-    requires known { IsKnown net.now (before question) facts.now }
+    requires known { IsKnownFor net.now question facts.now }
     ensures { let earlier = facts.now.earlier in OnOk result (into.new.items ≡ into.old.items
         ++ many_rows net.now (strong earlier) (exits earlier) (terminal_of (on earlier Q2))
         classes question place) }
@@ -234,7 +234,7 @@ pub(crate) fn rows_below(
     parts: &[Part],
 ) -> Result<Vec<Row>, NoMemory>
     requires built { IsBuilt question }
-    requires known { IsKnown net.now (before question) facts.now }
+    requires known { IsKnownFor net.now question facts.now }
     ensures { let earlier = facts.now.earlier in
         let many = many_rows net.now (strong earlier) (exits earlier)
         (terminal_of (on earlier Q2)) classes question place in

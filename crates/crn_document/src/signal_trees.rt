@@ -8,9 +8,8 @@ ghost use Rattle.crn_cert.specs.Valid.{HasVector, OfVector};
 ghost use Rattle.crn_check.specs.Facts.{HoldsOn};
 ghost use Rattle.crn_ctext.specs.Blocks.{asks_tree, asks_trees};
 ghost use Rattle.crn_ctext.specs.Meaning.{is_yes, signal_problem, signal_problems};
-ghost use Rattle.crn_document.specs.Inner.Blocks.{IsReady};
+ghost use Rattle.crn_document.specs.Inner.Blocks.{IsReadyFor};
 ghost use Rattle.crn_document.specs.Inner.Heads.{known_of};
-ghost use Rattle.crn_document.specs.Inner.Parts.{before};
 ghost use Rattle.crn_document.specs.Inner.Signals.{vector_or_none};
 ghost use Rattle.crn_reading.specs.Steps.{GoesOn, StepIs};
 
@@ -44,7 +43,7 @@ pub(crate) fn shape_of<'a>(
     checked: &Checked,
     turn: i32,
 ) -> Result<Shape<'a>, NoMemory>
-    requires ready { IsReady net.now (before 13) checked.now }
+    requires ready { IsReadyFor net.now 13 checked.now }
     requires vector { HasVector checked.now.facts.earlier }
     requires turn { IsTurn turn }
     ensures { IfOk result
@@ -77,7 +76,7 @@ fn next_signal_tree<S: Source>(
 ) -> Result<(), CheckStop>
     requires goes { GoesOn at.old }
     requires few { length table.now ≤ MAX_SHARED }
-    requires ready { IsReady net.now (before 13) checked.now }
+    requires ready { IsReadyFor net.now 13 checked.now }
     requires vector { HasVector checked.now.facts.earlier }
     requires turn { IsTurn turn }
     ensures step { let p = signal_problem (known_of net.now checked.now.facts.earlier) turn in
@@ -115,7 +114,7 @@ pub(crate) fn next_signal_trees<S: Source>(
 ) -> Result<(), CheckStop>
     requires goes { GoesOn at.old }
     requires few { length table.now ≤ MAX_SHARED }
-    requires ready { IsReady net.now (before 13) checked.now }
+    requires ready { IsReadyFor net.now 13 checked.now }
     requires vector { HasVector checked.now.facts.earlier }
     ensures step { let known = known_of net.now checked.now.facts.earlier in
         let due = signal_problems known (is_yes (on known.earlier Q4)) in

@@ -8,9 +8,8 @@ ghost use Rattle.crn_ctext.specs.Blocks.{asks_tree, asks_trees};
 ghost use Rattle.crn_ctext.specs.Meaning.{problems_by};
 ghost use Rattle.crn_check.specs.Facts.{asked};
 ghost use Rattle.crn_check.specs.Check.{AsksForTree, shown_by_tree, tree_place};
-ghost use Rattle.crn_document.specs.Inner.Blocks.{IsReady};
+ghost use Rattle.crn_document.specs.Inner.Blocks.{IsReadyFor};
 ghost use Rattle.crn_document.specs.Inner.Heads.{known_of};
-ghost use Rattle.crn_document.specs.Inner.Parts.{before};
 ghost use Rattle.crn_reading.specs.Steps.{GoesOn, StepIs};
 ghost use Rattle.crn_document.specs.Inner.Trees.{count_a, problem_in};
 
@@ -95,7 +94,7 @@ pub(crate) fn next_trees<S: Source>(
     requires goes { GoesOn at.old }
     requires few { length table.now ≤ MAX_SHARED }
     requires tree { AsksForTree question }
-    requires ready { IsReady net.now (before question) checked.now }
+    requires ready { IsReadyFor net.now question checked.now }
     requires vector { question ≡ 13 → HasVector checked.now.facts.earlier }
     ensures step { let known = known_of net.now checked.now.facts.earlier in
         let due = problems_by (asked question) known (tree_place question) in

@@ -20,7 +20,8 @@ use Rattle.crn_check.specs.Check.{IsBuilt}
 use Rattle.crn_document.specs.declared.parts.Part.{Part}
 use Rattle.crn_document.specs.declared.rows.Row.{Row}
 use Rattle.crn_document.specs.Inner.Answer.{verdict_of_head}
-use Rattle.crn_document.specs.Inner.Parts.{IsKnown, before, parts_below, up_to}
+use Rattle.crn_document.specs.Facts.{IsKnownFor}
+use Rattle.crn_document.specs.Inner.Parts.{IsKnown, before, parts_below}
 use Rattle.crn_document.specs.Inner.Heads.{IsHead, class_count, known_of}
 use Rattle.crn_document.specs.Inner.Records.{many_rows, row_form, rows_below}
 use Rattle.crn_document.specs.declared.block.Checked.{Checked}
@@ -135,7 +136,7 @@ pub record IsAt (place question : ℕ) : Type 0 where
   pub answered : IsBuilt question
   pub earlier : take (place - 1) built ≡ before question
   pub later : drop (place - 1) built ≡ asked question ∷ drop place built
-  pub with_it : up_to question ≡ take place built
+  pub with_it : before question ++ asked question ∷ [] ≡ take place built
 
 -- the sides of a yes to question 11 are those of the linked pairs, and a confluence vector is known
 -- after such a yes alone
@@ -146,4 +147,9 @@ pub record KeepSides (net : Net) (earlier : Earlier) (sides : List (List ℤ)) :
 -- the verdicts on these questions are known, and so are the sides of question 11
 pub record IsReady (net : Net) (qs : List Question) (checked : Checked) : Type 0 where
   pub known : IsKnown net qs checked.facts
+  pub sides : KeepSides net checked.facts.earlier checked.sides
+
+-- what the block of this question rests on is known, and so are the sides of question 11
+pub record IsReadyFor (net : Net) (question : ℕ) (checked : Checked) : Type 0 where
+  pub known : IsKnownFor net question checked.facts
   pub sides : KeepSides net checked.facts.earlier checked.sides

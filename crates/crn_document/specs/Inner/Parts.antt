@@ -2,7 +2,7 @@
 -- and the ranks that the records below a head prove.
 -- Source: this project's own format. Shapes: classes and reactions count from 1. Class 0 stands for
 -- the network.
-use Rattle.std.specs.Prelude.{◌≡◌, ◌≤◌, ◌-◌, ◌==◌, ◌++◌, ℕ, zero, suc, ℤ, nat_abs, nat_lt, Bool, true, List, [], ◌∷◌, length, map, filter, drop, slice_index, slice_index_or}
+use Rattle.std.specs.Prelude.{◌≡◌, ◌≤◌, ◌-◌, ◌==◌, ℕ, zero, suc, ℤ, nat_abs, nat_lt, Bool, true, List, [], ◌∷◌, length, map, filter, drop, slice_index, slice_index_or}
 use Rattle.std.specs.List.{range_with_len}
 use Rattle.crn_vec.specs.Network.{Net, IsNetwork}
 use Rattle.crn_vec.specs.Deficiency.{class_members}
@@ -21,10 +21,6 @@ use Rattle.crn_document.specs.Inner.Answer.{AreSmall, kind_of}
 -- the questions that are answered before this one
 abbrev pub before : (question : ℕ) → List Question
 before question = filter (λ q. nat_lt (number_of q) question) built
-
--- the same, and this one
-abbrev pub up_to : (question : ℕ) → List Question
-up_to question = before question ++ asked question ∷ []
 
 -- the verdicts on these questions are known
 pub record IsKnown (net : Net) (qs : List Question) (facts : KeptFacts) : Type 0 where

@@ -10,7 +10,6 @@ use Rattle.crn_pairs.specs.Pairs.{pairs_to}
 use Rattle.crn_ctext.specs.Records.{Record, Form, Fits, Members, Several, Small}
 use Rattle.crn_ctext.specs.Meaning.{lists}
 use Rattle.crn_ctext.specs.Kinds.{just, small, small_form, record_form, free_form}
-use Rattle.crn_ctext.specs.Course.{due}
 use Rattle.crn_ctext.specs.Expect.{IsExpectable, MayBeDue, forms_of, is_after, misplaced, part_field, text_of}
 use Rattle.crn_ctext.specs.declared.expect.Expect.{Expect}
 use Rattle.crn_ctext.specs.declared.expect.Due.{Due}

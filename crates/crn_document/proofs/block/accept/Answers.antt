@@ -1,4 +1,4 @@
-use Rattle.std.proofs.Common.{◌∙◌, refl, sym, subst, List, ◌+◌, arith}
+use Rattle.std.proofs.Common.{◌∙◌, map, refl, sym, subst, List, ◌+◌, arith}
 use Rattle.std.proofs.lemmas.Result.{err_from_is_err_and}
 use Rattle.crn_check.specs.Facts.{asked}
 use Rattle.crn_check.proofs.CallerLemmas.{answer_treeless}
@@ -6,7 +6,6 @@ use Rattle.crn_document.specs.declared.parts.Part.{Part}
 use Rattle.crn_reading.specs.declared.fault.CheckStop.TheVariants as stop
 use Rattle.crn_document.specs.Inner.Answers.{FitAnswer}
 use Rattle.crn_document.specs.Inner.Blocks.{tests_course}
-use Rattle.crn_document.specs.Inner.Parts.{before}
 use Rattle.crn_document.proofs.Heads.{said_facts}
 use Rattle.crn_reading.proofs.CallerLemmas.{step_exits, stops_here, tests_give, tests_fail}
 use Rattle.crn_document.proofs.Blocks.{answer_formed, answer_heads, answer_part, answer_tight, block_fails, block_learns, block_fits, said_answer, shown_first, so_far_next}
@@ -14,7 +13,7 @@ use Rattle.crn_document.proofs.Kept.{sides_after, sides_shown, vector_after}
 use Rattle.std.proofs.Common.{◌≡◌, ◌++◌, ◌∷◌, [], ap, Result, OnOk}
 use Rattle.std.specs.Option.{IsSome}
 use Rattle.crn_cert.specs.declared.answer.Verdict.{Verdict}
-use Rattle.crn_cert.specs.Questions.{vector_given}
+use Rattle.crn_cert.specs.Questions.{Question, vector_given}
 use Rattle.crn_cert.specs.Tests.{AllHold, FailsFirst}
 use Rattle.crn_cert.specs.Valid.{tests_of}
 use Rattle.crn_check.specs.Check.{Judges}
@@ -113,7 +112,7 @@ returns-in-Ok-clause-ready c =
       known = record {
         network = known.network;
         facts_of = subst (λ (f : KeptFacts). AreFactsOf net f) (sym c.keep_sides.ensures.facts) c.check_records.ensures.facts;
-        so_far = so_far_next (before n) (asked n) facts.earlier c.keep_sides.new.checked.facts.earlier _ known.so_far new;
+        so_far = so_far_next (map (λ (e : Question × Verdict). e.0) facts.earlier) (asked n) facts.earlier c.keep_sides.new.checked.facts.earlier _ refl new;
       };
       sides = sides_after net n facts c.keep_sides.new.checked.facts.earlier (tight a.verdict) c.args.checked.now.sides c.keep_sides.new.checked.sides c.requires.ready.sides c.requires.built known new
           (λ eleven said. sides_shown net n facts a c.keep_sides.new.checked.sides c.requires.built known eleven formed judged (c.keep_sides.ensures.sides eleven) (sym tight_is ∙ said))

@@ -1,15 +1,16 @@
+use Rattle.std.proofs.Common.{map, refl}
 use Rattle.std.proofs.lemmas.Result.{err_from_is_err_and}
+use Rattle.crn_cert.specs.declared.answer.Verdict.{Verdict}
+use Rattle.crn_cert.specs.Questions.{Question}
 use Rattle.crn_check.specs.Check.{shown_by_tree}
 use Rattle.crn_check.specs.Facts.{asked}
 use Rattle.crn_document.proofs.Kept.{sides_after_trees}
-use Rattle.crn_document.specs.Inner.Parts.{before}
 use Rattle.crn_document.proofs.Blocks.{so_far_next}
-use Rattle.crn_document.proofs.Places.{none_later}
 use Rattle.crn_reading.proofs.CallerLemmas.{step_exits}
 use Rattle.crn_document.proofs.block.accept_shown.Goals as goal
 
 pub accept_tree-requires-clause-later : goal.accept_tree-requires-clause-later
-accept_tree-requires-clause-later g c = none_later c.args.checked.now.facts.earlier c.args.question c.requires.built c.requires.ready.known.so_far
+accept_tree-requires-clause-later g c = c.requires.ready.known.none
 
 pub returns-in_err-next_trees-clause-step : goal.returns-in_err-next_trees-clause-step
 returns-in_err-next_trees-clause-step g c =
@@ -20,7 +21,7 @@ returns-clause-ready g c = record {
   known = record {
     network = c.requires.ready.known.network;
     facts_of = c.accept_tree.ensures.facts;
-    so_far = so_far_next (before c.args.question) (asked c.args.question) c.args.checked.now.facts.earlier c.accept_tree.new.facts.earlier (shown_by_tree (asked c.args.question)) c.requires.ready.known.so_far c.accept_tree.ensures.accepted;
+    so_far = so_far_next (map (λ (e : Question × Verdict). e.0) c.args.checked.now.facts.earlier) (asked c.args.question) c.args.checked.now.facts.earlier c.accept_tree.new.facts.earlier (shown_by_tree (asked c.args.question)) refl c.accept_tree.ensures.accepted;
   };
   sides = sides_after_trees c.args.net.now c.args.question c.args.checked.now.facts c.accept_tree.new.facts.earlier c.args.checked.now.sides c.requires.ready.sides c.requires.built c.requires.ready.known c.requires.tree c.accept_tree.ensures.accepted;
 }

@@ -14,7 +14,6 @@ use Rattle.crn_document.specs.Inner.Heads.{IsHead}
 use Rattle.crn_document.specs.Inner.Blocks.{IsAfter, after_at, head_course, rows_course}
 use Rattle.crn_reading.specs.Steps.{StepIs}
 use Rattle.crn_document.proofs.Heads.{said_facts}
-use Rattle.crn_document.proofs.Places.{needs_at}
 use Rattle.crn_reading.proofs.CallerLemmas.{step_then_is, tests_give, tests_fail}
 use Rattle.crn_document.proofs.Blocks.{claims_fail, claims_hold, head_course_by, said_verdict}
 use Rattle.crn_document.proofs.block.after_head.Goals as goal
@@ -25,7 +24,7 @@ bare_verdict-requires-clause-small g c =
     subst AreSmall (sym (c.as_slice-2.ensures ∙ c.in_ok-head.ensures.list ∙ c.as_slice.ensures)) f.small
 
 pub check_head-requires-clause-needs : goal.check_head-requires-clause-needs
-check_head-requires-clause-needs g c = needs_at c.args.checked.now.facts.earlier c.args.question c.requires.built c.requires.ready.known.so_far
+check_head-requires-clause-needs g c = c.requires.ready.known.needs
 
 pub check_head-requires-clause-head : goal.check_head-requires-clause-head
 check_head-requires-clause-head g c =

@@ -6,7 +6,6 @@ use Rattle.crn_cert.specs.Valid.{OfVector}
 use Rattle.crn_check.specs.Check.{HoldsNeeds, IsShapeFor}
 use Rattle.crn_check.specs.Facts.{HoldsNoneFrom}
 use Rattle.crn_document.proofs.Kept.{no_signal_held, signal_known, turn_held}
-use Rattle.crn_document.proofs.Places.{needs_at, none_later}
 use Rattle.crn_document.proofs.block.check_records.Goals as goal
 
 pub check_signal_answer-requires-clause-needs : goal.check_signal_answer-requires-clause-needs
@@ -14,14 +13,14 @@ check_signal_answer-requires-clause-needs c =
     let earlier = c.args.checked.now.facts.earlier in
     let s = c.in-YesSignal in
     let k = signal_known c.args.net.now earlier c.args.question c.args.answer.now s.turn s.shelves s.mu s.m s.weights c.requires.built s.is c.requires.formed c.requires.heads in
-    subst (λ (n : ℕ). HoldsNeeds earlier n) k.question (needs_at earlier c.args.question c.requires.built c.requires.ready.known.so_far)
+    subst (λ (n : ℕ). HoldsNeeds earlier n) k.question c.requires.ready.known.needs
 
 pub check_signal_answer-requires-clause-later : goal.check_signal_answer-requires-clause-later
 check_signal_answer-requires-clause-later c =
     let earlier = c.args.checked.now.facts.earlier in
     let s = c.in-YesSignal in
     let k = signal_known c.args.net.now earlier c.args.question c.args.answer.now s.turn s.shelves s.mu s.m s.weights c.requires.built s.is c.requires.formed c.requires.heads in
-    subst (λ (n : ℕ). HoldsNoneFrom n earlier) k.question (none_later earlier c.args.question c.requires.built c.requires.ready.known.so_far)
+    subst (λ (n : ℕ). HoldsNoneFrom n earlier) k.question c.requires.ready.known.none
 
 pub check_signal_answer-requires-clause-shape : goal.check_signal_answer-requires-clause-shape
 check_signal_answer-requires-clause-shape c =
@@ -39,8 +38,8 @@ check_answer-requires c =
     record {
       built = c.requires.built;
       facts = c.requires.ready.known.facts_of;
-      needs = needs_at earlier c.args.question c.requires.built c.requires.ready.known.so_far;
-      later = none_later earlier c.args.question c.requires.built c.requires.ready.known.so_far;
+      needs = c.requires.ready.known.needs;
+      later = c.requires.ready.known.none;
       formed = c.requires.formed;
       treeless = c.requires.treeless;
       unsigned = λ is. no_signal_held c.args.net.now c.args.answer.now.verdict c.in_default.not-YesSignal;

@@ -102,3 +102,6 @@ returns-clause-step g c = λ h rs blocks b.
     subst (λ (u : Bool). StepIs (end_course at.version table (asked n) (after_at net facts.earlier line blocks) h rs) (λ (v : Unit {0}) y. IsAfter net new u at.line y) (Ok tt) at at before before) (ap (λ (ps : List {1} Problem). has_tree ps) nothing)
     (block_then net facts.earlier new n line at.version place table h rs blocks (Ok tt) at at before before trees t.1 (omega (arith, long, c.requires.line)) refl t.2
     (trees_none at.version table (problems_by (asked n) (known_of net facts.earlier) place) at before nothing))
+
+pub returns-then-ends_in_tree-clause-plain : goal.returns-then-ends_in_tree-clause-plain
+returns-then-ends_in_tree-clause-plain g c = λ none. absurd (none (c.ends_in_tree.ensures.some c.if-ends_in_tree.true).0)

@@ -1,7 +1,7 @@
 use Rattle.std.proofs.Common.{◌≡◌, ◌∙◌, ℕ, List, length, ap, ap₂, arith, inr, sym}
 use Rattle.crn_cert.specs.Valid.{pair_places}
 use Rattle.crn_pairs.specs.Pairs.{pairs_to}
-use Rattle.crn_document.specs.Inner.Parts.{IsKnown, before}
+use Rattle.crn_document.specs.Facts.{IsKnownFor}
 use Rattle.crn_document.proofs.Linkages.{holds_second, pairs_few, pairs_known}
 use Rattle.crn_document.proofs.SignalsKnown.{held}
 use Rattle.std.proofs.Common.{subst}
@@ -24,7 +24,7 @@ overflow_cast-result c =
     omega (arith, long, few, most)
 
 pub gives_vector-requires : goal.gives_vector-requires
-gives_vector-requires c = (held c.args.net.now c.args.facts.now (subst (λ (n : ℕ). IsKnown c.args.net.now (before n) c.args.facts.now) c.if-question-eq13.true c.requires.known)).confluence
+gives_vector-requires c = (held c.args.net.now c.args.facts.now (subst (λ (n : ℕ). IsKnownFor c.args.net.now n c.args.facts.now) c.if-question-eq13.true c.requires.known)).confluence
 
 pub returns-then-gives_vector : goal.returns-then-gives_vector
 returns-then-gives_vector c =

@@ -1,4 +1,4 @@
-use Rattle.std.proofs.Common.{◌≡◌, ◌≤◌, ◌<◌, ◌+◌, ◌-◌, ◌∙◌, ◌∷◌, List, length, map, drop, take, refl, sym, subst, ap, ap₂, ℕ, Bool, arith, rules}
+use Rattle.std.proofs.Common.{◌≡◌, ◌≤◌, ◌<◌, ◌+◌, ◌-◌, ◌∙◌, ◌∷◌, ◌++◌, [], List, length, map, drop, take, refl, sym, subst, ap, ap₂, ℕ, Bool, arith, rules}
 use Rattle.std.proofs.lemmas.Result.{err_from_is_err_and}
 use Rattle.crn_cert.specs.Built.{built}
 use Rattle.crn_cert.specs.Questions.{Question}
@@ -10,6 +10,7 @@ use Rattle.crn_check.specs.Facts.{asked}
 use Rattle.crn_document.specs.Inner.Blocks.{IsAfter, IsReady, after_by}
 use Rattle.crn_reading.specs.Steps.{StepIs, StopIs}
 use Rattle.crn_reading.proofs.CallerLemmas.{step_exits, step_then_is, stop_after, stop_first}
+use Rattle.crn_document.proofs.Linkages.{known_for}
 use Rattle.crn_document.proofs.Places.{all_taken, none_left}
 use Rattle.crn_document.proofs.Sections.{after_is, blocks_by, no_blocks, question_course}
 use Rattle.crn_document.proofs.questions.+next_blocks.Goals as goal
@@ -24,13 +25,16 @@ pub next_block-requires-clause-built : goal.next_block-requires-clause-built
 next_block-requires-clause-built g t c = let q = c.question_at-question.ensures in q.answered
 
 pub next_block-requires-clause-ready : goal.next_block-requires-clause-ready
-next_block-requires-clause-ready g t c = let q = c.question_at-question.ensures in subst (λ (qs : List Question). IsReady c.args.net.now qs c.args.checked.now) q.earlier c.requires.ready
+next_block-requires-clause-ready g t c =
+    let q = c.question_at-question.ensures in
+    let ready = subst (λ (qs : List Question). IsReady c.args.net.now qs c.args.checked.now) q.earlier c.requires.ready in
+    record { known = known_for c.args.net.now c.question_at-question.result c.args.checked.now.facts q.answered ready.known; sides = ready.sides }
 
 pub next_blocks-requires : goal.next_blocks-requires
 next_blocks-requires g t c =
     let q = c.question_at-question.ensures in
     let same : c.args.place ≡ c.args.place + 1 - 1 = omega arith in
-    let ready : IsReady c.args.net.now (take (c.args.place + 1 - 1) built) c.next_block.new.checked = subst (λ (qs : List Question). IsReady c.args.net.now qs c.next_block.new.checked) (q.with_it ∙ ap (λ (k : ℕ). take k built) same) c.in_ok-next_block.ensures.ready in
+    let ready : IsReady c.args.net.now (take (c.args.place + 1 - 1) built) c.next_block.new.checked = subst (λ (qs : List Question). IsReady c.args.net.now qs c.next_block.new.checked) (ap (λ (qs : List Question). qs ++ asked c.question_at-question.result ∷ []) (c.requires.ready.known.so_far ∙ q.earlier) ∙ q.with_it ∙ ap (λ (k : ℕ). take k built) same) c.in_ok-next_block.ensures.ready in
     search (rules, ready)
 
 pub returns-then-place-gt-LAST-clause-ready : goal.returns-then-place-gt-LAST-clause-ready

@@ -5,9 +5,8 @@ use Rattle.crn_ctree.specs.declared.problem.InfluenceTable.TheVariants.{Plain, S
 use Rattle.crn_ctree.specs.declared.problem.Problem.TheVariants.{Concordance}
 use Rattle.crn_check.specs.Facts.{asked}
 use Rattle.crn_check.specs.Check.{shown_by_tree, tree_place}
-use Rattle.crn_document.specs.Inner.Blocks.{IsReady}
+use Rattle.crn_document.specs.Inner.Blocks.{IsReadyFor}
 use Rattle.crn_document.specs.Inner.Heads.{known_of}
-use Rattle.crn_document.specs.Inner.Parts.{before}
 use Rattle.crn_reading.specs.Steps.{StepIs}
 use Rattle.crn_document.specs.Inner.Trees.{problem_in}
 use Rattle.crn_ctext.specs.Blocks.{asks_trees}
@@ -15,7 +14,7 @@ use Rattle.crn_document.proofs.TreesBelow.{other_question, trees_one}
 use Rattle.crn_document.proofs.tree.next_trees.Goals as goal
 
 pub next_signal_trees-requires-clause-ready : goal.next_signal_trees-requires-clause-ready
-next_signal_trees-requires-clause-ready g c = subst (λ (q : ℕ). IsReady c.args.net.now (before q) c.args.checked.now) c.if-question-eq13.true c.requires.ready
+next_signal_trees-requires-clause-ready g c = subst (λ (q : ℕ). IsReadyFor c.args.net.now q c.args.checked.now) c.if-question-eq13.true c.requires.ready
 
 pub returns-then-question-eq13-clause-step : goal.returns-then-question-eq13-clause-step
 returns-then-question-eq13-clause-step g c =
