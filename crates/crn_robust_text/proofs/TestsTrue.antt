@@ -1,0 +1,154 @@
+-- The tests of a document say what they say of the network, if the blocks are true; and valid blocks are true or leave the rank open.
+use Rattle.std.proofs.Common.{◌≡◌, ◌⊎◌, ◌∙◌, ◌-◌, ℕ, false, List, [], ◌∷◌, length, refl, sym, ap, subst, inl, inr, arith}
+use Rattle.std.specs.Prelude.{◌↔◌, Option, Some, None as NoRank, slice_index_or}
+use Rattle.crn_vec.specs.Network.{Net, IsNetwork}
+use Rattle.crn_vec.specs.Deficiency.{IsDeficiency}
+use Rattle.crn_vec.specs.Confluence.{HasConfluenceLine}
+use Rattle.crn_vec.proofs.CallerLemmas.{deficiency_is_one}
+use Rattle.crn_space.proofs.CallerLemmas.{one_leaves_line}
+use Rattle.crn_cert.specs.declared.answer.Answer.{Answer}
+use Rattle.crn_cert.specs.declared.answer.Gap.TheVariants.{Wide, Budget, Rests as RestsOn}
+use Rattle.crn_cert.specs.declared.answer.Proof.{Proof}
+use Rattle.crn_cert.specs.declared.answer.Verdict.{Verdict}
+use Rattle.crn_cert.specs.declared.answer.Verdict.TheVariants.{Rank, Unknown, Yes as SaysYes}
+use Rattle.crn_cert.specs.Answers.{verdicts_of}
+use Rattle.crn_cert.specs.Questions.{Earlier, Q1, Q5, IsOpen, on, count_of, rank_of}
+use Rattle.crn_cert.specs.Formed.{IsFormedOf, AreFormed}
+use Rattle.crn_cert.specs.Law.{IsTrueOrOpen, AllTrueOrOpen, AreBuilt}
+use Rattle.crn_cert.specs.Says.{IsTrueOf}
+use Rattle.crn_cert.specs.Valid.{IsLeft}
+use Rattle.crn_cert.proofs.CallerLemmas.{valid_documents_are_true}
+use Rattle.crn_ctext.specs.Records.{Record}
+use Rattle.crn_ctext.specs.Documents.{AreValid}
+use Rattle.crn_ctext.specs.Meaning.{meaning, verdicts_said}
+use Rattle.crn_ctext.proofs.CallerLemmas.{AreInOrder, answers_by, back_by, valid_are_formed}
+use Rattle.crn_robust.specs.declared.robust.Robust.{Robust}
+use Rattle.crn_robust.specs.declared.robust.Robust.TheVariants.{Yes, Number, None, Rests}
+use Rattle.crn_robust.specs.Robust.{IsCase, SaysLine}
+use Rattle.crn_robust.proofs.CallerLemmas.{classes_leave, deficiency_by}
+use Rattle.crn_robust_text.specs.Document.{rests_on, IsDeficiencyBy, SaysLineBy, IsCaseBy, earlier_of, line_of, ValidAreTrue, ValidLinesAreTrue}
+
+-- the verdicts on linkage classes and on the rank are true, but for an open rank
+pub record AreTrue (net : Net) (earlier : Earlier) : Type 0 where
+  pub classes : IsTrueOf net Q1 (on earlier Q1)
+  pub rank : IsTrueOrOpen net Q5 (on earlier Q5)
+
+-- ---- the deficiency
+
+left_by : (net : Net) (earlier : Earlier) (v : Verdict) (d : ℕ) → IsTrueOf net Q1 (on earlier Q1) → IsTrueOrOpen net Q5 v → IsLeft net earlier d (rank_of v) → IsDeficiency net d
+left_by net earlier (Rank rank base) d c t l = deficiency_by net (on earlier Q1) rank d c t.rank_is l
+left_by net earlier v d c t l = absurd l
+
+-- the deficiency that the blocks leave is that of the network
+pub left_true : (net : Net) (earlier : Earlier) (d : ℕ) → AreTrue net earlier → IsDeficiencyBy net earlier d → IsDeficiency net d
+left_true net earlier d t l = left_by net earlier (on earlier Q5) d t.classes t.rank l
+
+leaves_by : (net : Net) (earlier : Earlier) (v : Verdict) (d : ℕ) → IsNetwork net → IsTrueOf net Q1 (on earlier Q1) → IsTrueOrOpen net Q5 v → (IsOpen v → ⊥) → IsDeficiency net d → IsLeft net earlier d (rank_of v)
+leaves_by net earlier (Unknown gap) d n c t closed is = absurd (closed tt)
+leaves_by net earlier (Rank rank base) d n c t closed is =
+    let classes = count_of (on earlier Q1) in
+    let few = classes_leave net (on earlier Q1) rank n c t.rank_is in
+    let other = deficiency_by net (on earlier Q1) rank (length net.complexes - classes - rank) c t.rank_is (omega (arith, few)) in
+    omega (arith, few, deficiency_is_one net d (length net.complexes - classes - rank) is other)
+leaves_by net earlier v d n c t closed is = absurd t
+
+-- and the other way round, if they decide the rank
+true_left : (net : Net) (earlier : Earlier) (d : ℕ) → IsNetwork net → AreTrue net earlier → (IsOpen (on earlier Q5) → ⊥) → IsDeficiency net d → IsDeficiencyBy net earlier d
+true_left net earlier d n t closed is = leaves_by net earlier (on earlier Q5) d n t.classes t.rank closed is
+
+-- they leave one deficiency
+left_one : (net : Net) (earlier : Earlier) (d e : ℕ) (rank : Option ℕ) → IsLeft net earlier d rank → IsLeft net earlier e rank → d ≡ e
+left_one net earlier d e NoRank p q = absurd p
+left_one net earlier d e (Some s) p q = omega (arith, p, q)
+
+pub deficiency_by_one : (net : Net) (earlier : Earlier) (d e : ℕ) → IsDeficiencyBy net earlier d → IsDeficiencyBy net earlier e → d ≡ e
+deficiency_by_one net earlier d e p q = left_one net earlier d e (rank_of (on earlier Q5)) p q
+
+-- ---- the tests
+
+pub line_true : (net : Net) (earlier : Earlier) (b : ℕ) → IsNetwork net → AreTrue net earlier → (IsOpen (on earlier Q5) → ⊥) → SaysLineBy net earlier b ↔ SaysLine net b
+line_true net earlier b n t closed = (
+  λ h. (λ e. left_true net earlier 1 t (h.0 e), λ is. h.1 (true_left net earlier 1 n t closed is)),
+  λ h. (λ e. true_left net earlier 1 n t closed (h.0 e), λ l. h.1 (left_true net earlier 1 t l)),
+)
+
+-- the case by the blocks is that of the network
+pub case_true : (net : Net) (earlier : Earlier) (robust : Robust) → AreTrue net earlier → (robust ≡ Rests → ⊥) → IsCaseBy net earlier robust → IsCase net robust
+case_true net earlier (Yes species first second) t ne h = (left_true net earlier 1 t h.0, h.1, h.2, h.3, h.4)
+case_true net earlier (Number d) t ne h = (left_true net earlier d t h.0, h.1)
+case_true net earlier None t ne h = (left_true net earlier 1 t h.0, h.1)
+case_true net earlier Rests t ne h = absurd (ne refl)
+
+-- and the other way round, if they decide the rank
+pub true_case : (net : Net) (earlier : Earlier) (robust : Robust) → IsNetwork net → AreTrue net earlier → (IsOpen (on earlier Q5) → ⊥) → IsCase net robust → IsCaseBy net earlier robust
+true_case net earlier (Yes species first second) n t closed h = (true_left net earlier 1 n t closed h.0, h.1, h.2, h.3, h.4)
+true_case net earlier (Number d) n t closed h = (true_left net earlier d n t closed h.0, h.1)
+true_case net earlier None n t closed h = (true_left net earlier 1 n t closed h.0, h.1)
+true_case net earlier Rests n t closed h = absurd h
+
+-- ---- valid blocks
+
+pub in_order : AreInOrder false rests_on
+in_order = (tt, (tt, (tt, tt)))
+
+-- no law of these questions requires another
+pub each_built : AreBuilt [] rests_on
+each_built = ((λ j i. absurd i), ((λ j i. absurd i), ((λ j i. absurd i), tt)))
+
+pub first_closed : (net : Net) (earlier : Earlier) (v : Verdict) (p : Proof) → IsFormedOf net earlier Q1 v p → IsTrueOrOpen net Q1 v → IsTrueOf net Q1 v
+first_closed net earlier (Unknown (Wide system class index basis)) p f t = absurd f.0.head
+first_closed net earlier (Unknown (Budget nodes)) p f t = absurd f.0.head
+first_closed net earlier (Unknown (RestsOn question)) p f t = absurd f.0.head
+first_closed net earlier v p f t = t
+
+answers_true : (net : Net) (given : List Answer) (blocks : List (List Record)) → AreFormed net [] rests_on given → AllTrueOrOpen net rests_on given → verdicts_said rests_on (meaning.start net) blocks ≡ verdicts_of given → AreTrue net (earlier_of net blocks)
+answers_true net (a ∷ b ∷ c ∷ more) ((h ∷ rs) ∷ (i ∷ ss) ∷ (j ∷ ts) ∷ others) f t e = record {
+  classes = subst (IsTrueOf net Q1) (sym (ap (λ (vs : List Verdict). slice_index_or vs 0 SaysYes) e)) (first_closed net [] a.verdict a.proof f.0 t.0);
+  rank = subst (IsTrueOrOpen net Q5) (sym (ap (λ (vs : List Verdict). slice_index_or vs 2 SaysYes) e)) t.1.1.0;
+}
+answers_true net (a ∷ b ∷ c ∷ more) [] f t e = absurd (omega (arith, ap length e))
+answers_true net (a ∷ b ∷ c ∷ more) ([] ∷ others) f t e = absurd (omega (arith, ap length e))
+answers_true net (a ∷ b ∷ c ∷ more) ((h ∷ rs) ∷ []) f t e = absurd (omega (arith, ap length e))
+answers_true net (a ∷ b ∷ c ∷ more) ((h ∷ rs) ∷ [] ∷ others) f t e = absurd (omega (arith, ap length e))
+answers_true net (a ∷ b ∷ c ∷ more) ((h ∷ rs) ∷ (i ∷ ss) ∷ []) f t e = absurd (omega (arith, ap length e))
+answers_true net (a ∷ b ∷ c ∷ more) ((h ∷ rs) ∷ (i ∷ ss) ∷ [] ∷ others) f t e = absurd (omega (arith, ap length e))
+answers_true net [] blocks f t e = absurd f
+answers_true net (a ∷ []) blocks f t e = absurd f.1
+answers_true net (a ∷ b ∷ []) blocks f t e = absurd f.1.1
+
+-- valid blocks are true, but for an open rank
+pub blocks_true : (net : Net) (blocks : List (List Record)) → IsNetwork net → AreValid meaning rests_on (meaning.start net) blocks → AreTrue net (earlier_of net blocks)
+blocks_true net blocks n v =
+    let g = answers_by false rests_on in_order (meaning.start net) blocks tt (valid_are_formed meaning rests_on (meaning.start net) blocks v) in
+    let w = back_by false rests_on in_order (meaning.start net) g.0 tt tt g.1 (subst (λ (x : List (List Record)). AreValid meaning rests_on (meaning.start net) x) (sym g.2) v) in
+    answers_true net g.0 blocks g.1 (valid_documents_are_true rests_on net g.0 each_built n g.1 w) g.3
+
+-- ---- the laws
+
+pub valid_are_true : ValidAreTrue
+valid_are_true net said n v = by said.robust refl
+  where
+    t : AreTrue net (earlier_of net said.blocks)
+    t = blocks_true net said.blocks n v.0
+
+    case : (robust : Robust) → said.robust ≡ robust → (robust ≡ Rests → ⊥) → (said.robust ≡ Rests) ⊎ IsCase net said.robust
+    case robust e ne = inr (case_true net (earlier_of net said.blocks) said.robust t (λ r. ne (sym e ∙ r)) v.1)
+
+    by : (robust : Robust) → said.robust ≡ robust → (said.robust ≡ Rests) ⊎ IsCase net said.robust
+    by (Yes species first second) e = case (Yes species first second) e (λ r. cc)
+    by (Number d) e = case (Number d) e (λ r. cc)
+    by None e = case None e (λ r. cc)
+    by Rests e = inl e
+
+-- the deficiency that a case says
+pub line_by : (net : Net) (robust : Robust) → IsNetwork net → IsCase net robust → (line_of robust ≡ 1) ↔ HasConfluenceLine net
+line_by net (Yes species first second) n c = let law = one_leaves_line net 1 n c.0 in (λ e. law.0 refl, λ line. refl)
+line_by net (Number d) n c = let law = one_leaves_line net d n c.0 in (λ e. absurd (omega (arith, e)), λ line. absurd (c.1 (law.1 line)))
+line_by net None n c = let law = one_leaves_line net 1 n c.0 in (λ e. law.0 refl, λ line. refl)
+line_by net Rests n c = absurd c
+
+pub valid_lines_are_true : ValidLinesAreTrue
+valid_lines_are_true net said n v ne = elim (valid_are_true net said n v) as (λ _. (line_of said.robust ≡ 1) ↔ HasConfluenceLine net) [
+  | inl rests ↦ absurd (ne rests)
+  | inr c ↦ line_by net said.robust n c
+]

@@ -1,0 +1,82 @@
+-- What is written of formed and valid answers and of the verdict that they give is a document.
+use Rattle.std.proofs.Common.{◌≡◌, ◌≤◌, ◌-◌, ◌<◌, false, List, [], ◌∷◌, length, refl, sym, subst, inl, inr, arith}
+use Rattle.std.proofs.Common.{get_or}
+use Rattle.std.specs.Prelude.{codes}
+use Rattle.std.proofs.lemmas.List.{length-append}
+use Rattle.crn_vec.specs.Network.{Net, IsNetwork}
+use Rattle.crn_vec.proofs.CallerLemmas.{vector_long}
+use Rattle.crn_cert.specs.declared.answer.Answer.{Answer}
+use Rattle.crn_cert.specs.Questions.{Earlier, Q1, Q5}
+use Rattle.crn_cert.specs.Formed.{AreFormed}
+use Rattle.crn_cert.specs.Law.{AllTrueOrOpen}
+use Rattle.crn_cert.proofs.CallerLemmas.{true_tight, is_true_tight, valid_documents_are_true}
+use Rattle.crn_ctext.specs.Documents as documents
+use Rattle.crn_ctext.specs.Answers.{all_records}
+use Rattle.crn_ctext.specs.PartBlocks.{verdicts_on}
+use Rattle.crn_ctext.specs.Meaning.{meaning}
+use Rattle.crn_ctext.proofs.CallerLemmas.{all_of, answers_few, answers_learned, built_few, formed_by, meaning_short, networks_are_small, valid_by, part_document_short}
+use Rattle.crn_robust.specs.declared.robust.Robust.{Robust}
+use Rattle.crn_robust.specs.declared.robust.Robust.TheVariants.{Yes, Number, None, Rests}
+use Rattle.crn_robust.specs.Pick.{IsPicked}
+use Rattle.crn_robust.specs.Robust.{IsCase}
+use Rattle.crn_robust_text.specs.Document.{rests_on, IsCaseBy, case_records, Said, earlier_of, AreInside, IsFormed, records, said_of, WrittenAreDocuments}
+use Rattle.crn_robust_text.proofs.TestsTrue.{AreTrue, each_built, first_closed, in_order, true_case}
+use Rattle.crn_robust_text.proofs.Answered.{records_plain, robust_is_answered, treeless}
+
+-- the numbers of the case that holds are within their ranges
+pub inside_by : (net : Net) (robust : Robust) → IsNetwork net → IsCase net robust → AreInside net robust
+inside_by net (Yes species first second) n h =
+    let p = (let l = h.4 in l.pair) in
+    let before : first - 1 < length net.complexes = omega (arith, p.before, p.inside) in
+    let width : length (get_or net.complexes (first - 1) []) ≡ length net.names = vector_long (length net.names) net.complexes n.partial.vectors (first - 1) before in
+    ((h.1, omega (arith, h.1, p.species.inside, width)), (h.2, omega (arith, h.2, before)), (h.3, omega (arith, h.3, p.inside)))
+inside_by net (Number d) n h = omega (arith, h.0.is)
+inside_by net None n h = tt
+inside_by net Rests n h = tt
+
+-- valid answers are true, but for an open rank
+answers_true : (net : Net) (answers : List Answer) → AreFormed net [] rests_on answers → AllTrueOrOpen net rests_on answers → AreTrue net (verdicts_on rests_on answers)
+answers_true net (a ∷ b ∷ c ∷ more) f t = record {
+  classes = is_true_tight net Q1 a.verdict (first_closed net [] a.verdict a.proof f.0 t.0);
+  rank = true_tight net Q5 c.verdict t.1.1.0;
+}
+answers_true net [] f t = absurd f
+answers_true net (a ∷ []) f t = absurd f.1
+answers_true net (a ∷ b ∷ []) f t = absurd f.1.1
+
+-- the verdict that they give is the case by their records, and within its ranges
+picked_by : (net : Net) (earlier : Earlier) (robust : Robust) → IsNetwork net → AreTrue net earlier → IsPicked net earlier robust → IsCaseBy net earlier robust × AreInside net robust
+picked_by net earlier robust n t (inl p) = subst (λ (r : Robust). IsCaseBy net earlier r × AreInside net r) (sym p.1) (p.0, tt)
+picked_by net earlier robust n t (inr p) = (true_case net earlier robust n t p.0 p.1, inside_by net robust n p.1)
+
+case_few : (robust : Robust) → length (case_records robust) ≤ 2
+case_few (Yes s c d) = omega arith
+case_few (Number d) = omega arith
+case_few None = omega arith
+case_few Rests = omega arith
+
+few_records : (net : Net) (said : Said) → IsNetwork net → IsFormed net said → length (records said) ≤ 400000
+few_records net said n f =
+    let few = built_few in
+    let short = meaning_short in
+    let blocks = answers_few rests_on (few.0, (few.1.0, (few.1.1.1.1.0, tt))) (omega arith, (omega arith, (omega arith, tt))) (short.0, (short.1.0, (short.1.1.1.1.0, tt))) treeless (meaning.start net) said.blocks (networks_are_small net n) f.0 in
+    omega (arith, length-append (all_of said.blocks) (case_records said.robust), blocks, case_few said.robust)
+
+pub written_are_documents : WrittenAreDocuments
+written_are_documents = λ net answers robust n formed valid picked.
+    let said = said_of net answers robust in
+    let blocks = all_records meaning rests_on (meaning.start net) answers in
+    let f : documents.AreFormed meaning rests_on (meaning.start net) blocks = formed_by false rests_on in_order (meaning.start net) answers tt formed in
+    let v : documents.AreValid meaning rests_on (meaning.start net) blocks = valid_by false rests_on in_order (meaning.start net) answers tt formed valid in
+    let same : earlier_of net blocks ≡ verdicts_on rests_on answers = answers_learned false rests_on in_order treeless (meaning.start net) answers tt formed in
+    let t = answers_true net answers formed (valid_documents_are_true rests_on net answers each_built n formed valid) in
+    let p = picked_by net (verdicts_on rests_on answers) robust n t picked in
+    let is_formed : IsFormed net said = (f, p.1) in
+    let title = robust_is_answered.title in
+    record {
+      short = part_document_short (codes "robust") net (records said) title n (records_plain net said n is_formed) (few_records net said n is_formed);
+      network = n;
+      formed = is_formed;
+      valid = (v, subst (λ (es : Earlier). IsCaseBy net es robust) (sym same) p.0);
+      is = refl;
+    }

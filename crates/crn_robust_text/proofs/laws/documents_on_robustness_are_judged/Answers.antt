@@ -1,0 +1,8 @@
+use Rattle.crn_ctext.proofs.CallerLemmas.{documents_are_judged}
+use Rattle.crn_robust_text.specs.Document.{part, meant}
+use Rattle.crn_robust_text.proofs.Settled.{course_settled}
+use Rattle.crn_robust_text.proofs.Answered.{robust_is_answered}
+use Rattle.crn_robust_text.proofs.laws.documents_on_robustness_are_judged.Goals as goal
+
+pub returns : goal.returns
+returns c = documents_are_judged part meant robust_is_answered course_settled

@@ -1,0 +1,2 @@
+-- For the contracts of private functions alone.
+pub mod LinesRead
