@@ -3,6 +3,7 @@ mod Statuses
 mod PartFacts
 mod Verified
 mod Persistence
+mod Decompositions
 mod OpenAnswers
 mod Outputs
 mod Certificates

@@ -14,6 +14,8 @@ use Rattle.crn_cert.specs.Valid.{AreValid}
 use Rattle.crn_cert.specs.TreeSizes.{HaveFewNodes}
 use Rattle.crn_cert.proofs.CallerLemmas.{formed_answers_have_formed_verdicts}
 use Rattle.crn_ctext.specs.Judged.{IsGood}
+use Rattle.crn_ctext.specs.Parts.{IsPartDocument}
+use Rattle.crn_text.specs.Spells.{Spells}
 use Rattle.crn_render.specs.Report.{render}
 use Rattle.crn_render.specs.Summary.{summary}
 use Rattle.crn_sample.specs.Sample.{sample_text}
@@ -25,7 +27,7 @@ use Rattle.crn_run.specs.Inner.Steps.{LineGives, OutputGives}
 use Rattle.crn_run.specs.declared.words.Command.TheVariants.{Report, Certify, Sample, Prove}
 use Rattle.crn_run.specs.declared.words.PartName.{PartName}
 use Rattle.crn_run.specs.declared.status.Status.{Status}
-use Rattle.crn_run.proofs.Statuses.{by_left}
+use Rattle.crn_run.proofs.Statuses.{by_left, left_as}
 use Rattle.crn_run.specs.declared.status.Status.TheVariants.{WriteFault}
 
 -- the verdicts of formed answers are formed
@@ -101,6 +103,20 @@ summary_broken number budget whole text net answers verdicts old new e a left w 
     inr (whole, out, (answers, left, is), w)
 
 -- ---- documents of parts
+
+-- the document of an answer that is true and allowed is what `prove` writes
+pub proof_of : (part : PartName) (budget : ℕ) (Open : Type 0) (status : Status) (text out : List ℕ) (net : Net) (answer : (subject_of part).Answer) → Spells text net → (subject_of part).IsTrueOf net answer
+    → (subject_of part).IsLicensed net budget answer → IsPartDocument (subject_of part).part (subject_of part).meant net answer out
+    → (Open → (subject_of part).IsOpen ((subject_of part).meant.says answer)) → ((subject_of part).IsOpen ((subject_of part).meant.says answer) → Open) → IsLeftBy Open status → IsProofOf (subject_of part) budget status text out
+proof_of part budget Open status text out net answer spells true_of licensed document there back left = record {
+  net = net;
+  answer = answer;
+  spells = spells;
+  true_of = true_of;
+  licensed = licensed;
+  left = left_as Open ((subject_of part).IsOpen ((subject_of part).meant.says answer)) status there back left;
+  document = document;
+}
 
 proof_is_output : (part : PartName) (budget : ℕ) (whole : Status) (text out : List ℕ) → IsProofOf (subject_of part) budget whole text out → IsOutput (Prove part budget) whole text out
 proof_is_output part budget whole text out p =

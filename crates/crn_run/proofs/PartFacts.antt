@@ -12,18 +12,21 @@ use Rattle.crn_render.specs.Faults.{IsDocumentCode}
 use Rattle.crn_siphon_check.specs.declared.answer.Outcome.{Outcome}
 use Rattle.crn_siphon_check.specs.declared.answer.Outcome.TheVariants.{Yes, No, Undecided}
 use Rattle.crn_siphon_text.specs.Document as persist
-use Rattle.crn_siphon_text.proofs.CallerLemmas.{course_settled, persist_is_answered}
+use Rattle.crn_siphon_text.proofs.CallerLemmas.{course_settled as persist_settled, persist_is_answered}
+use Rattle.crn_indep_text.specs.Document as parts
+use Rattle.crn_indep_text.proofs.CallerLemmas.{course_settled as parts_settled, parts_is_answered}
 use Rattle.crn_run.specs.Parts.{IsFaultyOf, IsGoodOf, IsVerdictOf, IsPartRejectionOf, Subject, course_of, persist_verdict, subject_of}
 use Rattle.crn_run.specs.Run.{rejected_line}
 use Rattle.crn_run.specs.declared.words.PartName.{PartName}
-use Rattle.crn_run.specs.declared.words.PartName.TheVariants.{Persist}
+use Rattle.crn_run.specs.declared.words.PartName.TheVariants.{Persist, Decomposition}
+use Rattle.crn_run.proofs.Decompositions.{decomposition_short}
 
 -- what is known of a part
 pub record IsKnown (s : Subject) : Type 0 where
   pub settled : IsSettled s.part.IsOwn (course_of s)
   pub judged : AreJudged s.part s.meant
   pub named : (code : ℕ) → s.part.IsOwn code → IsDocumentCode code
-  pub short : (net : Net) (read : s.Read) → IsNetwork net → length (s.verdict net read) < MAX_DOCUMENT
+  pub short : (net : Net) (answer : s.Answer) → IsNetwork net → s.meant.IsFormed net answer → length (s.verdict net (s.meant.says answer)) < MAX_DOCUMENT
 
 persist_short : (outcome : Outcome) → length (persist_verdict outcome) < MAX_DOCUMENT
 persist_short Yes = omega arith
@@ -32,10 +35,16 @@ persist_short Undecided = omega arith
 
 pub facts : (part : PartName) → IsKnown (subject_of part)
 facts Persist = record {
-  settled = course_settled;
-  judged = documents_are_judged persist.part persist.meant persist_is_answered course_settled;
+  settled = persist_settled;
+  judged = documents_are_judged persist.part persist.meant persist_is_answered persist_settled;
   named = λ code own. inr (inr (inl (own.0, omega (arith, own.1))));
-  short = λ net outcome is. persist_short outcome;
+  short = λ net answer is formed. persist_short (persist.outcome_of answer);
+}
+facts Decomposition = record {
+  settled = parts_settled;
+  judged = documents_are_judged parts.part parts.meant parts_is_answered parts_settled;
+  named = λ code own. inr (inr (inr (inl (own.0, own.1))));
+  short = decomposition_short;
 }
 
 -- ---- names of faults

@@ -97,7 +97,7 @@ check_short text out r =
 verdict_short : (part : PartName) (text out : List ℕ) → IsVerdictOf (subject_of part) text out → length out < MAX_DOCUMENT
 verdict_short part text out r =
     let s = subject_of part in
-    subst (λ (t : List ℕ). length t < MAX_DOCUMENT) (sym r.written) ((facts part).short r.net (s.meant.says r.answer) r.document.network)
+    subst (λ (t : List ℕ). length t < MAX_DOCUMENT) (sym r.written) ((facts part).short r.net r.answer r.document.network r.document.formed)
 
 part_rejection_short : (part : PartName) (text out : List ℕ) → IsPartRejectionOf (subject_of part) text out → length out < MAX_DOCUMENT
 part_rejection_short part text out r = subst (λ (t : List ℕ). length t < MAX_DOCUMENT) (sym r.written) (fault_lines_are_short.rejected r.code r.line r.short.1 r.short.0)

@@ -1,19 +1,24 @@
 -- The parts: what `prove` writes of one, and what `verify` says of its documents.
--- Source: this project's own; Angeli, De Leenheer and Sontag (2007) for the part `persist`.
+-- Source: this project's own; Angeli, De Leenheer and Sontag (2007) for the part `persist`, Feinberg
+-- (1987) for the part `parts`.
 -- Shapes: texts are lists of bytes; lines of a text count from 1.
-use Rattle.std.specs.Prelude.{◌≡◌, ℕ, List, codes}
+use Rattle.std.specs.Prelude.{◌≡◌, ◌++◌, ℕ, pos, true, if◌then◌else◌, List, map, length, codes, decimal}
 use Rattle.crn_vec.specs.Network.{Net}
 use Rattle.crn_text.specs.Spells.{Spells}
 use Rattle.crn_render.specs.Faults.{fault_line, document_name}
 use Rattle.crn_render.specs.Length.{Has32Bits}
 use Rattle.crn_ctext.specs.Course.{Course}
 use Rattle.crn_ctext.specs.Parts.{Part, Meant, IsPartDocument, IsPartFault, IsPartGood, part_course}
+use Rattle.crn_ctext.specs.Records.{line}
 use Rattle.crn_siphon_check.specs.Answers.{Said as SaidOnPersistence, IsTrueOf as IsTrueOnPersistence, IsLicensed as IsLicensedOnPersistence}
 use Rattle.crn_siphon_check.specs.declared.answer.Outcome.{Outcome}
 use Rattle.crn_siphon_check.specs.declared.answer.Outcome.TheVariants.{Yes, No, Undecided}
 use Rattle.crn_siphon_text.specs.Document.{part as persist_part, meant as persist_meant}
+use Rattle.crn_indep_check.specs.Parts.{AreTrueParts, AreLicensedParts}
+use Rattle.crn_indep_check.specs.declared.parts.Parts.{Parts as AnswerOnParts}
+use Rattle.crn_indep_text.specs.Document.{Seen, part as parts_part, meant as parts_meant}
 use Rattle.crn_run.specs.declared.words.PartName.{PartName}
-use Rattle.crn_run.specs.declared.words.PartName.TheVariants.{Persist}
+use Rattle.crn_run.specs.declared.words.PartName.TheVariants.{Persist, Decomposition}
 use Rattle.crn_run.specs.declared.status.Status.{Status}
 use Rattle.crn_run.specs.declared.status.Status.TheVariants.{Done, OpenLeft}
 
@@ -38,6 +43,15 @@ persist_verdict Yes = codes "persist: yes\n"
 persist_verdict No = codes "persist: no\n"
 persist_verdict Undecided = codes "persist: open\n"
 
+-- the line of how many parts a decomposition has, and of their ranks
+abbrev pub ranks_line : (ranks : List ℕ) → List ℕ
+ranks_line ranks = line (codes "parts: " ++ decimal (length ranks) ++ codes ", ranks") (map pos ranks)
+
+-- the line of a verdict on the finest independent decomposition
+abbrev pub parts_verdict : Seen → List ℕ
+parts_verdict seen =
+    if seen.undecided then codes "parts: open\n" else ranks_line seen.ranks
+
 -- what each part is about
 abbrev pub subject_of : PartName → Subject
 subject_of Persist = record {
@@ -49,6 +63,16 @@ subject_of Persist = record {
   IsLicensed = IsLicensedOnPersistence;
   IsOpen = λ outcome. outcome ≡ Undecided;
   verdict = λ net outcome. persist_verdict outcome;
+}
+subject_of Decomposition = record {
+  Answer = AnswerOnParts;
+  Read = Seen;
+  part = parts_part;
+  meant = parts_meant;
+  IsTrueOf = AreTrueParts;
+  IsLicensed = λ net budget answer. AreLicensedParts net answer;
+  IsOpen = λ seen. seen.undecided ≡ true;
+  verdict = λ net seen. parts_verdict seen;
 }
 
 -- ---- what is written

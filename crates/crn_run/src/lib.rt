@@ -8,6 +8,7 @@ mod parts;
 mod runner;
 mod status;
 mod summary;
+mod verdicts;
 mod words;
 
 pub use crn_sample::sample;

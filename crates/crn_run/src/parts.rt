@@ -1,23 +1,26 @@
-ghost use Rattle.std.specs.Prelude.{◌≡◌, ◌≤◌, ◌↔◌, ℕ, List, IsTrue};
+ghost use Rattle.std.specs.Prelude.{◌≡◌, ◌≤◌, ◌↔◌, ℕ, List, IsTrue, true};
 ghost use Rattle.crn_vec.specs.declared.limits.TheConstants.{MAX_BUDGET};
 ghost use Rattle.crn_siphon_check.specs.Answers.{said_of};
 ghost use Rattle.crn_siphon_check.specs.declared.answer.Outcome.TheVariants.{Undecided};
 ghost use Rattle.crn_siphon_text.specs.Document.{outcome_of};
-ghost use Rattle.crn_run.specs.Parts.{persist_verdict};
+ghost use Rattle.crn_indep_text.specs.Document.{seen_of};
 ghost use Rattle.crn_run.specs.Run.{RunGives};
 ghost use Rattle.crn_run.specs.Words.{IsCommand};
-ghost use Rattle.crn_run.specs.Inner.Steps.{LineGives, NetworkGives};
+ghost use Rattle.crn_run.specs.Inner.Steps.{NetworkGives};
 ghost use Rattle.crn_run.specs.declared.words.Command.TheVariants.{Prove, Verify};
-ghost use Rattle.crn_run.specs.declared.words.PartName.TheVariants.{Persist as PersistPart};
-ghost use Rattle.crn_run.specs.declared.status.Status.TheVariants.{Done};
+ghost use Rattle.crn_run.specs.declared.words.PartName.TheVariants.{Persist as PersistPart, Decomposition};
 
 use crate::output::{end_without_document, status_by};
 use crate::status::Status;
+use crate::verdicts::{write_decomposition, write_persistence};
 use crate::words::PartName;
-use crn_io::{Sink, Source, put_all};
+use crn_indep::decompose;
+use crn_indep_check::{Parts, valid_answers_on_decompositions_are_true};
+use crn_indep_text::{verify_parts, write_parts, written_documents_on_decompositions_are_good};
+use crn_io::{Sink, Source};
 use crn_net::Network;
 use crn_siphon::persist;
-use crn_siphon_check::{Outcome, Persist, valid_answers_on_persistence_are_true};
+use crn_siphon_check::{Persist, valid_answers_on_persistence_are_true};
 use crn_siphon_text::{verify_persist, write_persist, written_documents_on_persistence_are_good};
 use std::alloc::Global;
 
@@ -35,6 +38,7 @@ pub(crate) fn prove<K: Sink>(
 {
     match part {
         PartName::Persist => prove_persist(alloc, net, budget, sink),
+        PartName::Decomposition => prove_parts(alloc, net, sink),
     }
 }
 
@@ -51,16 +55,7 @@ pub(crate) fn verify<S: Source, K: Sink>(
 {
     match part {
         PartName::Persist => check_persist(alloc, source, sink),
-    }
-}
-
-// Writes the line of a verdict. Takes no memory.
-fn put_verdict<K: Sink>(line: &[u8], sink: &mut K) -> Status
-    ensures { LineGives Done result line.now (K.seen sink.old) (K.seen sink.new) }
-{
-    match put_all(sink, line) {
-        Ok(()) => Status::Done,
-        Err(_) => Status::WriteFault,
+        PartName::Decomposition => check_parts(alloc, source, sink),
     }
 }
 
@@ -96,17 +91,6 @@ fn prove_persist<K: Sink>(alloc: Global, net: &Network, budget: u32, sink: &mut 
     }
 }
 
-// The line of a verdict on persistence.
-fn persist_line(outcome: Outcome) -> &'static [u8]
-    ensures { result.now ≡ persist_verdict outcome }
-{
-    match outcome {
-        Outcome::Yes => b"persist: yes\n",
-        Outcome::No => b"persist: no\n",
-        Outcome::Undecided => b"persist: open\n",
-    }
-}
-
 // Checks a document on persistence, and writes its verdict or why it is rejected.
 fn check_persist<S: Source, K: Sink>(alloc: Global, source: &mut S, sink: &mut K) -> Status
     ensures { (words : List (List ℕ)) → IsCommand words (Verify PersistPart) → RunGives result words
@@ -115,7 +99,47 @@ fn check_persist<S: Source, K: Sink>(alloc: Global, source: &mut S, sink: &mut K
 {
     valid_answers_on_persistence_are_true();
     match verify_persist(alloc, source) {
-        Ok(outcome) => put_verdict(persist_line(outcome), sink),
+        Ok(outcome) => write_persistence(outcome, sink),
+        Err(stop) => end_without_document(stop, sink),
+    }
+}
+
+// ---- the part `parts`
+
+// Whether a decomposition is open.
+fn is_open(answer: &Parts) -> bool
+    ensures { IsTrue result ↔ ((seen_of answer.now).undecided ≡ true) }
+{
+    matches!(answer, Parts::Wide { .. })
+}
+
+// Finds the finest independent decomposition of a network, and writes its document. No search is bounded by a budget.
+fn prove_parts<K: Sink>(alloc: Global, net: &Network, sink: &mut K) -> Status
+    ensures { (budget : ℕ) → NetworkGives (Prove Decomposition budget) result net.now
+        (K.seen sink.old) (K.seen sink.new) }
+{
+    let answer = match decompose(alloc, net) {
+        Ok(answer) => answer,
+        Err(_) => return Status::NoMemory,
+    };
+    let whole = status_by(is_open(&answer));
+    written_documents_on_decompositions_are_good();
+    match write_parts(net, &answer, sink) {
+        Ok(()) => whole,
+        Err(_) => Status::WriteFault,
+    }
+}
+
+// Checks a document on the finest independent decomposition, and writes its verdict or why it is rejected.
+fn check_parts<S: Source, K: Sink>(alloc: Global, source: &mut S, sink: &mut K) -> Status
+    ensures { (words : List (List ℕ)) → IsCommand words (Verify Decomposition) →
+        RunGives result words
+        (record { source = S.seen source.old; sink = K.seen sink.old })
+        (record { source = S.seen source.new; sink = K.seen sink.new }) }
+{
+    valid_answers_on_decompositions_are_true();
+    match verify_parts(alloc, source) {
+        Ok(seen) => write_decomposition(&seen, sink),
         Err(stop) => end_without_document(stop, sink),
     }
 }

@@ -17,6 +17,8 @@ use std::alloc::Global;
 pub enum PartName {
     /// Whether each siphon contains the species of a conservation law.
     Persist,
+    /// The finest independent decomposition of the reactions.
+    Decomposition,
 }
 
 /// What the words of a command line ask for.
@@ -176,6 +178,7 @@ fn part_meant(name: &str) -> Option<PartName>
 {
     match name {
         "persist" => Some(PartName::Persist),
+        "parts" => Some(PartName::Decomposition),
         _ => None,
     }
 }

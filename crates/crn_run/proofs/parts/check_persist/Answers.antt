@@ -1,4 +1,4 @@
-use Rattle.std.proofs.Common.{ap, sym, ◌∙◌}
+use Rattle.std.proofs.Common.{ap, sym}
 use Rattle.crn_run.specs.Parts.{persist_verdict}
 use Rattle.crn_siphon_text.specs.Document.{IsOutcomeOf}
 use Rattle.crn_run.specs.declared.words.PartName.TheVariants.{Persist}
@@ -10,8 +10,8 @@ end_without_document-requires g c = stop_named Persist c.in-Err.stop IsOutcomeOf
 
 pub returns-in-Ok : goal.returns-in-Ok
 returns-in-Ok g c = λ words said.
-    verdict_ends Persist c.put_verdict.result words (IsOutcomeOf c.in-Ok.outcome) _ _ _ c.valid_answers_on_persistence_are_true.ensures said c.in-Ok.ensures.gives
-    (λ given is. c.persist_line.ensures ∙ ap persist_verdict (sym is)) c.put_verdict.ensures
+    verdict_ends Persist c.write_persistence.result words (IsOutcomeOf c.in-Ok.outcome) _ _ _ c.valid_answers_on_persistence_are_true.ensures said c.in-Ok.ensures.gives
+    (λ given is. ap persist_verdict (sym is)) c.write_persistence.ensures
 
 pub returns-in-Err : goal.returns-in-Err
 returns-in-Err g c = λ words said. verify_stop_ends Persist c.in-Err.stop c.end_without_document.result words IsOutcomeOf _ _ said c.in-Err.ensures.gives c.end_without_document.ensures

@@ -1,5 +1,4 @@
-use Rattle.crn_run.proofs.Persistence.{proves_part}
 use Rattle.crn_run.proofs.parts.prove.Goals as goal
 
-pub returns : goal.returns
-returns g c = proves_part c.args.part c.args.budget c.prove_persist.result c.args.net.now _ _ c.prove_persist.ensures
+pub returns-in-Decomposition : goal.returns-in-Decomposition
+returns-in-Decomposition g c = rw c.in-Decomposition.is (c.prove_parts.ensures c.args.budget)

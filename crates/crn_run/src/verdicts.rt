@@ -1,0 +1,78 @@
+ghost use Rattle.std.specs.Prelude.{◌≡◌, ◌++◌, decimal, List, ℕ};
+ghost use Rattle.crn_io.specs.Device.{SinkSeen};
+ghost use Rattle.crn_io.specs.Write.{Wrote};
+ghost use Rattle.crn_run.specs.Parts.{parts_verdict, persist_verdict, ranks_line};
+ghost use Rattle.crn_run.specs.Inner.Steps.{LineGives};
+ghost use Rattle.crn_run.specs.declared.status.Status.TheVariants.{Done};
+
+use crate::status::Status;
+use crn_ctext::put_nums;
+use crn_indep_text::PartsSeen;
+use crn_io::{Sink, WriteFault, put_all, put_parts};
+use crn_siphon_check::Outcome;
+use itoa::Buffer;
+
+// The line of a verdict on persistence.
+fn persist_line(outcome: Outcome) -> &'static [u8]
+    ensures { result.now ≡ persist_verdict outcome }
+{
+    match outcome {
+        Outcome::Yes => b"persist: yes\n",
+        Outcome::No => b"persist: no\n",
+        Outcome::Undecided => b"persist: open\n",
+    }
+}
+
+// A number between two texts.
+fn put_number<K: Sink>(
+    before: &[u8],
+    number: usize,
+    after: &[u8],
+    sink: &mut K,
+) -> Result<(), WriteFault>
+    ensures { Wrote (before.now ++ decimal number ++ after.now)
+        (K.seen sink.old) (K.seen sink.new) result }
+{
+    let mut buffer = Buffer::new();
+    put_parts(sink, &[before, buffer.format(number).as_bytes(), after])
+}
+
+// The line of how many parts a decomposition has, and of their ranks.
+fn put_ranks<K: Sink>(ranks: &[u32], sink: &mut K) -> Result<(), WriteFault>
+    ensures { Wrote (ranks_line ranks.now) (K.seen sink.old) (K.seen sink.new) result }
+{
+    put_number(b"parts: ", ranks.len(), b", ranks", sink)?;
+    put_nums(sink, ranks)?;
+    put_all(sink, b"\n")
+}
+
+// The status of a run that wrote a verdict, or was to.
+fn status_written(wrote: Result<(), WriteFault>) -> Status
+    ensures { (out : List ℕ) (old new : SinkSeen) → Wrote out old new wrote →
+        LineGives Done result out old new }
+{
+    match wrote {
+        Ok(()) => Status::Done,
+        Err(_) => Status::WriteFault,
+    }
+}
+
+/// Writes the verdict on persistence that was read. Takes no memory.
+pub(crate) fn write_persistence<K: Sink>(outcome: Outcome, sink: &mut K) -> Status
+    ensures { LineGives Done result (persist_verdict outcome)
+        (K.seen sink.old) (K.seen sink.new) }
+{
+    status_written(put_all(sink, persist_line(outcome)))
+}
+
+/// Writes the verdict on the finest independent decomposition that was read. Takes no memory.
+pub(crate) fn write_decomposition<K: Sink>(seen: &PartsSeen, sink: &mut K) -> Status
+    ensures { LineGives Done result
+        (parts_verdict (record { undecided = seen.now.undecided; ranks = seen.now.ranks.list }))
+        (K.seen sink.old) (K.seen sink.new) }
+{
+    if seen.undecided {
+        return status_written(put_all(sink, b"parts: open\n"));
+    }
+    status_written(put_ranks(seen.ranks.as_slice(), sink))
+}
