@@ -1,0 +1,10 @@
+pub mod CallerLemmas
+mod TestsDecided
+mod Settled
+mod Nodes
+mod Answered
+mod TreesRead
+mod LinesRead
+mod VerdictsRead
+mod Written
+mod ShortDocuments

@@ -1,0 +1,9 @@
+use Rattle.std.proofs.Common.{[], ◌∷◌}
+use Rattle.crn_ctext.specs.Kinds.{end_form}
+use Rattle.crn_reading.proofs.CallerLemmas.{forms_named}
+use Rattle.crn_endo_text.specs.Document.{words}
+use Rattle.crn_endo_text.proofs.LinesRead.{last_forms_are}
+use Rattle.crn_endo_text.proofs.lines.next_last.Goals as goal
+
+pub returns-clause-step : goal.returns-clause-step
+returns-clause-step g c = forms_named words _ (end_form ∷ []) c.next_of.result c.args.at.now c.next_of.new.at _ _ last_forms_are c.next_of.ensures.step

@@ -1,0 +1,13 @@
+use Rattle.crn_reading.proofs.CallerLemmas.{document_gives, document_answered}
+use Rattle.crn_endo_text.specs.Document.{IsSeenOf, part}
+use Rattle.crn_endo_text.proofs.Settled.{course_settled}
+use Rattle.crn_endo_text.proofs.verify.verify_endo.Goals as goal
+
+pub returns-clause-gives : goal.returns-clause-gives
+returns-clause-gives g c = document_gives part IsSeenOf c.next_document.result c.in_ok-at.at _ _ c.in_ok-at.ensures c.next_document.ensures
+
+pub returns-clause-answered : goal.returns-clause-answered
+returns-clause-answered g c =
+    let before = g.S.Source.seen c.args.source.now in
+    let now = g.S.Source.seen c.next_document.new.source in
+    document_answered part IsSeenOf c.next_document.result before now course_settled (document_gives part IsSeenOf c.next_document.result c.in_ok-at.at before now c.in_ok-at.ensures c.next_document.ensures)

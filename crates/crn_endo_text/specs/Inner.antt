@@ -1,0 +1,3 @@
+-- For the contracts of private functions alone.
+pub mod TreesRead
+pub mod Written
