@@ -1,13 +1,12 @@
 -- Verdicts of the part `parts` are short.
-use Rattle.std.proofs.Common.{◌≡◌, ◌+◌, ◌*◌, ◌^◌, ◌<◌, ◌≤◌, ◌==◌, ◌++◌, ℕ, List, [], ◌∷◌, length, map, refl, arith}
+use Rattle.std.proofs.Common.{◌≡◌, ◌+◌, ◌*◌, ◌^◌, ◌<◌, ◌≤◌, ◌==◌, ◌++◌, ℕ, List, [], ◌∷◌, length, map, arith}
 use Rattle.std.specs.Prelude.{pos, codes, decimal, filter}
 use Rattle.std.specs.List.{AllByRecursion, range_with_len}
 use Rattle.std.proofs.lemmas.Fmt.{length-decimal-le_wide}
 use Rattle.std.proofs.lemmas.List.{length-append}
-use Rattle.std.proofs.lemmas.List.Filters.{length-filter_both}
 use Rattle.std.proofs.lemmas.List.FromFn.{length-range_with_len, length-map-range_with_len}
-use Rattle.std.specs.Prelude.{Bool, not}
 use Rattle.crn_vec.specs.Network.{Net, IsNetwork}
+use Rattle.crn_vec.proofs.CallerLemmas.{filter_few}
 use Rattle.crn_io.specs.declared.lines.TheConstants.{MAX_DOCUMENT}
 use Rattle.crn_ctext.specs.Records.{numbers_text}
 use Rattle.crn_indep_check.specs.declared.parts.Parts.{Parts}
@@ -18,16 +17,10 @@ use Rattle.crn_indep_check.specs.Shown.{greatest, part_ranks}
 use Rattle.crn_indep_text.specs.Document.{seen_of}
 use Rattle.crn_run.specs.Parts.{parts_verdict, ranks_line}
 
-number_most : (n : ℕ) → n ≤ 1000 → length (decimal n) ≤ 30
-number_most n le = length-decimal-le_wide 30 n (omega arith) (omega (arith, le)) (omega (arith, le))
-
 -- numbers that are no greater than 1,000, each after a space
 numbers_most : (f : ℕ → ℕ) (ks : List ℕ) → ((k : ℕ) → f k ≤ 1000) → length (numbers_text (map pos (map f ks))) ≤ 31 * length ks
 numbers_most f [] h = omega arith
-numbers_most f (k ∷ ks) h = omega (arith, number_most (f k) (h k), numbers_most f ks h, length-append (32 ∷ decimal (f k)) (numbers_text (map pos (map f ks))))
-
-kept_most : (p : ℕ → Bool) (xs : List ℕ) → length (filter p xs) ≤ length xs
-kept_most p xs = omega (arith, length-filter_both p (λ x. not (p x)) (λ x. refl) xs)
+numbers_most f (k ∷ ks) h = omega (arith, length-decimal-le_wide 30 (f k) (omega arith) (omega (arith, h k)) (omega (arith, h k)), numbers_most f ks h, length-append (32 ∷ decimal (f k)) (numbers_text (map pos (map f ks))))
 
 greatest_most : (most : ℕ) (xs : List ℕ) → AllByRecursion (λ x. (1 ≤ x) × (x ≤ most)) xs → greatest xs ≤ most
 greatest_most most [] h = omega arith
@@ -45,7 +38,7 @@ line_most f count few h =
       many,
       length-range_with_len 1 count,
       few,
-      number_most (length ns) (omega (arith, many, few)),
+      length-decimal-le_wide 30 (length ns) (omega arith) (omega (arith, many, few)) (omega (arith, many, few)),
       numbers_most f ks h,
       length-append (codes "parts: ") (decimal (length ns)),
       length-append head (codes ", ranks"),
@@ -65,4 +58,4 @@ decomposition_short net (Split rank label up depth) n formed =
     let long = proof.long in
     line_most (λ k. length (filter (λ r. label_of label.list r == k) rank.base.list)) (greatest label.list)
     (omega (arith, reactions, greatest_most (length net.reactions) label.list labels.each))
-    (λ k. omega (arith, long, within.1, species, kept_most (λ r. label_of label.list r == k) rank.base.list))
+    (λ k. omega (arith, long, within.1, species, filter_few (λ r. label_of label.list r == k) rank.base.list))
