@@ -13,13 +13,13 @@ ROOT = Path(__file__).resolve().parent.parent
 DATA, DOCUMENT = ROOT / "docs" / "conclusions.json", ROOT / "docs" / "CONCLUSIONS.md"
 HEAD = "| if the report says | kinetics | what follows | what does not | theorem |\n|---|---|---|---|---|\n"
 FIELDS = ["id", "title", "requires", "kinetics", "concludes", "does_not_follow", "theorem", "source", "provided"]
-# in the rows on parts
-PART_FIELDS = ["verdict" if field == "requires" else field for field in FIELDS]
 
 
 def condition(it):
     """A condition in words: the line, and how it begins or doesn't."""
     said = ", ".join(it.get("says", it.get("says_not")))
+    if "part" in it:
+        return f"`{it['part']}` not `{said}`" if "says_not" in it else f"`{it['part']}: {said}`"
     if "says_not" in it:
         return f"Q{it['question']} not `{said}`"
     return f"Q{it['question']} `{said}`" if said else f"Q{it['question']}"
@@ -31,8 +31,7 @@ def table_row(row, sources):
         follows = f"If the definitions agree, see above: {follows[0].lower()}{follows[1:]}"
     cited = "; ".join(sources[key]["cite"] for key in row["source"])
     theorem = ": ".join(part for part in (row["theorem"], cited) if part)
-    asked = f"`{row['verdict']}`" if "verdict" in row else " and ".join(map(condition, row["requires"]))
-    cells = [asked, row["kinetics"] if row["kinetics"] != "none" else "",
+    cells = [" and ".join(map(condition, row["requires"])), row["kinetics"] if row["kinetics"] != "none" else "",
              follows, " ".join(row["does_not_follow"]), theorem]
     return "| " + " | ".join(cells) + " |\n"
 
@@ -41,7 +40,7 @@ def table(data, heading):
     """The table below a heading: the rows whose first condition is on one of its lines, or those on its part."""
     part = re.fullmatch(r"### Part `(\w+)`", heading)
     if part:
-        return HEAD + "".join(table_row(row, data["sources"]) for row in data["parts"] if row["verdict"].startswith(f"{part[1]}: "))
+        return HEAD + "".join(table_row(row, data["sources"]) for row in data["parts"] if row["requires"][0]["part"] == part[1])
     lines = [int(number) for number in re.findall(r"Q(\d+)", heading)]
     rows = [row for row in data["rows"] if row["requires"][0]["question"] in lines]
     return HEAD + "".join(table_row(row, data["sources"]) for row in rows)
@@ -79,17 +78,18 @@ def claims(data, document):
     yield "each heading has a table", document.count(HEAD) == len(re.findall(r"^### (?:Q|Part )", document, re.MULTILINE))
     yield "each question has a row that begins with it", {k for k in range(1, 16)} <= first | {2}
     shown = re.findall(r"^### Part `(\w+)`$", document, re.MULTILINE)
-    yield "each part has its heading", shown == list(dict.fromkeys(row["verdict"].split(": ")[0] for row in data["parts"]))
+    yield "each part has its heading", shown == list(dict.fromkeys(row["requires"][0]["part"] for row in data["parts"]))
     rows = [*data["rows"], *data["parts"]]
-    yield "the head has the fields", list(data["fields"]) == [*FIELDS, "verdict"]
+    yield "the head has the fields", list(data["fields"]) == FIELDS
     for row in rows:
-        yield f"{row['id']} has the fields of the head", list(row) == (PART_FIELDS if row in data["parts"] else FIELDS)
+        yield f"{row['id']} has the fields of the head", list(row) == FIELDS
         yield f"{row['id']} has a kinetics of the head", row["kinetics"] in data["kinetics"]
         yield f"{row['id']} has sources that are there", all(key in data["sources"] for key in row["source"])
         yield f"{row['id']} names no theorem where nothing follows", bool(row["concludes"]) == bool(row["theorem"])
-        for it in row.get("requires", []):
-            yield f"{row['id']} asks for a line", set(it) in ({"question", "says"}, {"question", "says_not"}) \
-                and 1 <= it["question"] <= 15
+        place = "part" if row in data["parts"] else "question"
+        for it in row["requires"]:
+            yield f"{row['id']} asks for a line", set(it) in ({place, "says"}, {place, "says_not"}) \
+                and (place == "part" and it["part"] == row["requires"][0]["part"] or place == "question" and 1 <= it["question"] <= 15)
     yield "each row has an id of its own", len({row["id"] for row in rows}) == len(rows)
 
 

@@ -56,15 +56,10 @@ def data() -> dict[str, Any]:
     return found
 
 
-def parts_of(report: Report, question: int) -> list[str]:
-    """What a line says, in parts: `hypotheses hold` and `weakly reversible`."""
-    return report.said(question).split(", ")
-
-
-def holds(report: Report, condition: dict[str, Any]) -> bool:
-    """Whether a condition of a row holds."""
+def holds(said: str, condition: dict[str, Any]) -> bool:
+    """Whether a condition of a row holds of what its line says, as `hypotheses hold, weakly reversible`."""
     wanted = condition.get("says", condition.get("says_not"))
-    begins: bool = parts_of(report, condition["question"])[: len(wanted)] == wanted
+    begins: bool = said.split(", ")[: len(wanted)] == wanted
     return begins if "says" in condition else not begins
 
 
@@ -76,15 +71,16 @@ def conclude(report: Report) -> list[Conclusion]:
     """The rows that apply to a report, those from which nothing follows among them, in the order of the questions."""
     found = []
     for row in data()["rows"]:
-        if all(holds(report, condition) for condition in row["requires"]):
+        if all(holds(report.said(condition["question"]), condition) for condition in row["requires"]):
             lines = tuple(dict.fromkeys(line_of(report, condition["question"]) for condition in row["requires"]))
             found.append(conclusion(row, lines))
     return found
 
 
 def conclude_part(proof: Proof) -> list[Conclusion]:
-    """The rows that apply to the verdict of a part document."""
-    return [conclusion(row, (proof.verdict,)) for row in data()["parts"] if row["verdict"] == proof.verdict]
+    """The rows that apply to the verdict of a part document; to an open one none does."""
+    return [conclusion(row, (proof.verdict,)) for row in data()["parts"] if not proof.is_open
+            and all(condition["part"] == proof.part and holds(proof.said, condition) for condition in row["requires"])]
 
 
 def conclusion(row: dict[str, Any], lines: tuple[str, ...]) -> Conclusion:
