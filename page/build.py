@@ -19,7 +19,7 @@ import sys
 HERE = pathlib.Path(__file__).resolve().parent
 
 # Each after those that it imports from.
-SCRIPTS = ["run", "program", "report", "conclusions", "cures", "order", "explain", "evidence", "layered", "springs", "picture", "pointer", "persist", "view", "files", "faults", "page"]
+SCRIPTS = ["run", "program", "report", "conclusions", "cures", "order", "explain", "evidence", "layered", "springs", "picture", "pointer", "proof", "persist", "proofs", "view", "files", "faults", "page"]
 
 
 # ---- the documents
@@ -70,7 +70,7 @@ def advice(root):
 def rejections(root):
     """What each code of a rejection means: the tests of a line's form, and those of the meaning of a record."""
     forms, tests, code = {}, [], None
-    for row in rows(section(root, "Rejections") + section(root, "Persistence by siphons")):
+    for row in rows(section(root, "Rejections") + section(root, "Parts")):
         if len(row) == 3 and row[0].isdigit():
             forms.setdefault(row[0], []).append(sentence(row[2]))
         elif len(row) == 3 and re.match(r"\d+", row[2]):

@@ -3,14 +3,16 @@
 // Whether the parts of a verdict begin with these.
 const begins = (parts, says) => says.every((part, at) => parts[at] === part);
 
-function holds({ question, says, says_not }, report) {
-    const { parts } = report.questions[question - 1];
-    return says ? begins(parts, says) : !begins(parts, says_not);
-}
+const holds = ({ says, says_not }, parts) => says ? begins(parts, says) : !begins(parts, says_not);
 
 // The rows that apply to a report.
 export function rowsOf(conclusions, report) {
-    return conclusions.rows.filter(row => row.requires.every(condition => holds(condition, report)));
+    return conclusions.rows.filter(row => row.requires.every(condition => holds(condition, report.questions[condition.question - 1].parts)));
+}
+
+// The rows that apply to the verdict of a part document, if it is not open.
+export function rowsOfPart(conclusions, part, parts) {
+    return conclusions.parts.filter(row => parts[0] !== 'open' && row.requires.every(condition => condition.part === part && holds(condition, parts)));
 }
 
 // The questions whose rows a reader wants first: what is said of steady states before what is said of the structure.

@@ -1,4 +1,5 @@
 // What a text or a file is that is no network text, or no certificate, and what the page can make of it.
+import { PARTS } from './proofs.js';
 
 const leads = (bytes, ...first) => first.every((byte, at) => bytes[at] === byte);
 const isWide = bytes => leads(bytes, 0xff, 0xfe) || leads(bytes, 0xfe, 0xff);
@@ -70,7 +71,7 @@ export function remedyOfCertificate(bytes, fault) {
     }
     const odd = fault.code <= 30 || fault.code === 43 ? strictly(bytes, decoded(bytes)) : [];
     const isWhole = /\nend\n$/.test(text);
-    if (isPart && fault.code === 21 && !odd.length) return { says: 'The one part that is known here is `persist`: its documents begin with the line `crn part persist 1`.' };
+    if (isPart && fault.code === 21 && !odd.length) return { says: `A part document begins with a line as \`crn part persist 1\`; the parts that are known here are ${Object.keys(PARTS).map(part => `\`${part}\``).join(', ')}.` };
     if (odd.length && (isWhole || fault.line === 1)) return { says: `The ${what} has ${odd.join(' and ')}, which is not how ${what}s are written.`, does: 'recheck', label: 'Convert and check it' };
     if (isWhole || ![27, 43].includes(fault.code)) return null;
     return { says: `The ${what} ends before its last line, \`end\`: only a part of it was saved or copied. Make it again from its network.`, does: 'network', label: 'Open its network' };

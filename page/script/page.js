@@ -6,7 +6,8 @@ import { reordered } from './order.js';
 import { PRINTED, complexPicture, escaped, speciesPicture } from './picture.js';
 import { Pointer } from './pointer.js';
 import { conclusionsView, divided, linesView, proofView, summary } from './view.js';
-import { proofVerdict, readProof } from './persist.js';
+import { readProof } from './proof.js';
+import { PARTS, proofVerdict, saidParts } from './proofs.js';
 import { treeWords, treesIn } from './evidence.js';
 import { plain, remedyOfCertificate, remedyOfText } from './files.js';
 import { readFault, refusalView, rejectionView } from './faults.js';
@@ -31,7 +32,7 @@ let now = null; // what is shown: the report and the reactions
 let turn = 0; // of the run that may still say something
 let proposed = null; // a line that the program accepts in the place of the refused one
 let made = null; // the certificate that was made
-let proof = null; // the document on persistence that was written
+let proof = null; // the part document that was written
 
 // ---- the text
 
@@ -378,8 +379,9 @@ async function certify() {
 async function check(bytes) {
     show('rejection', false);
     show('save-certificate', false);
-    const isPart = textOf(bytes.subarray(0, 9)) === 'crn part ';
-    const done = await aside('certified', 'stop-certificate', isPart ? ['verify', 'persist'] : ['check'], bytes);
+    const [isPart, part] = /^crn part (\w*)/.exec(textOf(bytes.subarray(0, 40))) || [];
+    // A title that names no part that is known is left to the program to reject.
+    const done = await aside('certified', 'stop-certificate', isPart ? ['verify', Object.keys(PARTS).includes(part) ? part : 'persist'] : ['check'], bytes);
     if (!done) return;
     const out = textOf(done.out), fault = done.status === 3 && readFault(out);
     if (fault) {
@@ -393,8 +395,9 @@ async function check(bytes) {
     const document_ = textOf(bytes);
     if (isPart) {
         setText(networkIn(document_));
+        choosePart(part);
         showProof(bytes);
-        return sayCertified(`the document is good: ${out.trim()}`, 'good');
+        return sayCertified(`the document is good: ${onOneLine(out)}`, 'good');
     }
     clearTimeout(waiting);
     program.stop();
@@ -406,11 +409,17 @@ async function check(bytes) {
     sayCertified('the certificate is good; its network and its report are shown', 'good');
 }
 
-const MOODS = { 'persist: yes': 'good', 'persist: open': 'open' };
+// The lines of a verdict on one, and how it is coloured.
+const onOneLine = verdict => verdict.trim().replace('\n', '; ');
+const MOODS = { yes: 'good', 'hypotheses hold': 'good', open: 'open' };
 
 function sayProved(text, mood = '') {
     $('proved').className = mood;
     $('proved').textContent = text;
+}
+
+function sayVerdict(verdict, before = '') {
+    sayProved(before + onOneLine(verdict), MOODS[saidParts(verdict)[0]]);
 }
 
 function forgetProof() {
@@ -418,27 +427,39 @@ function forgetProof() {
     sayProved('');
 }
 
+function listParts() {
+    $('part').innerHTML = Object.entries(PARTS).map(([part, { title }]) => `<option value="${part}">${escaped(title)}</option>`).join('');
+    choosePart($('part').value);
+}
+
+function choosePart(part) {
+    $('part').value = part;
+    $('asks').textContent = `${PARTS[part].asks} The answer is a document with the evidence, which is checked like a certificate.`;
+    forgetProof();
+}
+
 function showProof(bytes) {
-    const read = readProof(textOf(bytes)), verdict = proofVerdict(read);
+    const read = readProof(textOf(bytes));
     proof = bytes;
     $('proof').innerHTML = proofView(read, data.conclusions);
     for (const id of ['proof', 'verify', 'save-proof']) show(id, true);
-    sayProved(verdict, MOODS[verdict]);
+    sayVerdict(proofVerdict(read));
 }
 
 async function prove() {
     forgetProof();
-    const done = await aside('proved', 'stop-proof', ['prove', 'persist', '--budget', $('budget').value], typed());
+    const done = await aside('proved', 'stop-proof', ['prove', $('part').value, '--budget', $('budget').value], typed());
     if (!done) return;
     if (done.status > 1) return sayProved(done.status === 2 ? 'the text is refused, so there is nothing to ask' : STATUS[done.status], 'bad');
     showProof(done.out);
 }
 
 async function verifyProof() {
-    const done = await aside('proved', 'stop-proof', ['verify', 'persist'], proof);
+    const done = await aside('proved', 'stop-proof', ['verify', $('part').value], proof);
     if (!done) return;
-    const out = textOf(done.out).trim();
-    sayProved(done.status === 0 ? `checked again: ${out}` : out || STATUS[done.status], done.status === 0 ? MOODS[out] : 'bad');
+    const out = textOf(done.out);
+    if (done.status === 0) return sayVerdict(out, 'checked again: ');
+    sayProved(out.trim() || STATUS[done.status], 'bad');
 }
 
 async function trySample() {
@@ -571,9 +592,10 @@ function wire() {
     for (const id of ['refusal', 'rejection']) on(id, 'click', press);
     on('certify', 'click', certify);
     on('save-certificate', 'click', () => save(`${name}.cert`, made));
+    on('part', 'change', () => choosePart($('part').value));
     on('prove', 'click', prove);
     on('verify', 'click', verifyProof);
-    on('save-proof', 'click', () => save(`${name}.persist`, proof));
+    on('save-proof', 'click', () => save(`${name}.${$('part').value}`, proof));
     on('sample', 'click', trySample);
     for (const id of ['stop-certificate', 'stop-proof', 'stop-sample']) on(id, 'click', () => helper.stop());
     on('lines', 'click', event => {
@@ -614,6 +636,7 @@ function start() {
     [program, helper] = [new Program(module), new Program(module)];
     show('unable', false);
     document.querySelector('main').hidden = false;
+    listParts();
     wire();
     if (!fromLink()) take(data.examples.find(one => one.name === 'two_site_futile_cycle'));
 }

@@ -1,20 +1,8 @@
-// What a document on persistence says in words and names: its verdict, and the evidence for it.
-import { signed, sum } from './explain.js';
+// What a document on persistence says in words and names.
+import { sum } from './explain.js';
+import { several, spentEvidence, times, wideEvidence } from './proof.js';
 
-// A document: its species, its reactions, and the lines of the part, each as a word and numbers, which stay as they are written.
-export function readProof(text) {
-    const lines = text.split('\n'), count = Number(lines[1].split(' ')[1]), reactions = lines.slice(2, 2 + count);
-    const said = lines.slice(2 + count, lines.indexOf('end')).map(line => line.split(' ')).map(([word, ...numbers]) => ({ word, numbers }));
-    return { species: [...new Set(reactions.join(' ').match(/[A-Za-z_]\w*/g))], reactions, said };
-}
-
-// The verdict, as `verify persist` writes it.
-export const proofVerdict = ({ said }) => `persist: ${{ yes: 'yes', no: 'no' }[said[0].word] || 'open'}`;
-
-const times = (reactions, numbers) => reactions.map((text, at) => [text, signed(numbers[at])]).filter(([, number]) => number !== '0');
-const several = (count, one, many = one + 's') => `${count.toLocaleString('en')} ${count === 1 ? one : many}`;
-
-function yes({ species, said }) {
+function persistent({ species, said }) {
     const [, law, ...nodes] = said, of = word => nodes.filter(node => node.word === word);
     const laws = [...new Set(of('law').map(node => sum(species, node.numbers)))];
     return [
@@ -24,7 +12,7 @@ function yes({ species, said }) {
     ];
 }
 
-function no({ species, reactions, said }) {
+function notBySiphons({ species, reactions, said }) {
     const [, { word, numbers }, cover] = said;
     if (word === 'cut') return [{ text: 'The network is not conservative: the reactions, each taken this many times, make no species more, and some less.', numbers: times(reactions, numbers) }];
     const members = species.filter((name, at) => numbers[at] === '1').join(', ');
@@ -34,10 +22,11 @@ function no({ species, reactions, said }) {
     ];
 }
 
-const OPEN = {
-    spent: ({ said }) => [{ text: `The document says that the search has more than ${Number(said[0].numbers[0]).toLocaleString('en')} visits. A greater budget, or another order of the lines, may help.` }],
-    wide: () => [{ text: 'The document says that a number of 2^62 or more was met. An open answer claims nothing.' }],
-};
+const ANSWERS = { yes: persistent, no: notBySiphons, spent: ({ said }) => spentEvidence(said[0].numbers[0]), wide: wideEvidence };
 
-// The evidence, as sentences with what belongs to each.
-export const proofEvidence = proof => ({ yes, no, ...OPEN })[proof.said[0].word](proof);
+export const PERSIST = {
+    title: 'Persistence',
+    asks: 'Whether the siphons of the network show that, under mass action, no species dies out.',
+    says: ({ said }) => ({ yes: 'yes', no: 'no' })[said[0].word] || 'open',
+    evidence: proof => ANSWERS[proof.said[0].word](proof),
+};

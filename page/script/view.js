@@ -1,8 +1,8 @@
 // What the page says of a report, as HTML: the conclusions in words, and each verdict with its evidence.
-import { concluding, rowsAbout, rowsOf } from './conclusions.js';
+import { concluding, rowsAbout, rowsOf, rowsOfPart } from './conclusions.js';
 import { explained, treeWords } from './evidence.js';
-import { proofEvidence, proofVerdict } from './persist.js';
 import { escaped } from './picture.js';
+import { proofEvidence, proofVerdict, saidParts } from './proofs.js';
 import { terms } from './report.js';
 
 // Text in which backticks mark what is in a report or a network text.
@@ -16,15 +16,16 @@ function source(row, data) {
     return row.theorem ? `${escaped(row.theorem)} (${escaped(cites)})` : escaped(cites);
 }
 
-const questionsOf = row => row.verdict || [...new Set(row.requires.map(condition => `Q${condition.question}`))].join(' and ');
+const questionsOf = row => [...new Set(row.requires.map(condition => `Q${condition.question}`))].join(' and ');
 
 const KINETICS = { 'mass action': 'for mass action kinetics', 'weakly monotonic': 'for weakly monotonic kinetics', 'some weakly monotonic': 'for some weakly monotonic kinetics', any: 'for any kinetics', none: 'about the structure alone' };
 
-function conclusion(row, data) {
+// What follows by a row, from the verdicts that are named.
+function conclusion(row, data, from = questionsOf(row)) {
     return `<div class="conclusion"><h3>${escaped(row.title)}</h3><p><span class="kinetics">${escaped(KINETICS[row.kinetics] || row.kinetics)}</span></p>`
         + (row.provided ? `<p><b>Provided:</b> ${marked(row.provided)}</p>` : '')
         + `<p>${marked(row.concludes)}</p>`
-        + `<p class="hint">${source(row, data)}; from ${questionsOf(row)}.</p>`
+        + `<p class="hint">${source(row, data)}; from ${escaped(from)}.</p>`
         + (row.does_not_follow.length ? `<details><summary>What does not follow</summary>${list(row.does_not_follow)}</details>` : '') + '</div>';
 }
 
@@ -64,12 +65,12 @@ function evidenceView(item, trees) {
         + table.map(row => `<tr>${row.map(cell => `<td${/^(holds|fails|open)$/.test(cell) ? ` class="${MOOD[cell]}"` : ''}>${escaped(cell)}</td>`).join('')}</tr>`).join('') + '</table></div>';
 }
 
-// A document on persistence: the evidence, what follows from its verdict, and what does not.
+// A part document: the evidence, what follows from its verdict, and what does not.
 export function proofView(proof, data) {
-    const verdict = proofVerdict(proof), rows = data.parts.filter(row => row.verdict === verdict);
+    const verdict = proofVerdict(proof), rows = rowsOfPart(data, proof.part, saidParts(verdict));
     const not = rows.length ? rows.flatMap(row => row.does_not_follow) : data.open.does_not_follow;
     return `<div class="evidence">${proofEvidence(proof).map(item => evidenceView(item)).join('')}</div>`
-        + rows.filter(row => row.concludes).map(row => conclusion({ ...row, does_not_follow: [] }, data)).join('')
+        + rows.filter(row => row.concludes).map(row => conclusion({ ...row, does_not_follow: [] }, data, verdict.split('\n')[0])).join('')
         + `<div class="not"><b>What does not follow</b>${list(not)}</div>`;
 }
 

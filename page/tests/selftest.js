@@ -203,21 +203,23 @@ async function testWords(test, { samples, reports }) {
     }
 }
 
-// What is asked of persistence, and what of a part document that is opened.
+// What is asked of each part, and what of a part document that is opened.
 async function testProofs(test, { proofs, unproved }) {
-    for (const { name, text, budget, document: wanted, says, verdict } of proofs) {
+    for (const { part, name, text, budget, document: wanted, says, verdict } of proofs) {
         $('budget').value = budget;
+        choosePart(part);
         await enter(text);
         await prove();
         test.expect(`the document on ${name}`, textOf(proof) === wanted, textOf(proof));
-        test.expect(`what it says of ${name}`, $('proved').textContent === verdict.trim() && !$('proof').hidden, $('proved').textContent);
+        test.expect(`what it says of ${name}`, $('proved').textContent === onOneLine(verdict) && !$('proof').hidden, $('proved').textContent);
         const said = $('proof').querySelector('.evidence').textContent;
-        for (const part of says) test.expect(`the evidence of persistence of ${name}: ${part}`, said.includes(part), said);
+        for (const it of says) test.expect(`the evidence of ${name}: ${it}`, said.includes(it), said);
         test.expect(`nothing is missing in what is said of ${name}`, said.length > 20 && !/undefined|NaN|null/.test($('proof').textContent), said);
         await verifyProof();
-        test.expect(`it is checked again: ${name}`, $('proved').textContent === `checked again: ${verdict.trim()}`, $('proved').textContent);
+        test.expect(`it is checked again: ${name}`, $('proved').textContent === `checked again: ${onOneLine(verdict)}`, $('proved').textContent);
+        choosePart('persist');
         await check(bytesOf(wanted));
-        test.expect(`it is opened: ${name}`, $('certified').textContent === `the document is good: ${verdict.trim()}` && $('proof').querySelector('.evidence').textContent === said, $('certified').textContent);
+        test.expect(`it is opened: ${name}`, $('part').value === part && $('certified').textContent === `the document is good: ${onOneLine(verdict)}` && $('proof').querySelector('.evidence').textContent === said, $('certified').textContent);
         await settled();
     }
     $('budget').value = '20000';

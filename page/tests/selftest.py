@@ -187,20 +187,26 @@ def documents(program, report):
 
 
 def proved(root):
-    """Networks that are asked of persistence, each with a budget."""
-    yield from (("A <-> B", "A <-> B\n", "20000"), ("A <-> B with 6 visits", "A <-> B\n", "6"), ("2A <-> A + B", "2A <-> A + B\n", "20000"))
-    for file in sorted((root / "examples/networks").glob("*.crn")):
-        yield file.stem, file.read_text(), "20000"
+    """Networks of which each part is asked, each with a budget."""
+    texts = [("A <-> B", "A <-> B\n", "20000"), ("A <-> B with 6 visits", "A <-> B\n", "6"), ("2A <-> A + B", "2A <-> A + B\n", "20000")]
+    texts += [(file.stem, file.read_text(), "20000") for file in sorted((root / "examples/networks").glob("*.crn"))]
+    for part in SAID:
+        yield from ((part, *text) for text in texts)
 
 
-def proof_of(program, name, text, budget):
-    """What the program says of persistence, and what the page has to say of it: the members of a siphon, the reactions of a
-    combination, and the species of each law."""
-    out = native(program, ["prove", "persist", "--budget", budget], text.encode())[1].decode()
+def proof_of(program, part, name, text, budget):
+    """What the program says of a part, and what the page has to say of it."""
+    out = native(program, ["prove", part, "--budget", budget], text.encode())[1].decode()
     lines = out.splitlines()
     count = int(lines[1].split()[1])
     reactions, own = lines[2 : 2 + count], [line.split() for line in lines[2 + count : -1]]
     species = list(dict.fromkeys(re.findall(r"[A-Za-z_]\w*", " ".join(reactions))))
+    verdict = native(program, ["verify", part], out.encode())[1].decode()
+    return {"part": part, "name": f"{name}: {part}", "text": text, "budget": budget, "document": out, "says": SAID[part](species, reactions, own), "verdict": verdict}
+
+
+def said_of_persistence(species, reactions, own):
+    """The members of a siphon, the reactions of a combination, and the species of each law."""
     of = lambda names, numbers: [name for name, number in zip(names, numbers) if number != "0"]
     says = []
     for word, *numbers in own:
@@ -210,13 +216,17 @@ def proof_of(program, name, text, budget):
             says.append(", ".join(of(species, numbers)) + ".")
         elif word in ("cut", "mult"):
             says += of(reactions, numbers)
-    return {"name": name, "text": text, "budget": budget, "document": out, "says": says, "verdict": native(program, ["verify", "persist"], out.encode())[1].decode()}
+    return says
+
+
+# The parts, with what the page has to say of a document.
+SAID = {"persist": said_of_persistence}
 
 
 def unproved(program):
     """Part documents with a fault."""
     good = native(program, ["prove", "persist"], b"A <-> B\n")[1]
-    for old, new in ((b"bad 2", b"bad 1"), (b"vec 1 1", b"vec 1 2"), (b"persist 1", b"endo 1"), (b"void\n", b""), (b"end\n", b""), (b"\n", b"\r\n")):
+    for old, new in ((b"bad 2", b"bad 1"), (b"vec 1 1", b"vec 1 2"), (b"persist 1", b"nothing 1"), (b"void\n", b""), (b"end\n", b""), (b"\n", b"\r\n")):
         yield f"{new!r} for {old!r}", good.replace(old, new)
 
 
@@ -266,7 +276,7 @@ def jobs(root, program):
         "documents": documents(program, report),
         "search": {"text": search, "quick": quick, "whole": whole, "order": {"text": order}},
         "reports": [{"budget": b, "text": t, "report": answer(native(program, ["report", "--budget", b], t.encode()))} for b, t in words],
-        "proofs": [proof_of(program, name, text, budget) for name, text, budget in proved(root)],
+        "proofs": [proof_of(program, *asked) for asked in proved(root)],
         "unproved": [{"name": name, "text": coded(text), "line": native(program, ["verify", "persist"], text)[1].decode()} for name, text in unproved(program)],
         "samples": [{"steps": k, "out": answer(native(program, ["sample", k], b""))} for k in ("1", "8", "19", "0", "20", "")],
     }

@@ -1,0 +1,11 @@
+// The questions that a part document answers, by their parts: what each asks, what `verify` says of the document, and the evidence,
+// as sentences with what belongs to each.
+import { PERSIST } from './persist.js';
+
+export const PARTS = { persist: PERSIST };
+
+// The verdict, as `verify` writes it, and its first line in the parts that conditions are about.
+export const proofVerdict = proof => `${proof.part}: ${PARTS[proof.part].says(proof)}`;
+export const saidParts = verdict => verdict.split('\n')[0].replace(/^\w+: /, '').split(', ');
+
+export const proofEvidence = proof => PARTS[proof.part].evidence(proof);
