@@ -56,7 +56,7 @@ def test_edits_of_formats():
         at, wanted = int(number), f"rejected {fault} at line {place}"
         changed = [*lines[: at - 1], *([line] if line else []), *lines[at:]]
         yield f"line {at} is {line or 'removed'}", answer(verify, text_of(changed)) == f"{wanted}\n", wanted
-    yield "all rows of the table", len(rows) > 50, len(rows)
+    yield "all rows of the table", len(rows) > 30, len(rows)
     yield "a line after the end", answer(verify, text_of([*lines, "end"])) == "rejected 28 AfterEnd at line 75\n"
 
 
