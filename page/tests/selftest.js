@@ -130,7 +130,7 @@ async function testProposals(test) {
             test.expect(`the proposal for ${text}`, meant === null || bare(meant) === bare(/`([^`]*)`/.exec(write)[1]), meant);
         }
     }
-    test.expect('arrows are proposed', count >= 20, count);
+    test.expect('arrows are proposed', count >= 15, count);
 }
 
 async function testCertificates(test, { examples, damaged }) {
