@@ -85,12 +85,15 @@ def explained(commands, operands):
         yield ".TP"
         yield f'.BI {command.name} " {command.operand}"' if command.operand else f".B {command.name}"
         yield from map(escaped, command.sentences)
-    for word in operands:
+    for operand in dict.fromkeys(word.operand for word in operands):
         yield ".PP"
-        yield f".I {word.operand}"
-        yield "is"
-        yield f".BR {word.name} ."
-        yield from map(escaped, word.sentences)
+        yield f".I {operand}"
+        yield "is one of these:"
+        for word in operands:
+            if word.operand == operand:
+                yield ".TP"
+                yield f".B {word.name}"
+                yield from map(escaped, word.sentences)
     yield ".PP"
     yield "Any other words give a usage line."
 

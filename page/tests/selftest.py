@@ -219,8 +219,18 @@ def said_of_persistence(species, reactions, own):
     return says
 
 
+def said_of_decompositions(species, reactions, own):
+    """The parts with their reactions, and each reaction that depends on others."""
+    numbers = {word: list(map(int, numbers)) for word, *numbers in own}
+    if "rank" not in numbers:
+        return ["2^62"]
+    parts = [[text for text, label in zip(reactions, numbers["label"]) if label == k + 1] for k in range(max(numbers["label"]))]
+    says = ["; ".join(members) for members in parts] if len(parts) > 1 else [f"their rank is {numbers['rank'][0]}"]
+    return says + [f"({text})= " for at, text in enumerate(reactions) if at + 1 not in numbers["base"]]
+
+
 # The parts, with what the page has to say of a document.
-SAID = {"persist": said_of_persistence}
+SAID = {"persist": said_of_persistence, "parts": said_of_decompositions}
 
 
 def unproved(program):
