@@ -2,8 +2,9 @@
 // as sentences with what belongs to each.
 import { DECOMPOSITION } from './decomposition.js';
 import { PERSIST } from './persist.js';
+import { ROBUST } from './robust.js';
 
-export const PARTS = { persist: PERSIST, parts: DECOMPOSITION };
+export const PARTS = { persist: PERSIST, parts: DECOMPOSITION, robust: ROBUST };
 
 // The verdict, as `verify` writes it, and its first line in the parts that conditions are about.
 export const proofVerdict = proof => `${proof.part}: ${PARTS[proof.part].says(proof)}`;

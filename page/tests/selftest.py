@@ -229,8 +229,18 @@ def said_of_decompositions(species, reactions, own):
     return says + [f"({text})= " for at, text in enumerate(reactions) if at + 1 not in numbers["base"]]
 
 
+def said_of_robustness(species, reactions, own):
+    """The deficiency, and the two complexes with the species in which they differ."""
+    said, complexes = {word: numbers for word, *numbers in own}, list(dict.fromkeys(" -> ".join(reactions).split(" -> ")))
+    if "rests" in said:
+        return ["open"]
+    left = len(complexes) - int(said["q1"][0]) - int(said["q5"][0])
+    pair = [f"{complexes[int(said['yes'][1]) - 1]} and {complexes[int(said['yes'][2]) - 1]} ", f"in {species[int(said['yes'][0]) - 1]} alone"] if "yes" in said else []
+    return [f"= {left};", *pair]
+
+
 # The parts, with what the page has to say of a document.
-SAID = {"persist": said_of_persistence, "parts": said_of_decompositions}
+SAID = {"persist": said_of_persistence, "parts": said_of_decompositions, "robust": said_of_robustness}
 
 
 def unproved(program):
