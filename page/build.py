@@ -19,7 +19,7 @@ import sys
 HERE = pathlib.Path(__file__).resolve().parent
 
 # Each after those that it imports from.
-SCRIPTS = ["run", "program", "report", "conclusions", "cures", "order", "explain", "evidence", "layered", "springs", "picture", "pointer", "proof", "persist", "decomposition", "robust", "proofs", "view", "files", "faults", "page"]
+SCRIPTS = ["run", "program", "report", "conclusions", "cures", "order", "explain", "evidence", "layered", "springs", "picture", "pointer", "proof", "persist", "decomposition", "robust", "endo", "proofs", "view", "files", "faults", "page"]
 
 
 # ---- the documents

@@ -239,8 +239,17 @@ def said_of_robustness(species, reactions, own):
     return [f"= {left};", *pair]
 
 
+def said_of_slopes(species, reactions, own):
+    """The reaction with its slope, or how many leaves the trees have."""
+    word, *numbers = own[0]
+    if word == "no":
+        return [reactions[int(numbers[0]) - 1], *(name + (f"+{it}" if int(it) > 0 else it) for name, it in zip(species, own[1][1:]))]
+    leaves = [sum(line[0] == leaf for line in own) for leaf in ("cuta", "flat")]
+    return {"yes": [f"{it:,} lea" for it in leaves], "wide": ["2^62"], "spent": ["visits"], "large": ["too large"]}[word]
+
+
 # The parts, with what the page has to say of a document.
-SAID = {"persist": said_of_persistence, "parts": said_of_decompositions, "robust": said_of_robustness}
+SAID = {"persist": said_of_persistence, "parts": said_of_decompositions, "robust": said_of_robustness, "endo": said_of_slopes}
 
 
 def unproved(program):
