@@ -28,7 +28,8 @@ NAMES = {
     27: "EndsEarly", 28: "AfterEnd", 29: "DocumentTooLong", 30: "LineTooLong", 31: "WrongClasses", 32: "WrongWalk",
     33: "NotIndependent", 34: "NotSpanned", 35: "BadVector", 36: "WrongNumber", 37: "WrongVerdict", 41: "BadLeaf",
     42: "NodeNotAllowed", 43: "TreeEndsEarly", 44: "TreeGoesOn", 45: "BadEvidence", 46: "WrongShape",
-    51: "NotSiphon", 52: "NotCovered", 53: "BadLaw", 54: "BadNode",
+    51: "NotSiphon", 52: "NotCovered", 53: "BadLaw", 54: "BadNode", 55: "WrongLine", 56: "WrongCase", 61: "NotIndependent",
+    62: "NotSpanned", 63: "WrongParts", 64: "BadLink", 71: "BadNode", 72: "BadLeaf", 73: "BadSlope",
 }
 
 HEADS = [f"q{k}" for k in range(1, 16)]
@@ -1018,11 +1019,11 @@ def check_weak(at, net, known):
 
 
 def rank_records(at, net, reactions, count):
-    """The records of the rank of these reactions, which count from 1, as far as they are read: the base, and each test
-    with its code and line."""
+    """The records of the rank of these reactions, which count from 1, as far as they are read: the base, for each other
+    reaction the numbers of its combination, and each test with its code and line."""
     species = len(net.names)
     _, base = at.record([(["base"], members(count, reactions))])
-    vectors, tests = [net.vectors[r - 1] for r in base], []
+    vectors, tests, combs = [net.vectors[r - 1] for r in base], [], {}
     for i in range(count):
         _, dual = at.record([(["dual"], free(species, species))])
         tests.append((33, at.number, all((product(dual, v) != 0) == (i == k) for k, v in enumerate(vectors))))
@@ -1032,7 +1033,8 @@ def rank_records(at, net, reactions, count):
         _, (most, *others) = at.record([(["comb"], free(1 + count, 1 + count))])
         is_sum = [most * x for x in net.vectors[r - 1]] == combined(others, vectors, species)
         tests.append((34, at.number, most >= 1 and is_sum))
-    return base, tests
+        combs[r] = others
+    return base, combs, tests
 
 
 def hold(tests):
@@ -1048,7 +1050,7 @@ def check_rank(at, net, known):
     ])
     if place:
         return wide_lines(5, 1, 0, numbers[2], numbers[3:])
-    base, tests = rank_records(at, net, range(1, reactions + 1), numbers[0])
+    base, _, tests = rank_records(at, net, range(1, reactions + 1), numbers[0])
     hold(tests)
     known["rank"] = numbers[0]
     return answer(5, numbers[0], f"independent reactions: {numbers_text(base)}")
@@ -1079,7 +1081,7 @@ def check_deficiency(at, net, known):
         raise Rejected(36, at.number)
     tests = []
     for s, reactions in zip(ranks, classes):
-        tests += rank_records(at, net, reactions, s)[1]
+        tests += rank_records(at, net, reactions, s)[-1]
     hold(tests)
     known["deficiencies"] = numbers[0], numbers[1:]
     return deficiency_lines(numbers[0], numbers[1:])
@@ -1366,6 +1368,22 @@ def tree_lines(problem):
             lines.append("split")
             due += reversed(second_search.children(prefix))
     return lines
+
+
+def rank_lines(net):
+    """The records of the rank of all reactions: the first independent ones, what shows that, and how the others depend on them;
+    and for each of these the numbers."""
+    base = independent(net.vectors)
+    vectors, combs = [net.vectors[r] for r in base], {}
+    lines = [f"base {numbers_text(r + 1 for r in base)}"]
+    for i, own in enumerate(vectors):
+        others = kernel(vectors[:i] + vectors[i + 1 :], len(net.names))
+        lines.append(f"dual {numbers_text(next(dual for dual in others if product(dual, own)))}")
+    for r, vector in enumerate(net.vectors):
+        if r not in base:
+            most, *combs[r] = whole([Fraction(1), *solution(vectors, vector)])
+            lines.append(f"comb {numbers_text([most, *combs[r]])}")
+    return lines, base, combs
 
 
 def confluence_block(v):

@@ -4,12 +4,10 @@ line. It is for networks of few species, as there are 2^N sets.
 
 A set of species is a number here, with the bit of each member."""
 
-from second_opinion import Reading, Rejected, combined, free, is_basis, names_wide, none, product, read_network, rules_out, small
+from second_opinion import Rejected, combined, free, is_basis, names_wide, none, product, rules_out, small
+from second_part import MAX_BUDGET, SecondProgram, line
 from second_search import FREE, POS, ZERO, Part, mask
 
-WORDS = "yes no wide spent vec cut siphon mult fork bad law void end".split()
-TITLE = b"crn part persist 1"
-BUDGET, MAX_BUDGET = 20_000, 100_000
 OUTCOMES = {"yes": "yes", "no": "no", "wide": "open", "spent": "open"}
 
 
@@ -100,19 +98,16 @@ class Siphons:
         """The lines of the tree of a prefix."""
         r = self.first_bad(inside, outside)
         if r is not None:
-            return [f"bad {r + 1}"]
+            return [line("bad", [r + 1])]
         if chosen == self.count and not inside:
             return ["void"]
         law = self.law_within(inside)
         if law:
-            return ["law " + " ".join(map(str, law))]
+            return [line("law", law)]
         return ["fork", *self.tree(chosen + 1, inside | 1 << chosen, outside), *self.tree(chosen + 1, inside, outside | 1 << chosen)]
 
     def answer(self, budget):
         """The lines of an answer. None of them is `wide`: the numbers here have no bound."""
-        def line(word, numbers):
-            return " ".join([word, *map(str, numbers)])
-
         law = self.law()
         if law is None:
             return ["no", line("cut", self.cut())]
@@ -125,13 +120,6 @@ class Siphons:
 
 
 # ---- the check of a document
-
-class PartReading(Reading):
-    """A document of this part, read line by line."""
-
-    def words(self):
-        return WORDS
-
 
 def wide(system, columns, rows):
     """The numbers of an open line: the system, a coordinate and a basis."""
@@ -198,34 +186,6 @@ def check_answer(at, siphons):
     return ("spent", numbers[0]) if place == 4 else ("wide", numbers)
 
 
-def check_document(text):
-    """The network of a good document and what its lines say; else Rejected is raised."""
-    at = PartReading(text)
-    siphons = Siphons(at.opening({TITLE: 1}))
-    said = check_answer(at, siphons)
-    at.ending()
-    return siphons, said
-
-
-def verify(text):
-    """The status and the bytes with which `verify persist` answers a document."""
-    try:
-        _, (word, _) = check_document(text)
-    except Rejected as fault:
-        return 3, fault.said().encode()
-    return 0, f"persist: {OUTCOMES[word]}\n".encode()
-
-
-# ---- the judgement of an answer
-
-def prove(text, budget=BUDGET):
-    """A status and bytes with which `prove persist` may answer a text that spells a network."""
-    net = read_network(text.decode("latin-1"))
-    lines = Siphons(net).answer(budget)
-    head = f"{TITLE.decode()}\nnetwork {len(net.reactions)}\n{net.canonical()}"
-    return int(lines[0].startswith("spent")), (head + "\n".join([*lines, "end", ""])).encode()
-
-
 def is_wide(net, numbers):
     """The line `wide` names a wide vector of its system."""
     system, index, *basis = numbers
@@ -233,27 +193,37 @@ def is_wide(net, numbers):
     return names_wide(rows, len(net.names) if system == 1 else len(net.vectors), index, basis)
 
 
-def judged(text, status, out, budget=BUDGET):
-    """What is wrong with the answer of `prove persist` to a text that spells a network, or nothing."""
-    net = read_network(text.decode("latin-1"))
-    try:
-        siphons, (word, below) = check_document(out)
-    except Rejected as fault:
-        return f"its document is {fault.said()}"
-    if siphons.net.canonical() != net.canonical():
-        return "another network"
-    if status != (OUTCOMES[word] == "open"):
-        return "the status"
-    if word == "wide":
-        return None if is_wide(net, below) else "no wide vector"
-    if siphons.law() is None:
-        return None if (word, below) == ("no", "cut") else "it is not conservative"
-    visits, siphon = siphons.visits(budget)
-    wanted = "spent" if visits > budget else "no" if siphon else "yes"
-    if word != wanted or below == "cut":
-        return f"it should be {wanted}"
-    if word == "spent":
-        return None if below == budget else "another budget"
-    if siphons.is_persistent() != (word == "yes"):
-        return "what all sets of species say"
-    return "more nodes than the budget" if word == "yes" and below > budget else None
+class Persistence(SecondProgram):
+    name, words = "persist", "yes no wide spent vec cut siphon mult fork bad law void end".split()
+
+    def check(self, at, net):
+        return check_answer(at, Siphons(net))
+
+    def said(self, net, answer):
+        return f"persist: {OUTCOMES[answer[0]]}\n"
+
+    def lines(self, net, budget):
+        return Siphons(net).answer(budget)
+
+    def visits(self, net):
+        return Siphons(net).visits(MAX_BUDGET)[0]
+
+    def wrong(self, net, answer, budget):
+        (word, below), siphons = answer, Siphons(net)
+        if word == "wide":
+            return None if is_wide(net, below) else "no wide vector"
+        if siphons.law() is None:
+            return None if (word, below) == ("no", "cut") else "it is not conservative"
+        visits, siphon = siphons.visits(budget)
+        wanted = "spent" if visits > budget else "no" if siphon else "yes"
+        if word != wanted or below == "cut":
+            return f"it should be {wanted}"
+        if word == "spent":
+            return None if below == budget else "another budget"
+        if siphons.is_persistent() != (word == "yes"):
+            return "what all sets of species say"
+        return "more nodes than the budget" if word == "yes" and below > budget else None
+
+
+PROGRAM = Persistence()
+prove, verify, judged = PROGRAM.prove, PROGRAM.verify, PROGRAM.judged
