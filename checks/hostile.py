@@ -20,14 +20,14 @@ import tempfile
 from pathlib import Path
 
 import ends
+import prove
 import second_opinion
-import second_persist
 from end_to_end import NETWORKS, NO_WORDS, READ_FAULT, SECONDS, WRITE_FAULT, first_version, joined
 from tally import Tally
 
 NO_MEMORY = 7
 HERE = Path(__file__).resolve().parent
-PROOF = second_persist.prove(b"A <-> B\n")[1]
+PROOF = prove.PARTS["persist"].PROGRAM.prove(b"A <-> B\n")[1]
 COMPILER = next(filter(None, map(shutil.which, ["cc", "gcc", "clang"])), None)
 # more requests or calls than any run makes
 MOST_CALLS = 100_000
@@ -101,8 +101,9 @@ def inputs(program):
     yield "report on the two-site futile cycle", ["report"], sites
     yield "a refused text", ["report"], b"A => B\n"
     yield "a rejected document", ["check"], document.replace(b"\nq3 yes\n", b"\nq3 no 1\n")
-    yield "prove persist on the two-site futile cycle", ["prove", "persist"], sites
-    yield "verify persist of A <-> B", ["verify", "persist"], PROOF
+    for part, it in prove.PARTS.items():
+        yield f"prove {part} on the two-site futile cycle", ["prove", part], sites
+        yield f"verify {part} of A <-> B", ["verify", part], it.PROGRAM.prove(b"A <-> B\n")[1]
     yield "a rejected part document", ["verify", "persist"], PROOF.replace(b"bad 2", b"bad 1")
     yield "no command", ["frobnicate"], b""
     yield "sample 3", ["sample", "3"], b""
@@ -151,7 +152,7 @@ def pieces(hostile):
 def cuts(program):
     """Documents that end at each of their bytes."""
     for name, words, text in inputs(program):
-        judge = {"check": second_opinion.check, "verify": second_persist.verify}.get(words[0])
+        judge = second_opinion.check if words[0] == "check" else prove.PARTS[words[1]].PROGRAM.verify if words[0] == "verify" else None
         if judge and judge(text)[0] == 0:
             for at in range(len(text)):
                 done = subprocess.run([program, *words], input=text[:at], capture_output=True, timeout=SECONDS)
