@@ -7,11 +7,11 @@
 
 `verify` takes a certificate of either version and gives the report of its network and verdicts, or raises `Rejected` with
 the code and the line of its first fault: the answers of `crnt check`. To write a checker of your own, read `document.py`
-for the lines, `checks.py` for the test of each answer, `signs.py` for trees, and `siphons.py` for a part document, which
+for the lines, `checks.py` for the test of each answer, `signs.py` for trees, and `parts.py` for part documents, which
 `verify_part` takes. It is not proved.
 """
 
 from .checks import verify
-from .siphons import verify_part
+from .parts import verify_part
 
 __all__ = ["verify", "verify_part"]

@@ -90,13 +90,18 @@ class Verifier:
         self.document, self.facts = document, Facts()
         self.shared: list[Numbers] = []
 
+    def use(self, network: Network) -> None:
+        """The answers are those of this network."""
+        self.network = network
+        self.sizes = len(network.species), len(network.complexes), len(network.reactions)
+
     def report(self) -> Report:
         document = self.document
         document.version = {b"crn certificate 1": 1, b"crn certificate 2": 2}.get(document.line(), 0)
         if not document.version:
             raise document.fault(21)
-        self.network, source = read_network(document)
-        self.sizes = len(self.network.species), len(self.network.complexes), len(self.network.reactions)
+        network, source = read_network(document)
+        self.use(network)
         if document.version == 2:
             (count,) = document.numbers(ranged("vectors", (0, MOST_SHARED)))
             lists = Form(("vector",), lambda numbers: 1 <= len(numbers) <= MOST_NUMBERS, is_free=True)
@@ -214,20 +219,24 @@ class Verifier:
 
     # ---- rank and deficiency
 
-    def rank_records(self, block: Block, reactions: Sequence[int], rank: int) -> Numbers:
-        """The base of the rank of some reactions, with the tests of what shows it."""
+    def rank_records(self, block: Block, reactions: Sequence[int], rank: int,
+                     codes: tuple[int, int] = (33, 34)) -> tuple[Numbers, dict[int, Numbers]]:
+        """The base of the rank of some reactions, and for each other one the weights of the base, with the tests of what shows
+        it, which have these codes."""
         document, vectors, species = self.document, self.network.vectors, self.sizes[0]
+        combs: dict[int, Numbers] = {}
         base = document.numbers(Form(("base",), lambda numbers: len(numbers) == rank and set(numbers) <= set(reactions)
                                      and list(numbers) == sorted(set(numbers))))
         for own in base:
             dual = document.numbers(free("dual", species))
-            block.test(33, all((product(dual, vectors[r - 1]) != 0) == (r == own) for r in base))
+            block.test(codes[0], all((product(dual, vectors[r - 1]) != 0) == (r == own) for r in base))
         for r in reactions:
             if r not in base:
                 scale, *weights = document.numbers(free("comb", 1 + rank))
                 wanted, made = [scale * x for x in vectors[r - 1]], combined(weights, [vectors[b - 1] for b in base])
-                block.test(34, scale >= 1 and wanted == made)
-        return base
+                block.test(codes[1], scale >= 1 and wanted == made)
+                combs[r] = tuple(weights)
+        return base, combs
 
     def q5(self) -> Rank:
         species, _, reactions = self.sizes
@@ -235,7 +244,7 @@ class Verifier:
         if place:
             return Rank(open=wide_of(numbers))
         block = Block(self.document)
-        base = self.rank_records(block, range(1, reactions + 1), numbers[0])
+        base, _ = self.rank_records(block, range(1, reactions + 1), numbers[0])
         block.end()
         self.facts.rank = numbers[0]
         return Rank(rank=numbers[0], independent_reactions=base)

@@ -14,7 +14,8 @@ NAMES = {
     27: "EndsEarly", 28: "AfterEnd", 29: "DocumentTooLong", 30: "LineTooLong", 31: "WrongClasses", 32: "WrongWalk",
     33: "NotIndependent", 34: "NotSpanned", 35: "BadVector", 36: "WrongNumber", 37: "WrongVerdict", 41: "BadLeaf",
     42: "NodeNotAllowed", 43: "TreeEndsEarly", 44: "TreeGoesOn", 45: "BadEvidence", 46: "WrongShape",
-    51: "NotSiphon", 52: "NotCovered", 53: "BadLaw", 54: "BadNode",
+    51: "NotSiphon", 52: "NotCovered", 53: "BadLaw", 54: "BadNode", 55: "WrongLine", 56: "WrongCase", 61: "NotIndependent",
+    62: "NotSpanned", 63: "WrongParts", 64: "BadLink", 71: "BadNode", 72: "BadLeaf", 73: "BadSlope",
 }
 NUMBER = re.compile(r"0|-?[1-9][0-9]*")
 MOST_BYTES_OF_LINE, MOST_BYTES, WIDE = 16_384, 2**32, 2**72
@@ -57,16 +58,21 @@ def free(word: str, count: int) -> Form:
     return Form((word,), lambda numbers: len(numbers) == count, is_free=True)
 
 
-def wide(question: int, system: int, columns: int, rows: int, class_: int = 0) -> Form:
-    """An open head that names a coordinate and a basis of a system."""
+def wide_vector(words: str, columns: int, rows: int, *first: tuple[int, int]) -> Form:
+    """An open line: a number in each of the ranges, and then a coordinate and a basis of a system."""
 
     def fits(numbers: Sequence[int]) -> bool:
-        head, rest, basis = tuple(numbers[:2]), numbers[2:], numbers[3:]
+        head, rest, basis = numbers[: len(first)], numbers[len(first) :], numbers[len(first) + 1 :]
+        in_range = len(head) == len(first) and all(least <= number <= most for number, (least, most) in zip(head, first))
         ascending = all(a < b for a, b in zip(basis, basis[1:]))
-        return head == (system, class_) and len(basis) == columns and ascending \
-            and all(1 <= number <= columns + rows for number in rest)
+        return in_range and len(basis) == columns and ascending and all(1 <= number <= columns + rows for number in rest)
 
-    return Form((f"q{question}", "open", "wide"), fits)
+    return Form(tuple(words.split(" ")), fits)
+
+
+def wide(question: int, system: int, columns: int, rows: int, class_: int = 0) -> Form:
+    """An open head that names a coordinate and a basis of a system."""
+    return wide_vector(f"q{question} open wide", columns, rows, (system, system), (class_, class_))
 
 
 class Document:

@@ -2,62 +2,30 @@
 
 from __future__ import annotations
 
-from typing import Sequence
-
 from ..network import Network, Numbers
-from ..parts import Proof
-from ..program import Text
-from .checks import MOST_BUDGET, read_network
-from .document import Document, Form, bare, free, listed, ranged
+from .checks import MOST_BUDGET
+from .document import Document, bare, free, listed, ranged, wide_vector
+from .part import PartCheck
 from .signs import combined, product
 
-TITLE = b"crn part persist 1"
-WORDS = tuple("yes no wide spent vec cut siphon mult fork bad law void end".split())
 
+class Siphons(PartCheck):
+    """Species are places from 0 here, and a prefix has `True` for each that is in."""
 
-def verify_part(text: Text) -> Proof:
-    """A part document, each of whose lines is tested. Raises Rejected."""
-    given = text.encode("utf-8", "surrogateescape") if isinstance(text, str) else text
-    document = Document(given, WORDS)
-    if document.line() != TITLE:
-        raise document.fault(21)
-    network, _ = read_network(document)
-    said = Siphons(document, network).verdict()
-    document.numbers(bare("end"))
-    document.end()
-    return Proof("persist", said, given.decode("ascii"))
-
-
-def wide(system: int, columns: int, rows: int) -> Form:
-    """An open line that names a coordinate and a basis of a system."""
-
-    def fits(numbers: Sequence[int]) -> bool:
-        basis, is_in = numbers[2:], all(1 <= number <= columns + rows for number in numbers[1:])
-        return numbers[:1] == (system,) and len(basis) == columns and is_in and all(a < b for a, b in zip(basis, basis[1:]))
-
-    return Form(("wide",), fits)
-
-
-class Siphons:
-    """Reads the lines of the part. Species are places from 0 here, and a prefix has `True` for each that is in."""
+    WORDS = tuple("yes no wide spent vec cut siphon mult fork bad law void end".split())
 
     def __init__(self, document: Document, network: Network):
-        self.document, self.vectors = document, network.vectors
-        self.species, self.reactions = len(network.species), len(network.reactions)
+        super().__init__(document, network)
         held = [{s for s, amount in enumerate(amounts) if amount} for amounts in network.amounts]
         self.ends = [(held[it.reactant - 1], held[it.product - 1]) for it in network.reactions]
-
-    def require(self, code: int, holds: bool, line: int | None = None) -> None:
-        if not holds:
-            raise self.document.fault(code, line)
 
     def is_law(self, numbers: Numbers) -> bool:
         return all(product(numbers, vector) == 0 for vector in self.vectors)
 
     def verdict(self) -> str:
         place, _ = self.document.record(
-            bare("yes"), bare("no"), wide(1, self.species, self.reactions), wide(2, self.reactions, self.species),
-            ranged("spent", (1, MOST_BUDGET)))
+            bare("yes"), bare("no"), wide_vector("wide", self.species, self.reactions, (1, 1)),
+            wide_vector("wide", self.reactions, self.species, (2, 2)), ranged("spent", (1, MOST_BUDGET)))
         if place == 0:
             law = self.document.numbers(free("vec", self.species))
             self.require(53, min(law) > 0 and self.is_law(law))
