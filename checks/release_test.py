@@ -17,6 +17,7 @@ import tarfile
 import tempfile
 from pathlib import Path
 
+import prove
 from documents import LINK
 from tally import Tally
 
@@ -208,10 +209,11 @@ def refuses_to_install(folder, archive):
 
 def completes(file):
     """What bash completes after some words."""
+    parts = " ".join(prove.PARTS)
     ask = 'source "$1"; shift; COMP_WORDS=("$@"); COMP_CWORD=$(($# - 1)); _crnt; echo "${COMPREPLY[*]}"'
     for words, wanted in [(["crnt", ""], "report certify check sample prove verify --budget"), (["crnt", "c"], "certify check"),
-                          (["crnt", "prove", ""], "persist --budget"), (["crnt", "verify", ""], "persist"),
-                          (["crnt", "prove", "persist", ""], "--budget"), (["crnt", "verify", "persist", ""], ""),
+                          (["crnt", "prove", ""], f"{parts} --budget"), (["crnt", "verify", ""], parts),
+                          *((["crnt", "prove", part, ""], "--budget") for part in prove.PARTS), (["crnt", "verify", "persist", ""], ""),
                           (["crnt", "report", ""], "--budget"), (["crnt", "check", ""], ""), (["crnt", "report", "--budget", ""], "")]:
         seen = done(["bash", "-c", ask, "bash", str(file), *words], "/")
         yield f"bash completes {words}", seen == (0, f"{wanted}\n"), seen

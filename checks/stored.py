@@ -1,7 +1,7 @@
 #!/usr/bin/env python3
-"""Writes again what is stored of the program's output: the reports, certificates and documents on persistence of `examples`, the
-report that the gate compares, and those that the documents show; `NAME.v1.cert` is in version 1. Each report and each document is
-judged by the second program first, and each certificate is checked by it.
+"""Writes again what is stored of the program's output: the reports, certificates and part documents of `examples`, the report that
+the gate compares, and those that the documents show; `NAME.v1.cert` is in version 1. Each report and each part document is judged
+by a second program first, and each certificate is checked by one.
 
     checks/stored.py PROGRAM     after a question was built, or an answer's free lines have changed
 """
@@ -11,16 +11,14 @@ import subprocess
 import sys
 from pathlib import Path
 
+import prove
 import second_opinion
-import second_persist
-from end_to_end import first_version
+from end_to_end import first_version, network_in
 
 ROOT = Path(__file__).resolve().parent.parent
 NETWORKS = ROOT / "examples" / "networks"
 # what the gate runs the program on, and what it has to write
 GATE = ROOT / "crates" / "crnt"
-# the networks with a document on persistence: one with a yes, one with a siphon, and one that is not conservative
-PROVED = ["two_site_futile_cycle", "shinar_feinberg", "edelstein"]
 # the documents that show reports
 SHOWN = ["README.md", "docs/FORMATS.md", "docs/crnt.1"]
 REPORT = re.compile(r"^crn report 1\n(?:.*\n)*?open: .*\n", re.MULTILINE)
@@ -54,8 +52,8 @@ def certificate_of(program, name, text):
     return out
 
 
-def proof_of(program, name, text):
-    return accepted(program, "prove persist", text, second_persist, f"the document on {name}")
+def proof_of(program, part, name, text):
+    return accepted(program, f"prove {part}", text, prove.PARTS[part].PROGRAM, f"the document {name}")
 
 
 def head_of(report):
@@ -91,9 +89,9 @@ def main():
         name, _, version = certificate.stem.partition(".")
         written_now = certificate_of(program, name, (NETWORKS / f"{name}.crn").read_bytes())
         certificate.write_bytes(first_version(written_now) if version == "v1" else written_now)
-    for name in PROVED:
-        document = ROOT / "examples" / "certificates" / f"{name}.persist"
-        document.write_bytes(proof_of(program, name, (NETWORKS / f"{name}.crn").read_bytes()))
+    for part in prove.PARTS:
+        for document in sorted((ROOT / "examples" / "certificates").glob(f"*.{part}")):
+            document.write_bytes(proof_of(program, part, document.name, network_in(document.read_bytes())))
     (GATE / "stdout").write_bytes(report_of(program, "the gate", (GATE / "stdin").read_bytes()))
     for path in SHOWN:
         (ROOT / path).write_text(in_document(program, path, networks.values()), "utf-8")

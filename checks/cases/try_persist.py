@@ -5,6 +5,7 @@ from second_persist import PROGRAM, Siphons
 
 from .wrong_forms import ALL_OPEN, ENDLESS, LATE, OTHER_COUNT, all_good, change, method, of_documents, of_rejections
 
+HEADING = "Persistence by siphons"
 COUNT, MOST_SPECIES = 60, 12
 KINDS, CODES = ["persist: yes", "persist: no", "persist: open"], [51, 52, 53, 54]
 
