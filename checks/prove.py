@@ -11,7 +11,7 @@ import subprocess
 import sys
 from pathlib import Path
 
-from cases import try_persist
+from cases import try_parts, try_persist
 from cases.runs import SECONDS
 from second_opinion import read_network
 from second_part import BUDGET, MAX_BUDGET
@@ -20,6 +20,7 @@ from tally import Tally
 # what there is to try of each part
 PARTS = {it.PROGRAM.name: it for it in [
     try_persist,
+    try_parts,
 ]}
 DAMAGES = 6
 WIDE = 2**72
