@@ -4,25 +4,29 @@ import random
 
 import crnt_tools as ct
 import support
+import prove as random_test
 from crnt_tools import explain
 from crnt_tools.conclusions import conclude_part, data
 from crnt_tools.loading import load, proofs_in
+from crnt_tools.parts import PARTS
 from crnt_tools.verify import verify_part
 
-#: A network, a budget, what is said of persistence, and the rows that apply.
+#: A part, a network, a budget, what is said, and the rows that apply.
 ANSWERS = [
-    ("A <-> B\n", None, "yes", ["persistent"]),
-    ("A <-> B\n", 6, "open", []),
-    ("2A <-> A + B\n", None, "no", ["not-persistent-by-siphons"]),
-    ("0 -> A\n", None, "no", ["not-persistent-by-siphons"]),
+    ("persist", "A <-> B\n", None, "yes", ["persistent"]),
+    ("persist", "A <-> B\n", 6, "open", []),
+    ("persist", "2A <-> A + B\n", None, "no", ["not-persistent-by-siphons"]),
+    ("persist", "0 -> A\n", None, "no", ["not-persistent-by-siphons"]),
+    ("parts", "0 <-> A -> B\n2A + B -> 3A\n", None, "2, ranks 1 1", ["independent-parts"]),
+    ("parts", "A -> B\n", None, "1, ranks 1", ["one-part"]),
 ]
 
 
 def test_answers():
-    for text, budget, said, rows in ANSWERS:
-        proof = ct.verified(ct.prove("persist", text, budget))
-        yield f"{text!r} with budget {budget}", (proof.part, proof.said, proof.is_open) == ("persist", said, said == "open"), proof
-        yield f"the verdict on {text!r}", proof.verdict == f"persist: {said}", proof.verdict
+    for part, text, budget, said, rows in ANSWERS:
+        proof = ct.verified(ct.prove(part, text, budget))
+        yield f"{part} of {text!r} with budget {budget}", (proof.part, proof.said, proof.is_open) == (part, said, said == "open"), proof
+        yield f"the verdict {part} on {text!r}", proof.verdict == f"{part}: {said}", proof.verdict
         found = [it.id for it in conclude_part(proof)]
         yield f"what follows for {text!r} with budget {budget}", found == rows, found
         yield f"the network of {text!r}", str(ct.report(proof.network)) == str(ct.report(text)), proof.network
@@ -32,7 +36,7 @@ def test_answers():
 
 def test_faults():
     document = ct.prove("persist", "A <-> B\n")
-    for old, new, fault in [("persist 1", "endo 1", (21, "BadHeader", 1)), ("bad 2", "bad 1", (54, "BadNode", 10)),
+    for old, new, fault in [("persist 1", "nothing 1", (21, "BadHeader", 1)), ("bad 2", "bad 1", (54, "BadNode", 10)),
                             ("vec 1 1", "vec 1 2", (53, "BadLaw", 6)), ("end\n", "", (27, "EndsEarly", 14))]:
         try:
             seen = ct.verified(document.replace(old, new))
@@ -47,14 +51,14 @@ def test_faults():
 
 
 def test_explained():
-    for text, budget, said, rows in ANSWERS:
-        document = ct.prove("persist", text, budget).encode()
-        report, proofs = load(document), proofs_in(document)
+    for part, text, budget, said, rows in ANSWERS:
+        document = ct.prove(part, text, budget).encode()
+        report, proofs, line = load(document), proofs_in(document), f"{part}: {said}".split("\n")[0]
         yield f"the report with the document of {text!r}", str(report) == str(ct.report(text)), report
         for form in (explain.as_text, explain.as_markdown, explain.as_html):
             page = form(report, "", proofs)
-            yield f"{form.__name__} has the verdict on {text!r}", f"persist: {said}" in page, page
-            yield f"{form.__name__} has it because of the document on {text!r}", f"persist: {said}" not in form(report, "")
+            yield f"{form.__name__} has the verdict {part} on {text!r}", line in page, page
+            yield f"{form.__name__} has it because of the document on {text!r}", line not in form(report, "")
         [*of_proof] = conclude_part(proofs[0])
         flat = " ".join(explain.as_text(report, "", proofs).split()).replace("'", "`")
         for it in of_proof:
@@ -64,7 +68,7 @@ def test_explained():
 def test_commands():
     with support.folder() as folder:
         files = []
-        for number, (text, budget, said, _) in enumerate(ANSWERS):
+        for number, (text, budget, said) in enumerate(it[1:4] for it in ANSWERS if it[0] == "persist"):
             status, out, _ = support.command(["explain"], ct.prove("persist", text, budget).encode())
             yield f"explain on {text!r} with budget {budget}", status == (said == "open") and f"persist: {said}" in out, (status, out)
             files.append(f"{folder}/{number}.crn")
@@ -81,20 +85,6 @@ def test_commands():
         yield "a part that is not there", status == 4, (status, err)
 
 
-def damage(document, dice):
-    """A number or a word of some line changed, or a line left out or twice."""
-    lines = document.split("\n")
-    at, deed = dice.randrange(len(lines) - 1), dice.randrange(4)
-    words = lines[at].split(" ")
-    if deed < 2:
-        k = dice.randrange(len(words))
-        words[k] = dice.choice(["0", "1", "-1", "2", "yes", "void", "end", "", str(2**72)])
-        lines[at] = " ".join(words)
-    else:
-        lines[at : at + 1] = [lines[at]] * (deed - 2) * 2
-    return "\n".join(lines)
-
-
 def answer(check, document):
     try:
         return check(document).verdict
@@ -103,15 +93,29 @@ def answer(check, document):
 
 
 def test_second_check():
-    """Documents on networks by chance, whole and damaged: both checkers say the same."""
-    seen = set()
-    for seed in range(40):
-        document = ct.prove("persist", support.random_text(seed) if seed > 3 else "A <-> B\nB + C <-> 2D\n")
-        dice = random.Random(seed)
-        for form in [document, *(damage(document, dice) for _ in range(5))]:
-            said = answer(verify_part, form)
-            seen.add(said.split(" at ")[0])
-            yield f"document {seed}", said == answer(ct.verified, form), said, form
-    yield "verdicts and faults", {"persist: yes", "persist: no", "rejected 53 BadLaw", "rejected 26 WrongOrder"} <= seen, seen
+    """Documents on networks by chance, whole, of open answers and damaged: this package, the second program of the checks and the
+    program say the same."""
+    for part in PARTS:
+        it, dice, seen = random_test.PARTS[part], random.Random(part), set()
+        for number in range(30):
+            document = ct.prove(part, it.network(dice)).encode()
+            opened = random_test.with_lines(document, it.opened(it.PROGRAM.check_document(document)[0], dice))
+            damaged = (random_test.damaged(dice.choice([document, opened]), it.PROGRAM.words, dice) for _ in range(5))
+            for form in [document, opened, *damaged]:
+                said, wanted = answer(verify_part, form), it.PROGRAM.verify(form)[1].decode().rstrip("\n")
+                seen.add(it.kind(said).split(" at ")[0])
+                yield f"{part}: document {number}", said == wanted == answer(ct.verified, form), said, wanted, form
+        yield f"{part}: verdicts and faults", {*it.KINDS, "rejected 24 BadField", "rejected 26 WrongOrder"} <= seen, seen
     status, out, _ = support.command(["verify"], ct.prove("persist", "A <-> B\n").encode())
     yield "the command", (status, out) == (0, "persist: yes\n"), (status, out)
+
+
+def test_rows():
+    """The documents by hand of the checks, with one line in place of another."""
+    for part in PARTS:
+        for document, old, new, said in random_test.PARTS[part].VERDICTS:
+            edited = document.replace(old, new, 1)
+            # here a document says itself of which part it is
+            if edited.startswith(random_test.PARTS[part].PROGRAM.title()):
+                seen = answer(verify_part, edited)
+                yield f"{part}: {said} for {new!r}", seen == said, seen

@@ -310,7 +310,7 @@ def parser() -> Parser:
     it.add_argument("--resume", action="store_true", help="go on with the table that is there: its rows stay as they are")
     it.add_argument("--tsv", action="store_true", help="tabs between the cells; so for an output FILE.tsv, too")
     it.add_argument("--prove", metavar="PART", action="append", default=[], choices=PARTS,
-                    help="a column more, with the verified answer of crnt prove PART; PART is persist")
+                    help=f"a column more, with the verified answer of crnt prove PART; PART is {' or '.join(PARTS)}")
     it.add_argument("--reports", metavar="FOLDER", help="keep the report of each network there, as FILE.report")
     it.add_argument("--processes", type=number(1), metavar="N",
                     help="how many at a time, one for each processor if nothing is said")

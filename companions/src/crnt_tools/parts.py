@@ -8,13 +8,13 @@ from dataclasses import dataclass
 from .program import Text, answered, budget_words, network_of
 
 #: The parts that the program knows.
-PARTS = ("persist",)
+PARTS = ("persist", "parts")
 TITLE = re.compile(r"crn part ([a-z]+) 1\n")
 
 
 @dataclass(frozen=True)
 class Proof:
-    """A part document that the program has verified. `said` is `yes`, `no` or `open`."""
+    """A part document that the program has verified. `said` is `yes`, `no` or `open`, or what else the line says after the part."""
 
     part: str
     said: str

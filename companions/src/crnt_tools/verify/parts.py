@@ -5,6 +5,7 @@ from __future__ import annotations
 from ..parts import Proof
 from ..program import Text
 from .checks import read_network
+from .decompositions import Decomposition
 from .document import Document, bare
 from .part import PartCheck
 from .siphons import Siphons
@@ -12,6 +13,7 @@ from .siphons import Siphons
 #: What tests the lines of each part.
 CHECKS: dict[str, type[PartCheck]] = {
     "persist": Siphons,
+    "parts": Decomposition,
 }
 
 
