@@ -1,8 +1,8 @@
 #!/usr/bin/env python3
-"""Tries the yardstick beside the second program of the checks: reports of small random networks and of those of
-examples/networks, at several budgets, which the second program judges; their certificates, which both check; and damaged
-certificates of either version, on which both have to say the same. It ends at the first difference, and writes the input
-to /tmp/differs.
+"""Tries the yardstick beside the second programs of the checks: reports of small random networks and of those of
+examples/networks, at several budgets, which the second program judges; their certificates, which both check; damaged
+certificates of either version, on which both have to say the same; and part documents of random networks, which the second
+program of the part judges. It ends at the first difference, and writes the input to /tmp/differs.
 
     benches/agree.py [COUNT]
 """
@@ -17,6 +17,7 @@ import tempfile
 HERE = os.path.dirname(os.path.abspath(__file__))
 sys.path[:0] = [HERE, os.path.join(HERE, "..", "checks")]
 
+import prove
 import second_opinion
 import texts
 
@@ -58,6 +59,20 @@ def damaged(certificates, dice):
     return certificate[:at] + texts.damaged(certificate[at:], dice)
 
 
+def proofs(program, part, count):
+    """How many part documents are right, of so many random networks at budgets about that of their search."""
+    it, dice = prove.PARTS[part], random.Random(count)
+    for _ in range(count):
+        text = it.network(dice).encode()
+        visits = it.PROGRAM.visits(second_opinion.read_network(text.decode()))
+        budget = dice.choice([20_000, *([visits, max(1, visits - 1)] if visits else [])])
+        status, document = answer(program, ["prove", part, "--budget", str(budget)], text)
+        wrong = it.PROGRAM.judged(text, status, document, budget)
+        if wrong:
+            differ(text, part, budget, wrong, document)
+    return count
+
+
 def main(count):
     with tempfile.TemporaryDirectory() as folder:
         program = os.path.join(folder, "yardstick")
@@ -82,6 +97,8 @@ def main(count):
                 differ(text, *both)
             statuses.append(both[0][0])
         print(f"{len(statuses)} damaged certificates have the same answer from both, {statuses.count(3)} of them a rejection")
+        for part in prove.PARTS:
+            print(f"{proofs(program, part, count)} documents on {part} are right")
 
 
 main(int(sys.argv[1]) if len(sys.argv) > 1 else 300)

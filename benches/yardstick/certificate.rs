@@ -13,12 +13,12 @@ use crate::theorems::One;
 use std::borrow::Cow;
 use std::collections::HashMap;
 
-fn put<T: Copy + Into<i128>>(out: &mut Vec<u8>, words: &str, numbers: &[T]) {
+pub fn put<T: Copy + Into<i128>>(out: &mut Vec<u8>, words: &str, numbers: &[T]) {
     out.extend_from_slice(words.as_bytes());
     put_numbers(out, numbers);
 }
 
-fn put_gap(question: &str, gap: &Gap, out: &mut Vec<u8>) {
+pub fn put_gap(question: &str, gap: &Gap, out: &mut Vec<u8>) {
     out.extend_from_slice(question.as_bytes());
     match gap {
         Gap::Rests(question) => put(out, " open rests", &[*question]),
@@ -34,7 +34,7 @@ fn put_gap(question: &str, gap: &Gap, out: &mut Vec<u8>) {
     }
 }
 
-fn put_rank(rank: &Rank, out: &mut Vec<u8>) {
+pub fn put_rank(rank: &Rank, out: &mut Vec<u8>) {
     put(out, "base", &rank.base());
     let mut dual = Vec::new();
     for i in 0..rank.rank() as usize {
@@ -61,8 +61,7 @@ fn put_positive(question: &str, answer: &Answer<Positive>, out: &mut Vec<u8>) {
     put(out, record, numbers);
 }
 
-fn put_graph(net: &Net, verdicts: &Verdicts, shown: &Shown, out: &mut Vec<u8>) {
-    out.extend_from_slice(b"section graph\n");
+pub fn put_graph(net: &Net, verdicts: &Verdicts, shown: &Shown, out: &mut Vec<u8>) {
     put(out, "q1", &[verdicts.linkage.count]);
     put(out, "label", &verdicts.linkage.label);
     put(out, "up", &shown.forest.up);
@@ -246,6 +245,7 @@ pub fn certificate(net: &Net, verdicts: &Verdicts, shown: &Shown, out: &mut Vec<
     let share = Share::new(shown.trees.iter().flatten());
     put(out, "vectors", &[share.lists.len() as u32]);
     share.lists.iter().for_each(|list| put(out, "vector", list));
+    out.extend_from_slice(b"section graph\n");
     put_graph(net, verdicts, shown, out);
     match &verdicts.rank {
         None => {}

@@ -3,7 +3,7 @@
 //!
 //!     yardstick report|certify|work [--budget N] [QUESTIONS]
 //!     yardstick check [QUESTIONS]
-//!     yardstick prove persist [--budget N]
+//!     yardstick prove PART [--budget N]
 //!
 //! `work` writes what the searches did: visits of prefixes, decisions, finds of what was known, and exchanges.
 //! It is written for speed. QUESTIONS are numbers joined by commas, with those that they need, or else all fifteen.
@@ -21,6 +21,7 @@ mod graph;
 mod linear;
 mod lines;
 mod net;
+mod parts;
 mod persist;
 mod regular;
 mod report;
@@ -86,14 +87,14 @@ fn read_and_solve(form: Form, asked: Asked, budget: u32) -> io::Result<Ended> {
     Ok((out, u8::from(verdicts.open() > 0)))
 }
 
-fn prove(budget: u32) -> io::Result<Ended> {
+fn prove(part: &str, lines: impl Fn(&net::Net) -> persist::Answer) -> io::Result<Ended> {
     let net = match read_network()? {
         Ok(net) => net,
         Err(refused) => return Ok(refused),
     };
-    let answer = persist::persist(&net, budget);
+    let answer = lines(&net);
     let mut out = Vec::with_capacity(answer.lines.len() + 4096);
-    writeln!(out, "crn part persist 1\nnetwork {}", net.reactions.len())?;
+    writeln!(out, "crn part {part} 1\nnetwork {}", net.reactions.len())?;
     (0..net.reactions.len()).for_each(|r| net.put_reaction(r, &mut out));
     out.extend_from_slice(&answer.lines);
     out.extend_from_slice(b"end\n");
@@ -118,13 +119,17 @@ fn check(asked: Asked) -> io::Result<Ended> {
 /// What the words ask for, or nothing where they are no call.
 fn answer(words: &[String]) -> Option<io::Result<Ended>> {
     let said: Vec<&str> = words.iter().map(String::as_str).collect();
-    if let ["prove", "persist", rest @ ..] = &said[..] {
+    if let ["prove", part, rest @ ..] = &said[..] {
         let budget = match rest {
             [] => BUDGET,
-            ["--budget", number] => number.parse().ok()?,
+            ["--budget", number] => number.parse().ok().filter(|budget| (1..=100_000).contains(budget))?,
             _ => return None,
         };
-        return (1..=100_000).contains(&budget).then(|| prove(budget));
+        return match *part {
+            "persist" => Some(prove(part, |net| persist::persist(net, budget))),
+            "parts" => Some(prove(part, parts::parts)),
+            _ => None,
+        };
     }
     let (command, rest) = words.split_first()?;
     let (budget, rest) = match rest {
