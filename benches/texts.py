@@ -200,6 +200,30 @@ def conservative():
     ]
 
 
+LITERATURE = ["envz_ompr", "hydrogen_bromine", "mapk_cascade", "proofreading", "shinar_feinberg", "two_site_futile_cycle_in_chains"]
+
+
+def literature():
+    """The largest networks of the examples, and the one with robustness."""
+    return [(name.replace("_", " "), (EXAMPLES / f"{name}.crn").read_text("utf-8")) for name in LITERATURE]
+
+
+def proved():
+    """For each part pairs of a name and a text, to measure it on."""
+    large = [("240 reactions near all limits", near_limits()), ("30 pairs of species, each a linkage class", "".join(f"A{i} <-> B{i}\n" for i in range(30))),
+             ("random network of 40 species without reverses", random_directed()), ("nineteen-site futile cycle", futile(19))]
+    return {
+        "persist": conservative(),
+        "parts": [*large, *literature()],
+        "robust": [*large, *literature()],
+        "endo": [
+            *((f"futile cycle, {sites} site{'s' * (sites > 1)}", futile(sites)) for sites in (1, 2, 4, 8)),
+            *((f"random reversible, {species} species, {lines} lines", random_reversible(species, lines))
+              for species, lines in ((20, 5), (20, 6), (20, 30), (30, 45), (40, 60))),
+        ],
+    }
+
+
 def networks():
     """Pairs of a name and a text that spells a network, to certify."""
     pairs = [f"X{i} -> X{j}\n" for i in range(12) for j in range(12) if i != j]
