@@ -65,6 +65,13 @@ def test_explained():
             yield f"it says {it.id}", all(line in flat for line in ([it.sentence] if it.concludes else it.does_not_follow)), flat
 
 
+def test_without_conclusion():
+    """A verdict that no row is about is said all the same."""
+    proof = ct.Proof("parts", "2, ranks 1 1", "crn part parts 1\nnetwork 1\nA -> B\n")
+    for form in (explain.as_text, explain.as_markdown, explain.as_html):
+        yield form.__name__, "parts: 2, ranks 1 1" in form(ct.report(proof.network), "", [proof])
+
+
 def test_commands():
     with support.folder() as folder:
         files = []

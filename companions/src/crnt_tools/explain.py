@@ -59,6 +59,7 @@ def sections_of(report: Report, proofs: Sequence[Proof] = ()) -> list[Section]:
     if opened:
         sections.append(Section("What is open", "", [open_item(line) for line in opened]))
     silent = [Item("; ".join(it.rests_on), (("what does not follow", it.does_not_follow),)) for it in found if not it.concludes]
+    silent += [Item(proof.verdict.replace("\n", "; ")) for proof in proofs if not proof.is_open and not conclude_part(proof)]
     sections.append(Section("Lines from which nothing follows by themselves", "", silent))
     sections.append(Section("What no line is about", "", [
         Item(f"{it['title']}. {it['text']}") for it in data()["no_line_is_about"]]))
