@@ -19,6 +19,8 @@ ANSWERS = [
     ("persist", "0 -> A\n", None, "no", ["not-persistent-by-siphons"]),
     ("parts", "0 <-> A -> B\n2A + B -> 3A\n", None, "2, ranks 1 1", ["independent-parts"]),
     ("parts", "A -> B\n", None, "1, ranks 1", ["one-part"]),
+    ("robust", "A + B -> 2B\nB -> A\n", None, "hypotheses hold, species A\nconfluence space: a line", ["robust"]),
+    ("robust", "A -> B\n", None, "hypotheses fail, deficiency 0\nconfluence space: no line", ["not-robust"]),
 ]
 
 

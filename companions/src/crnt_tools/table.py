@@ -70,7 +70,7 @@ def row(job: Job) -> list[str]:
     except Exception as fault:  # whatever it is, the other rows go on
         return failed(job, 70, f"{type(fault).__name__}: {fault}")
     is_open = report.open_count > 0 or any(proof.is_open for proof in answers)
-    return [job.file, str(int(is_open)), "", *row_of(report), *(proof.said for proof in answers)]
+    return [job.file, str(int(is_open)), "", *row_of(report), *(proof.said.split("\n")[0] for proof in answers)]
 
 
 def failed(job: Job, status: int, message: str) -> list[str]:

@@ -8,12 +8,14 @@ from .checks import read_network
 from .decompositions import Decomposition
 from .document import Document, bare
 from .part import PartCheck
+from .robustness import Robustness
 from .siphons import Siphons
 
 #: What tests the lines of each part.
 CHECKS: dict[str, type[PartCheck]] = {
     "persist": Siphons,
     "parts": Decomposition,
+    "robust": Robustness,
 }
 
 
