@@ -25,6 +25,7 @@ mod parts;
 mod persist;
 mod regular;
 mod report;
+mod robust;
 mod search;
 mod signals;
 mod signs;
@@ -128,6 +129,7 @@ fn answer(words: &[String]) -> Option<io::Result<Ended>> {
         return match *part {
             "persist" => Some(prove(part, |net| persist::persist(net, budget))),
             "parts" => Some(prove(part, parts::parts)),
+            "robust" => Some(prove(part, robust::robust)),
             _ => None,
         };
     }
