@@ -11,7 +11,7 @@ import subprocess
 import sys
 from pathlib import Path
 
-from cases import try_parts, try_persist, try_robust
+from cases import try_endo, try_parts, try_persist, try_robust
 from cases.runs import SECONDS
 from second_opinion import read_network
 from second_part import BUDGET, MAX_BUDGET
@@ -22,6 +22,7 @@ PARTS = {it.PROGRAM.name: it for it in [
     try_persist,
     try_parts,
     try_robust,
+    try_endo,
 ]}
 DAMAGES = 6
 WIDE = 2**72

@@ -8,7 +8,7 @@ signs, and so are multipliers. Nothing depends on what is kept but the time.
 
 import math
 
-POS, NEG, ZERO, FREE = "+", "-", "0", "*"
+POS, NEG, ZERO, NONNEG, FREE = "+", "-", "0", ">", "*"
 
 
 def primitive(row):
@@ -44,14 +44,16 @@ def kernel(rows, width):
     return found
 
 
-def positive(rows, width):
+def positive(rows, width, firm=None):
     """Positive numbers whose product with each of the independent rows is 0, or multipliers of the rows whose combination
     has no positive entry and is not zero: yes or no, and the numbers. The first phase of the simplex method, with the least
-    index first."""
-    signs = [1 if sum(row) <= 0 else -1 for row in rows]
+    index first. From place `firm` on a number may be 0, and a combination that is zero before it shows nothing."""
+    firm = width if firm is None else firm
+    sums = [sum(row[:firm]) for row in rows]
+    signs = [1 if total <= 0 else -1 for total in sums]
     table = [
-        [sign * x for x in row] + [int(i == k) for i in range(len(rows))] + [-sign * sum(row)]
-        for k, (sign, row) in enumerate(zip(signs, rows))
+        [sign * x for x in row] + [int(i == k) for i in range(len(rows))] + [-sign * total]
+        for k, (sign, row, total) in enumerate(zip(signs, rows, sums))
     ]
     basis = [width + k for k in range(len(rows))]
     goal = [sum(column) for column in zip(*table)] or [0] * (width + 1)
@@ -67,7 +69,7 @@ def positive(rows, width):
         goal = cleared(goal, enter, table[leave])
     if goal[-1] == 0:
         scale = math.lcm(*(row[k] for k, row in zip(basis, table) if k < width))
-        found = [scale] * width
+        found = [scale] * firm + [0] * (width - firm)
         for k, row in zip(basis, table):
             if k < width:
                 found[k] += row[-1] * scale // row[k]
@@ -80,8 +82,9 @@ def mask(places):
 
 
 def masks(kinds):
-    """The places that have to be positive, those that have to be negative, and those that have to be zero."""
-    return [mask(i for i, kind in enumerate(kinds) if kind == wanted) for wanted in (POS, NEG, ZERO)]
+    """The places that have to be positive, those that have to be negative, those that have to be zero, and those that may
+    not be negative."""
+    return [mask(i for i, kind in enumerate(kinds) if kind == wanted) for wanted in (POS, NEG, ZERO, NONNEG)]
 
 
 class Part:
@@ -104,21 +107,22 @@ class Part:
 
     def excludes(self, kinds, u):
         """The multipliers exclude every solution, by their definition: (-uA, u) is at least 0 where a positive number is
-        asked for, at most 0 where a negative one is, 0 where nothing is, and it is not 0 everywhere in the first two."""
+        asked for or one that is not negative, at most 0 where a negative one is, 0 where nothing is, and it is not 0 everywhere
+        where a positive or a negative number is asked for."""
         up, down = self.signs_of(tuple(u))
-        plus, minus, zero = masks(kinds)
-        return not (up & ~(plus | zero) or down & ~(minus | zero)) and bool(up & plus | down & minus)
+        plus, minus, zero, weak = masks(kinds)
+        return not (up & ~(plus | zero | weak) or down & ~(minus | zero)) and bool(up & plus | down & minus)
 
     def solution(self, kinds):
         """An x of which each coordinate is of its kind, or None."""
-        plus, minus, zero = masks(kinds)
+        plus, minus, zero, weak = masks(kinds)
         for up, down in self.cuts:
             signed = (up & plus) | (down & minus)
-            if signed and not (up & ~(plus | zero) or down & ~(minus | zero)):
+            if signed and not (up & ~(plus | zero | weak) or down & ~(minus | zero)):
                 return None
         found, seen_plus, seen_minus = [0] * self.width, 0, 0
         for up, down, x in self.solutions:
-            if not ((up | down) & zero or down & plus or up & minus) and (up & plus & ~seen_plus or down & minus & ~seen_minus):
+            if not ((up | down) & zero or down & (plus | weak) or up & minus) and (up & plus & ~seen_plus or down & minus & ~seen_minus):
                 found = [a + b for a, b in zip(found, x)]
                 seen_plus, seen_minus = seen_plus | (up & plus), seen_minus | (down & minus)
         if seen_plus == plus and seen_minus == minus:
@@ -134,14 +138,15 @@ class Part:
         signed = [i for i, kind in enumerate(kinds) if kind in (POS, NEG)]
         if not signed:
             return [0] * self.width
-        zeros = [i for i, kind in enumerate(kinds) if kind == ZERO]
+        firm, zeros = len(signed), [i for i, kind in enumerate(kinds) if kind == ZERO]
+        signed += [i for i, kind in enumerate(kinds) if kind == NONNEG]
         chosen = signed + zeros
-        flips = [1 if kinds[i] == POS else -1 for i in signed]
+        flips = [-1 if kinds[i] == NEG else 1 for i in signed]
         # what is orthogonal to all (x, Ax) and is 0 on the free coordinates
         duals = kernel([[self.lines[i][k] for i in chosen] for k in range(self.width)], len(chosen))
         rows = [[flip * dual[at] for at, flip in enumerate(flips)] for dual in duals]
         places = independent(rows)
-        is_yes, numbers = positive([rows[place] for place in places], len(signed))
+        is_yes, numbers = positive([rows[place] for place in places], len(signed), firm)
         if not is_yes:
             cut = [-sum(u * duals[place][at] for u, place in zip(numbers, places)) for at in range(len(chosen))]
             ups = mask(chosen[at] for at, entry in enumerate(cut) if entry > 0)
@@ -277,7 +282,7 @@ class Signals:
 
 
 def has_kinds(kinds, values):
-    of_kind = {POS: lambda x: x > 0, NEG: lambda x: x < 0, ZERO: lambda x: x == 0, FREE: lambda x: True}
+    of_kind = {POS: lambda x: x > 0, NEG: lambda x: x < 0, ZERO: lambda x: x == 0, NONNEG: lambda x: x >= 0, FREE: lambda x: True}
     return all(of_kind[kind](value) for kind, value in zip(kinds, values))
 
 
