@@ -21,6 +21,9 @@ ANSWERS = [
     ("parts", "A -> B\n", None, "1, ranks 1", ["one-part"]),
     ("robust", "A + B -> 2B\nB -> A\n", None, "hypotheses hold, species A\nconfluence space: a line", ["robust"]),
     ("robust", "A -> B\n", None, "hypotheses fail, deficiency 0\nconfluence space: no line", ["not-robust"]),
+    ("endo", "A <-> B\n", None, "yes", ["endotactic"]),
+    ("endo", "A <-> B\n", 11, "open", []),
+    ("endo", "A -> 2A\nA -> 0\n", None, "no, reaction 1", ["not-endotactic"]),
 ]
 
 

@@ -8,7 +8,7 @@ from dataclasses import dataclass
 from .program import Text, answered, budget_words, network_of
 
 #: The parts that the program knows.
-PARTS = ("persist", "parts", "robust")
+PARTS = ("persist", "parts", "robust", "endo")
 TITLE = re.compile(r"crn part ([a-z]+) 1\n")
 
 

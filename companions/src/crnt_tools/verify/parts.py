@@ -10,12 +10,14 @@ from .document import Document, bare
 from .part import PartCheck
 from .robustness import Robustness
 from .siphons import Siphons
+from .slopes import Slopes
 
 #: What tests the lines of each part.
 CHECKS: dict[str, type[PartCheck]] = {
     "persist": Siphons,
     "parts": Decomposition,
     "robust": Robustness,
+    "endo": Slopes,
 }
 
 

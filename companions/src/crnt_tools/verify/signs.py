@@ -1,5 +1,6 @@
 """Sign problems: what a prefix requires, and when multipliers exclude it. docs/CERTIFICATES.md, "Trees of signs" and "Trees of
-signals". A sign is 1, -1 or 0; a number that has to meet none is free, None."""
+signals". A sign is 1, -1 or 0; a number that has to meet none is free, None, and one that may not be negative has the sign
+`NOT_NEGATIVE`."""
 
 from __future__ import annotations
 
@@ -9,6 +10,7 @@ from typing import Optional, Protocol, Sequence
 from ..network import Network, Numbers
 
 Sign = Optional[int]
+NOT_NEGATIVE = 2
 
 
 def sign_of(number: int) -> int:
@@ -25,11 +27,11 @@ def combined(weights: Sequence[int], rows: Sequence[Sequence[int]]) -> list[int]
 
 
 def are_right(signs: Sequence[Sign], weights: Sequence[int]) -> bool:
-    """The weights exclude numbers of these signs: each is of its number's sign, anything where that is 0, and 0 where the
+    """The weights exclude numbers of these signs: each is of its number's sign, or 0, anything where that is 0, and 0 where the
     number is free; and some weight of a positive or negative number is not 0."""
     fitting = all(sign == 0 or (weight == 0 if sign is None else sign * weight >= 0)
                   for sign, weight in zip(signs, weights))
-    return fitting and any(sign and weight for sign, weight in zip(signs, weights))
+    return fitting and any(sign in (1, -1) and weight for sign, weight in zip(signs, weights))
 
 
 class SignProblem(Protocol):
