@@ -61,6 +61,31 @@ def test_svg():
             yield f"{path.name}: names", set(names) <= shown, set(names) - shown
 
 
+#: A network of two species, and a slope against its second reaction: along it the slope falls from 2 to 0.
+SLOPE = "crn part endo 1\nnetwork 2\nA -> 2A\nA + B -> 0\nno 2\nslope -1 3\nend\n"
+
+
+def test_slope():
+    proof = ct.Proof("endo", "no, reaction 2", SLOPE)
+    text = draw.slope_dot(proof)
+    at = {name: (float(x), float(y)) for name, x, y in re.findall(r'^  (\w+) \[.*pos="([-\d.]+),([-\d.]+)!"', text, re.MULTILINE)}
+    yield "complexes are at their amounts", [at[f"c{c}"] for c in range(1, 5)] == [(1, 0), (2, 0), (1, 1), (0, 0)], at
+    heights = {name: -x + 3 * y for name, (x, y) in at.items()}
+    level = [abs(heights[name] - heights["c3"]) < 1e-4 for name in ("low", "high", "start")]
+    yield "the line is at the height of the reactant, and the arrow goes up", all(level) and heights["up"] > heights["c3"], heights
+    yield "the reaction is marked", 'c3 -> c4 [label="2", color="#c53030"]' in text and text.count("#c53030") == 1, text
+    for what, other in [("three species", SLOPE.replace("A -> 2A", "A -> C")), ("a yes", SLOPE.replace("no 2\nslope -1 3", "large"))]:
+        try:
+            yield what, False, draw.slope_dot(ct.Proof("endo", "", other))
+        except ct.SlopeNeeded:
+            yield what, True
+    if not shutil.which("dot"):
+        raise support.Skipped("dot, of Graphviz, is not there")
+    root = xml.fromstring(draw.picture(text, "svg"))
+    shown = {text.text for text in root.iter(f"{SVG}text")}
+    yield "names", {"A", "2A", "A + B", "0", "1", "2"} <= shown, shown
+
+
 def pixels(png):
     """The width and height of a PNG, and how many different lines of pixels it has."""
     width, height, depth, kind = struct.unpack(">IIBB", png[16:26])

@@ -10,7 +10,7 @@ about its structure, and hands its answers to Python. This package decides nothi
 """
 
 from .errors import (
-    CrntError, NetworkNeeded, NotANetwork, NotAReport, NotImported, ProgramFault, ProgramMissing, Refused, Rejected,
+    CrntError, NetworkNeeded, NotANetwork, NotAReport, NotImported, ProgramFault, ProgramMissing, Refused, Rejected, SlopeNeeded,
     ToolMissing,
 )
 from .network import Complex, Network, Reaction, Term
@@ -23,6 +23,6 @@ __version__ = "1.0.0"
 
 __all__ = [
     "Complex", "CrntError", "Failure", "Network", "NetworkNeeded", "NotANetwork", "NotAReport", "NotImported", "Open", "ProgramFault",
-    "ProgramMissing", "Proof", "Reaction", "Refused", "Rejected", "Report", "Signal", "Term", "ToolMissing", "Verdict", "certify",
-    "check", "find", "prove", "report", "schema", "verified",
+    "ProgramMissing", "Proof", "Reaction", "Refused", "Rejected", "Report", "Signal", "SlopeNeeded", "Term", "ToolMissing", "Verdict",
+    "certify", "check", "find", "prove", "report", "schema", "verified",
 ]

@@ -10,7 +10,7 @@ from pathlib import Path
 from typing import Any, Callable, NoReturn, Sequence
 
 from . import __version__, draw, explain, importing, order, table
-from .errors import CrntError, Refused
+from .errors import CrntError, Refused, SlopeNeeded
 from .loading import load, proofs_in
 from .parts import PARTS, is_part_document
 from .verify import verify, verify_part
@@ -173,7 +173,14 @@ def do_draw(given: argparse.Namespace) -> int:
     format_ = given.format or (suffix if suffix in draw.FORMATS else "svg")
 
     def work(file: str) -> int:
-        report = load(read(file), given.budget)
+        text = read(file)
+        if given.view == "slope":
+            proofs = proofs_in(text)
+            if not proofs:
+                raise SlopeNeeded("a slope is drawn of a document of crnt prove endo")
+            write(given.output, draw.picture(draw.slope_dot(proofs[0]), format_))
+            return DONE
+        report = load(text, given.budget)
         dot = draw.species_dot(report) if given.view == "species" else draw.complexes_dot(report)
         write(given.output, draw.picture(dot, format_))
         return OPEN_LEFT if report.open_count else DONE
@@ -284,10 +291,12 @@ def parser() -> Parser:
     it = verb("draw", do_draw, "The picture of the complexes, or of species and reactions, by Graphviz.", """\
   crnt-tools draw edelstein.crn -o edelstein.svg
   crnt-tools draw edelstein.crn --view species -o species.png
-  crnt report < edelstein.crn | crnt-tools draw --format dot""")
+  crnt report < edelstein.crn | crnt-tools draw --format dot
+  crnt prove endo < two_species.crn | crnt-tools draw --view slope -o slope.svg""")
     options(it, False, network)
-    it.add_argument("--view", choices=("complexes", "species"), default="complexes",
-                    help="what to draw: complexes in frames of their classes (so if nothing is said), or species and reactions")
+    it.add_argument("--view", choices=("complexes", "species", "slope"), default="complexes",
+                    help="what to draw: complexes in frames of their classes (so if nothing is said), species and reactions, or\n"
+                         "the slope of two species that a document of crnt prove endo has")
     it.add_argument("--format", choices=draw.FORMATS, help="by the name of the output, or svg; dot is the text for Graphviz")
     it.add_argument("-o", "--output", metavar="FILE", help="where to write, instead of standard output")
 

@@ -1,12 +1,14 @@
-"""Pictures of a network by Graphviz: the complexes and their reactions, and the species and reactions."""
+"""Pictures of a network by Graphviz: the complexes and their reactions, the species and reactions, and a slope of two species."""
 
 from __future__ import annotations
 
+import math
 import shutil
 import subprocess
 
-from .errors import NetworkNeeded, ToolMissing
+from .errors import NetworkNeeded, SlopeNeeded, ToolMissing
 from .network import Complex, Network, Reaction
+from .parts import Proof
 from .report import Report
 
 FORMATS = ("svg", "png", "pdf", "dot")
@@ -61,12 +63,12 @@ def complexes_dot(report: Report) -> str:
         lines.append(f"  c{pair[0].reactant} -> c{pair[0].product} [label={quoted(numbers_of(pair))}{both}];")
     caption = "Frames are linkage classes, shaded frames terminal strong classes; " + (
         "arrows have the numbers of their reactions." if report.network else "a report does not list the reactions.")
-    return graph("complexes", caption, ['  node [shape=box, style="rounded,filled", fillcolor="white"];', *lines], report)
+    return graph("complexes", caption, ['  node [shape=box, style="rounded,filled", fillcolor="white"];', *lines], str(report))
 
 
-def graph(name: str, caption: str, lines: list[str], report: Report) -> str:
-    """A DOT text, with the report that it rests on as comments."""
-    comments = "".join(f"// {line}\n" for line in str(report).splitlines())
+def graph(name: str, caption: str, lines: list[str], shown: str) -> str:
+    """A DOT text, with the report or the document that it rests on as comments."""
+    comments = "".join(f"// {line}\n" for line in shown.splitlines())
     body = "\n".join(lines)
     return f"{comments}digraph {name} {{\n  rankdir=LR; label={quoted(caption)};\n{HEAD}{body}\n}}\n"
 
@@ -84,7 +86,7 @@ def species_dot(report: Report) -> str:
         lines += edges(network, network.complexes[first.reactant - 1], "{species} -> " + name, len(pair) > 1)
         lines += edges(network, network.complexes[first.product - 1], name + " -> {species}", len(pair) > 1)
     caption = "Ellipses are species, boxes reactions with their numbers; amounts above 1 are at the arrows."
-    return graph("species", caption, lines, report)
+    return graph("species", caption, lines, str(report))
 
 
 def edges(network: Network, complex_: Complex, form: str, both: bool) -> list[str]:
@@ -94,6 +96,32 @@ def edges(network: Network, complex_: Complex, form: str, both: bool) -> list[st
         edge = form.format(species=f"s{network.species.index(name) + 1}")
         made.append(f"  {edge}{f' [{chr(44).join(marks)}]' if marks else ''};")
     return made
+
+
+def slope_dot(proof: Proof) -> str:
+    """The DOT text of a slope that a document on endotactic networks has, of two species: the complexes at their amounts, the line
+    of equal height through the reactant of the reaction that the slope falls along, and an arrow to where it is higher."""
+    network = Network.of_text(proof.network)
+    *_, no, numbers, _ = proof.document.splitlines()
+    if proof.part != "endo" or not numbers.startswith("slope ") or len(network.species) != 2:
+        raise SlopeNeeded("a slope is drawn of a document of crnt prove endo that says no, of a network of two species")
+    number, slope = int(no.split(" ")[1]), [int(word) for word in numbers.split(" ")[1:]]
+    at = network.amounts[network.reactions[number - 1].reactant - 1]
+    long, far = math.hypot(*slope), 1 + max(max(amounts) for amounts in network.amounts)
+    up = [x / long for x in slope]
+    ends = {"low": (at[0] - far * up[1], at[1] + far * up[0]), "high": (at[0] + far * up[1], at[1] - far * up[0]),
+            "up": (at[0] + up[0], at[1] + up[1]), "start": (at[0], at[1])}
+    lines = ['  layout=neato; splines=true; outputorder=edgesfirst; size="10,10";', '  node [shape=box, style="rounded,filled", fillcolor="white", margin=0.04];']
+    lines += [f'  c{c} [label={quoted(str(it))}, pos="{amounts[0]},{amounts[1]}!"];'
+              for c, (it, amounts) in enumerate(zip(network.complexes, network.amounts), 1)]
+    lines += [f'  {name} [shape=point, style=invis, pos="{x:.6f},{y:.6f}!"];' for name, (x, y) in ends.items()]
+    lines += ["  low -> high [dir=none, style=dashed];", '  start -> up [color="#2b6cb0", penwidth=2];']
+    for reaction in network.reactions:
+        color = ', color="#c53030"' if reaction.number == number else ""
+        lines.append(f'  c{reaction.reactant} -> c{reaction.product} [label="{reaction.number}"{color}];')
+    caption = (f"Complexes at their amounts of {network.species[0]}, to the right, and {network.species[1]}, up. The slope, the thick "
+               f"arrow, falls along reaction {number} and rises along none that begins below the dashed line.")
+    return graph("slope", caption, lines, "\n".join([proof.verdict, numbers]))
 
 
 def picture(dot: str, format_: str) -> bytes:

@@ -88,5 +88,11 @@ class NetworkNeeded(CrntError):
     status = 2
 
 
+class SlopeNeeded(CrntError):
+    """A picture of a slope is asked for, and there is none, or not of two species."""
+
+    status = 2
+
+
 class ToolMissing(CrntError):
     """Another program or library is needed and not there."""
