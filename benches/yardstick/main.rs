@@ -16,6 +16,7 @@ mod check;
 mod check_signs;
 mod concordance;
 mod document;
+mod endo;
 mod frame;
 mod graph;
 mod linear;
@@ -130,6 +131,7 @@ fn answer(words: &[String]) -> Option<io::Result<Ended>> {
             "persist" => Some(prove(part, |net| persist::persist(net, budget))),
             "parts" => Some(prove(part, parts::parts)),
             "robust" => Some(prove(part, robust::robust)),
+            "endo" => Some(prove(part, |net| endo::endo(net, budget))),
             _ => None,
         };
     }

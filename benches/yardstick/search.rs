@@ -96,9 +96,9 @@ impl AddAssign for Work {
     }
 }
 
-pub struct Search<'s, P: Problem<W>, const W: usize> {
+pub struct Search<'s, P: Problem<W>, const W: usize, const WEAK: bool = false> {
     pub problem: &'s P,
-    pub a: Part<'s, W>,
+    pub a: Part<'s, W, WEAK>,
     pub b: Part<'s, 1>,
     /// How many columns the system of each part has.
     pub columns: (usize, usize),
@@ -150,8 +150,8 @@ impl Walk {
     }
 }
 
-impl<'s, P: Problem<W>, const W: usize> Search<'s, P, W> {
-    pub fn new(problem: &'s P, a: Part<'s, W>, b: Part<'s, 1>, columns: (usize, usize), shows: bool) -> Self {
+impl<'s, P: Problem<W>, const W: usize, const WEAK: bool> Search<'s, P, W, WEAK> {
+    pub fn new(problem: &'s P, a: Part<'s, W, WEAK>, b: Part<'s, 1>, columns: (usize, usize), shows: bool) -> Self {
         Search { problem, a, b, columns, shows, visits: 0 }
     }
 

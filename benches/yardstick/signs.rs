@@ -149,6 +149,12 @@ impl<const W: usize> Kinds<W> {
         wrong == 0 && shown != 0
     }
 
+    /// The same where what has to be positive at these places may be zero, too: a vector that is zero at all others shows nothing.
+    pub fn are_excluded_but_for(&self, weak: &Mask<W>, dual: &Signs<W>) -> bool {
+        self.are_excluded_by(dual)
+            && !dual.plus.and(&self.plus.without(weak)).or(&dual.minus.and(&self.minus)).is_empty()
+    }
+
     /// Whether no sign of a vector is against these kinds.
     pub fn admit(&self, signs: &Signs<W>) -> bool {
         let against = |word: usize| {

@@ -29,11 +29,13 @@ struct Cut<const W: usize> {
 }
 
 /// One of the two systems of a sign problem, with what was found so far. A level is a number of choices made.
-pub struct Part<'b, const W: usize> {
+/// A WEAK one has places where plus asks for no more than a number that is not negative.
+pub struct Part<'b, const W: usize, const WEAK: bool = false> {
     dictionary: Dictionary,
     place: Vec<Place>,
     kind: Vec<Kind>,
     frame: Frame<'b>,
+    weak: Mask<W>,
     /// The coordinates whose kinds a level settles.
     settled: Vec<Mask<W>>,
     /// For each level the last one, up to it, that settles anything.
@@ -58,6 +60,19 @@ type Stop = (u32, Vec<u32>);
 impl<'b, const W: usize> Part<'b, W> {
     /// `settled` is as long as there are levels.
     pub fn new(dictionary: Dictionary, frame: Frame<'b>, settled: Vec<Mask<W>>) -> Part<'b, W> {
+        Part::of(dictionary, frame, settled, Mask::NONE)
+    }
+}
+
+impl<'b, const W: usize> Part<'b, W, true> {
+    /// The same with these places weak.
+    pub fn weak(dictionary: Dictionary, frame: Frame<'b>, settled: Vec<Mask<W>>, weak: Mask<W>) -> Part<'b, W, true> {
+        Part::of(dictionary, frame, settled, weak)
+    }
+}
+
+impl<'b, const W: usize, const WEAK: bool> Part<'b, W, WEAK> {
+    fn of(dictionary: Dictionary, frame: Frame<'b>, settled: Vec<Mask<W>>, weak: Mask<W>) -> Part<'b, W, WEAK> {
         let count = dictionary.rows.len() + dictionary.width;
         let mut place = vec![Place::Basis(0); count];
         dictionary.basis.iter().enumerate().for_each(|(q, c)| place[*c as usize] = Place::Basis(q));
@@ -69,7 +84,8 @@ impl<'b, const W: usize> Part<'b, W> {
         let (kind, kinds, lists) = (vec![Kind::Free; count], vec![Kinds::FREE; levels], Vec::new());
         let (cuts, full) = ((0..levels).map(|_| Vec::new()).collect(), vec![Signs::NONE; levels]);
         let rays = (0..count).map(|_| [Vec::new(), Vec::new()]).collect();
-        Part { dictionary, place, kind, frame, settled, last, kinds, full, cuts, rays, lists, work: Work::default() }
+        let work = Work::default();
+        Part { dictionary, place, kind, frame, weak, settled, last, kinds, full, cuts, rays, lists, work }
     }
 
     /// Whether a level settles anything.
@@ -95,8 +111,11 @@ impl<'b, const W: usize> Part<'b, W> {
                 continue;
             }
             let dual = bucket[at].dual;
-            let is_negated = kinds.are_excluded_by(&dual.turned());
-            if is_negated || kinds.are_excluded_by(&dual) {
+            let exclude = |dual: &Signs<W>| {
+                if WEAK { kinds.are_excluded_but_for(&self.weak, dual) } else { kinds.are_excluded_by(dual) }
+            };
+            let is_negated = exclude(&dual.turned());
+            if is_negated || exclude(&dual) {
                 let name = bucket[at].name;
                 bucket.swap(at, at / 2);
                 self.work.hits += 1;
@@ -122,8 +141,10 @@ impl<'b, const W: usize> Part<'b, W> {
         for (mask, sign) in [(here.plus, 1), (here.minus, -1)] {
             for c in new.and(&mask).places() {
                 kinds.put(c, sign as i8);
-                if full.sign(c) != Some(sign) {
+                let is_weak = WEAK && self.weak.has(c);
+                if full.sign(c) != Some(sign) && !(is_weak && full.sign(c) == Some(0)) {
                     match self.ray(c, sign, &kinds)? {
+                        Err(_) if is_weak => return self.solve(level),
                         Err(p) => return self.learn(level, p, sign).map(Some),
                         Ok(ray) => full = ray.over(&full),
                     }
@@ -149,7 +170,8 @@ impl<'b, const W: usize> Part<'b, W> {
     /// A solution of the prefix of this level from nothing, or a cut.
     fn solve(&mut self, level: usize) -> Result<Option<Named>, Stop> {
         let (kinds, new, mut full) = (self.kinds[level], self.settled[level], Signs::NONE);
-        let aims = [(kinds.plus.and(&new), 1), (kinds.minus.and(&new), -1), (kinds.plus, 1), (kinds.minus, -1)];
+        let plus = if WEAK { kinds.plus.without(&self.weak) } else { kinds.plus };
+        let aims = [(plus.and(&new), 1), (kinds.minus.and(&new), -1), (plus, 1), (kinds.minus, -1)];
         for (mask, sign) in aims {
             for c in mask.places() {
                 if full.sign(c) != Some(sign) {
@@ -296,7 +318,7 @@ impl<'b, const W: usize> Part<'b, W> {
         let kinds = self.kinds[level];
         let (mut full, mut sum) = (Signs::NONE, vec![0; columns]);
         self.prepare(&kinds);
-        for (mask, sign) in [(kinds.plus, 1), (kinds.minus, -1)] {
+        for (mask, sign) in [(kinds.plus.without(&self.weak), 1), (kinds.minus, -1)] {
             for c in mask.places() {
                 if full.sign(c) == Some(sign) {
                     continue;
