@@ -21,9 +21,13 @@ enum Node {
 /// How the visits of a prefix and of all below it end.
 enum End {
     Refuted,
-    Found(u64),
+    /// A full set, and the place of what increases each member.
+    Found(u64, usize),
     Spent,
 }
+
+/// How many covers are kept at once.
+const MAX_COVERS: usize = 64;
 
 /// What the solver says of a set: the species that a combination increases with their changes, or a law within it.
 enum Decision {
@@ -33,14 +37,14 @@ enum Decision {
 
 struct Search<'n> {
     species: usize,
-    /// The species of the reactant and of the product of each reaction.
-    ends: Vec<(u64, u64)>,
+    /// For each species the reactions that hold it, ascending, with the species of the reactant and of the product.
+    holders: Vec<Vec<(u32, u64, u64)>>,
     /// The space of changes: independent species, and the others by them.
     space: &'n Dictionary,
     left: u32,
     nodes: Vec<Node>,
-    cover: Vec<i128>,
-    covered: u64,
+    /// Changes, and the species that they increase.
+    covers: Vec<(u64, Vec<i128>)>,
     laws: Vec<(u64, Vec<i128>)>,
 }
 
@@ -133,30 +137,37 @@ fn cover(made: &Dictionary) -> Result<Vec<i128>, Wide> {
     Ok(values)
 }
 
+/// The species with positive numbers.
+fn positive(numbers: &[i128]) -> u64 {
+    (0..numbers.len()).filter(|s| numbers[*s] > 0).fold(0, |set, s| set | 1 << s)
+}
+
 impl Search<'_> {
-    fn stopping(&self, inside: u64, outside: u64) -> Option<u32> {
-        let stops = |(reactant, product): &(u64, u64)| product & inside != 0 && reactant & !outside == 0;
-        self.ends.iter().position(stops).map(|r| r as u32 + 1)
+    /// The least reaction that stops the prefix. Its parent stands, so such a reaction holds the species chosen last.
+    fn stopping(&self, chosen: usize, inside: u64, outside: u64) -> Option<u32> {
+        let stops = |(_, reactant, product): &&(u32, u64, u64)| product & inside != 0 && reactant & !outside == 0;
+        self.holders[chosen.checked_sub(1)?].iter().find(stops).map(|(r, _, _)| *r)
     }
 
-    /// A law within the set, or nothing where the kept numbers increase each member.
-    fn law_within(&mut self, set: u64) -> Result<Option<usize>, Wide> {
-        if set & !self.covered == 0 {
-            return Ok(None);
+    /// The place of a law within the set, or else of changes that increase each member.
+    fn law_within(&mut self, set: u64) -> Result<Result<usize, usize>, Wide> {
+        if let Some(known) = self.covers.iter().position(|(covered, _)| set & !covered == 0) {
+            return Ok(Err(known));
         }
         if let Some(known) = self.laws.iter().position(|(support, _)| support & !set == 0) {
-            return Ok(Some(known));
+            return Ok(Ok(known));
         }
         match decide(self.space, set)? {
             Decision::Cover(changes) => {
-                self.covered = (0..self.species).filter(|s| changes[*s] > 0).fold(0, |set, s| set | 1 << s);
-                self.cover = changes;
-                Ok(None)
+                if self.covers.len() == MAX_COVERS {
+                    self.covers.clear();
+                }
+                self.covers.push((positive(&changes), changes));
+                Ok(Err(self.covers.len() - 1))
             }
             Decision::Law(weights) => {
-                let support = (0..self.species).filter(|s| weights[*s] > 0).fold(0, |set, s| set | 1 << s);
-                self.laws.push((support, weights));
-                Ok(Some(self.laws.len() - 1))
+                self.laws.push((positive(&weights), weights));
+                Ok(Ok(self.laws.len() - 1))
             }
         }
     }
@@ -166,7 +177,7 @@ impl Search<'_> {
             return Ok(End::Spent);
         }
         self.left -= 1;
-        if let Some(r) = self.stopping(inside, outside) {
+        if let Some(r) = self.stopping(chosen, inside, outside) {
             self.nodes.push(Node::Bad(r));
             return Ok(End::Refuted);
         }
@@ -174,12 +185,15 @@ impl Search<'_> {
             self.nodes.push(Node::Void);
             return Ok(End::Refuted);
         }
-        if let Some(known) = self.law_within(inside)? {
-            self.nodes.push(Node::Law(known));
-            return Ok(End::Refuted);
-        }
+        let cover = match self.law_within(inside)? {
+            Ok(law) => {
+                self.nodes.push(Node::Law(law));
+                return Ok(End::Refuted);
+            }
+            Err(cover) => cover,
+        };
         if chosen == self.species {
-            return Ok(End::Found(inside));
+            return Ok(End::Found(inside, cover));
         }
         self.nodes.push(Node::Fork);
         match self.walk(chosen + 1, inside | 1 << chosen, outside)? {
@@ -187,6 +201,12 @@ impl Search<'_> {
             end => Ok(end),
         }
     }
+}
+
+/// For each species the reactions that hold it.
+fn holders(net: &Net) -> Vec<Vec<(u32, u64, u64)>> {
+    let ends: Vec<_> = net.reactions.iter().zip(1..).map(|((y, z), r)| (r, held(net, *y), held(net, *z))).collect();
+    (0..net.species.len()).map(|s| ends.iter().copied().filter(|(_, y, z)| (y | z) >> s & 1 == 1).collect()).collect()
 }
 
 fn wide_answer(system: u32, wide: (u32, Vec<u32>)) -> Answer {
@@ -218,12 +238,11 @@ pub fn persist(net: &Net, budget: u32) -> Answer {
     let base = Base::new(net, &rank);
     let mut search = Search {
         species,
-        ends: net.reactions.iter().map(|(y, z)| (held(net, *y), held(net, *z))).collect(),
+        holders: holders(net),
         space: &space,
         left: budget,
         nodes: Vec::new(),
-        cover: vec![0; species],
-        covered: 0,
+        covers: vec![(0, vec![0; species])],
         laws: Vec::new(),
     };
     match search.walk(0, 0, 0) {
@@ -239,12 +258,12 @@ pub fn persist(net: &Net, budget: u32) -> Answer {
                 }
             }
         }
-        Ok(End::Found(set)) => {
+        Ok(End::Found(set, cover)) => {
             put_line("no", &[], &mut lines);
             let marks: Vec<i128> = (0..species).map(|s| i128::from(set >> s & 1)).collect();
             put_line("siphon", &marks, &mut lines);
             let frame = crate::frame::Frame::Species(&base);
-            put_line("mult", &frame.columns(&search.cover).expect("small weights"), &mut lines);
+            put_line("mult", &frame.columns(&search.covers[cover].1).expect("small weights"), &mut lines);
         }
         Ok(End::Spent) => {
             put_line("spent", &[i128::from(budget)], &mut lines);
