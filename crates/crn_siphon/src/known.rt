@@ -85,7 +85,7 @@ fn ask(
 {
     net.meets_definition();
     let kinds = siphon_kinds(alloc, net, set)?;
-    match solver.decide(&kinds)? {
+    match solver.settle(&kinds)? {
         Decision::Feasible(cover) => {
             known.covered = increased(net, cover.as_slice());
             known.cover = cover;

@@ -13,14 +13,14 @@ use Rattle.crn_siphon.specs.Inner.Known.{AreIncreased, AreLaws, IsLawIn}
 use Rattle.crn_siphon.proofs.Systems.{kinds_long, few_signed, decided, solution_formed, solution_increases, cut_is_law}
 use Rattle.crn_siphon.proofs.known.ask.Goals as goal
 
-pub decide-requires-clause-kinds : goal.decide-requires-clause-kinds
-decide-requires-clause-kinds c =
+pub settle-requires-clause-kinds : goal.settle-requires-clause-kinds
+settle-requires-clause-kinds c =
     let net = c.args.net.now in
     let kinds : c.deref.result.now ≡ siphon_kinds net c.args.set = c.deref.ensures.value ∙ c.in_ok-kinds.ensures in
     ap (λ (ks : List Kind). length ks) kinds ∙ kinds_long net c.args.set ∙ ap (λ (m : Mat). width m) (sym c.requires.matrix)
 
-pub decide-requires-clause-few : goal.decide-requires-clause-few
-decide-requires-clause-few c =
+pub settle-requires-clause-few : goal.settle-requires-clause-few
+settle-requires-clause-few c =
     let net = c.args.net.now in
     let kinds : c.deref.result.now ≡ siphon_kinds net c.args.set = c.deref.ensures.value ∙ c.in_ok-kinds.ensures in
     omega (arith, ap (λ (ks : List Kind). signed_count ks) kinds, few_signed net c.args.set, c.meets_definition.ensures.partial.species_limit)
