@@ -1,3 +1,4 @@
+mod Covers
 mod SetLaws
 mod Systems
 mod Places

@@ -1,7 +1,7 @@
 ghost use Rattle.std.specs.Prelude.{◌≡◌, length, IfOk, IfSome, OnOk, MatchResult};
 ghost use Rattle.crn_vec.specs.NetSystems.{reaction_system};
 ghost use Rattle.crn_cert.specs.Ranges.{AreFree};
-ghost use Rattle.crn_siphon.specs.Inner.Known.{AreIncreased, AreLaws, IsKnown, IsLawIn, IsLawOrCover, IsSearchStop};
+ghost use Rattle.crn_siphon.specs.Inner.Known.{AreCovers, AreIncreased, AreLaws, IsCoverAt, IsCoverIn, IsKnown, IsLawIn, IsLawOrCover, IsSearchStop};
 
 use crate::kinds::siphon_kinds;
 use crate::sets::{NONE, SpeciesSet, support};
@@ -18,16 +18,27 @@ pub(crate) struct Law {
     pub species: SpeciesSet,
 }
 
-/// What earlier visits have shown: numbers of the reactions, which species they increase, and laws.
+/// Numbers of the reactions, and species that they increase.
+#[derive(Drop)]
+pub(crate) struct Cover {
+    pub numbers: Ints,
+    pub species: SpeciesSet,
+}
+
+/// What earlier visits have shown: numbers of the reactions, which species they increase, others of such numbers, and laws.
 ///
-/// Where these answer, the solver is not asked: the numbers serve each prefix whose members they
+/// Where these answer, the solver is not asked: numbers serve each prefix whose members they
 /// increase, and a law each one whose members are all of its species.
 #[derive(Drop)]
 pub(crate) struct Known {
     pub cover: Ints,
     pub covered: SpeciesSet,
+    pub covers: Vec<Cover>,
     pub laws: Vec<Law>,
 }
+
+// How many covers are kept at once.
+const MAX_COVERS: usize = 64;
 
 /// What is known before the first visit.
 pub(crate) fn nothing_known(alloc: Global, net: &Network) -> Result<Known, NoMemory>
@@ -36,6 +47,7 @@ pub(crate) fn nothing_known(alloc: Global, net: &Network) -> Result<Known, NoMem
     Ok(Known {
         cover: Ints::from_vec(vec![in alloc; 0i128; net.reactions()]?),
         covered: NONE,
+        covers: Vec::new(alloc),
         laws: Vec::new(alloc),
     })
 }
@@ -68,6 +80,63 @@ fn known_law(net: &Network, laws: &[Law], set: SpeciesSet) -> Result<Option<Ints
     Ok(None)
 }
 
+// The place of a known cover that increases each member of the set.
+fn known_cover(net: &Network, covers: &[Cover], set: SpeciesSet) -> Option<usize>
+    requires { AreCovers net.now covers.now }
+    ensures { IfSome result (λ k. IsCoverAt net.now set covers.now k) }
+{
+    let _ = net;
+    for k in 0..covers.len() {
+        if set.is_within(covers[k].species) {
+            return Some(k);
+        }
+    }
+    None
+}
+
+// Leaves room for one cover more: all of them go if there are as many as are kept.
+fn make_room(alloc: Global, net: &Network, covers: &mut Vec<Cover>)
+    requires { AreCovers net.now covers.old.items }
+    ensures { AreCovers net.now covers.new.items }
+{
+    let _ = net;
+    if covers.len() >= MAX_COVERS {
+        *covers = Vec::new(alloc);
+    }
+}
+
+// Keeps a cover.
+fn put_cover(
+    alloc: Global,
+    net: &Network,
+    covers: &mut Vec<Cover>,
+    numbers: Ints,
+    species: SpeciesSet,
+) -> Result<(), NoMemory>
+    requires covers { AreCovers net.now covers.old.items }
+    requires cover { IsCoverIn net.now species numbers.list }
+    ensures { OnOk result (AreCovers net.now covers.new.items) }
+{
+    make_room(alloc, net, covers);
+    covers.push(Cover { numbers, species })?;
+    Ok(())
+}
+
+// The known cover at a place is the one that is tried first.
+fn recall(net: &Network, known: &mut Known, set: SpeciesSet, k: usize) -> Result<(), NoMemory>
+    requires known { IsKnown net.now known.old }
+    requires cover { IsCoverAt net.now set known.old.covers.items k }
+    ensures known { OnOk result (IsKnown net.now known.new) }
+    ensures covered { OnOk result (AreIncreased net.now set known.new.cover.list) }
+{
+    let _ = net;
+    let _ = set;
+    let numbers = known.covers[k].numbers.copy()?;
+    known.covered = known.covers[k].species;
+    known.cover = numbers;
+    Ok(())
+}
+
 // Asks the solver for a law within the set, or for numbers that increase each member, and keeps the answer.
 fn ask(
     alloc: Global,
@@ -87,7 +156,10 @@ fn ask(
     let kinds = siphon_kinds(alloc, net, set)?;
     match solver.settle(&kinds)? {
         Decision::Feasible(cover) => {
-            known.covered = increased(net, cover.as_slice());
+            let species = increased(net, cover.as_slice());
+            let numbers = cover.copy()?;
+            put_cover(alloc, net, &mut known.covers, numbers, species)?;
+            known.covered = species;
             known.cover = cover;
             Ok(None)
         }
@@ -118,6 +190,10 @@ pub(crate) fn law_within(
         (λ s. IsSearchStop net.now s) }
 {
     if set.is_within(known.covered) {
+        return Ok(None);
+    }
+    if let Some(k) = known_cover(net, &known.covers, set) {
+        recall(net, known, set, k)?;
         return Ok(None);
     }
     if let Some(law) = known_law(net, &known.laws, set)? {

@@ -1,7 +1,7 @@
 -- For the contracts of private functions alone.
 -- What visits have shown: laws, and numbers that increase species.
 -- Shapes: species count from 0.
-use Rattle.std.specs.Prelude.{◌≢◌, ◌<◌, ℕ, ℤ, pos, ◌≤ℤ◌, List, length, Option, None, Some}
+use Rattle.std.specs.Prelude.{◌≢◌, ◌<◌, ℕ, ℤ, pos, ◌≤ℤ◌, List, length, slice_index_or, Option, None, Some}
 use Rattle.std.specs.List.{AllByRecursion}
 use Rattle.crn_vec.specs.Kept.{KeptInts}
 use Rattle.crn_vec.specs.Network.{Net}
@@ -16,6 +16,7 @@ use Rattle.crn_farkas.specs.declared.fault.Stop.TheVariants.{Wide, NoMemory}
 use Rattle.crn_siphon_check.specs.Siphons.{IsSemiLaw}
 use Rattle.crn_siphon.specs.declared.sets.SpeciesSet.{SpeciesSet}
 use Rattle.crn_siphon.specs.declared.known.Law.{Law}
+use Rattle.crn_siphon.specs.declared.known.Cover.{Cover}
 use Rattle.crn_siphon.specs.declared.known.Known.{Known}
 use Rattle.crn_siphon.specs.Inner.Sets.{Has}
 
@@ -34,10 +35,28 @@ pub record IsLawIn (net : Net) (set : SpeciesSet) (weights : List ℤ) : Type 0 
 abbrev pub AreLaws : Net → List Law → Type 0
 AreLaws net laws = AllByRecursion (λ law. IsLawIn net law.species law.weights.list) laws
 
--- numbers of a certificate, species that they increase, and laws
+-- numbers of a certificate that increase each member of the set
+pub record IsCoverIn (net : Net) (set : SpeciesSet) (numbers : List ℤ) : Type 0 where
+  pub free : AreFree (length net.reactions) numbers
+  pub increased : AreIncreased net set numbers
+
+-- each has numbers that increase its species
+abbrev pub AreCovers : Net → List Cover → Type 0
+AreCovers net covers = AllByRecursion (λ cover. IsCoverIn net cover.species cover.numbers.list)
+    covers
+
+-- the cover at this place has numbers that increase its species and each member of the set
+pub record IsCoverAt (net : Net) (set : SpeciesSet) (covers : List Cover) (k : ℕ) : Type 0 where
+  pub inside : k < length covers
+  pub own : (none : Cover) → IsCoverIn net (slice_index_or covers k none).species
+      (slice_index_or covers k none).numbers.list
+  pub all : (none : Cover) → IsCoverIn net set (slice_index_or covers k none).numbers.list
+
+-- numbers of a certificate, species that they increase, others of such numbers, and laws
 pub record IsKnown (net : Net) (known : Known) : Type 0 where
   pub free : AreFree (length net.reactions) known.cover.list
   pub covered : AreIncreased net known.covered known.cover.list
+  pub covers : AreCovers net known.covers.items
   pub laws : AreLaws net known.laws.items
 
 -- a law within the set, or none and the numbers increase each member

@@ -9,7 +9,7 @@ use Rattle.crn_cert.specs.Ranges.{AreFree}
 use Rattle.crn_farkas.specs.declared.decision.Decision.TheVariants.{Feasible, Infeasible}
 use Rattle.crn_siphon.specs.declared.known.Law.{Law}
 use Rattle.crn_siphon.specs.Inner.Systems.{siphon_kinds}
-use Rattle.crn_siphon.specs.Inner.Known.{AreIncreased, AreLaws, IsLawIn}
+use Rattle.crn_siphon.specs.Inner.Known.{AreIncreased, AreLaws, IsCoverIn, IsLawIn}
 use Rattle.crn_siphon.proofs.Systems.{kinds_long, few_signed, decided, solution_formed, solution_increases, cut_is_law}
 use Rattle.crn_siphon.proofs.known.ask.Goals as goal
 
@@ -25,13 +25,25 @@ settle-requires-clause-few c =
     let kinds : c.deref.result.now ≡ siphon_kinds net c.args.set = c.deref.ensures.value ∙ c.in_ok-kinds.ensures in
     omega (arith, ap (λ (ks : List Kind). signed_count ks) kinds, few_signed net c.args.set, c.meets_definition.ensures.partial.species_limit)
 
-pub increased-known-requires : goal.increased-known-requires
-increased-known-requires c =
+pub increased-species-requires : goal.increased-species-requires
+increased-species-requires c =
     let net = c.args.net.now in
     let cover = c.in-Feasible.cover in
     let kinds : c.deref.result.now ≡ siphon_kinds net c.args.set = c.deref.ensures.value ∙ c.in_ok-kinds.ensures in
     let s = decided net c.args.set c.args.solver.now.matrix c.deref.result.now c.in_ok-cover.field-0 (Feasible cover) c.requires.matrix kinds c.in_ok-cover.ensures.answer c.in-Feasible.is in
     subst (λ (x : List ℤ). AreFree (length net.reactions) x) (sym c.as_slice.ensures) (solution_formed net c.args.set cover.list s)
+
+pub put_cover-requires-clause-cover : goal.put_cover-requires-clause-cover
+put_cover-requires-clause-cover c =
+    let net = c.args.net.now in
+    let cover = c.in-Feasible.cover in
+    let kinds : c.deref.result.now ≡ siphon_kinds net c.args.set = c.deref.ensures.value ∙ c.in_ok-kinds.ensures in
+    let s = decided net c.args.set c.args.solver.now.matrix c.deref.result.now c.in_ok-cover.field-0 (Feasible cover) c.requires.matrix kinds c.in_ok-cover.ensures.answer c.in-Feasible.is in
+    let one : IsCoverIn net c.increased-species.result cover.list = record {
+      free = solution_formed net c.args.set cover.list s;
+      increased = subst (λ (x : List ℤ). AreIncreased net c.increased-species.result x) c.as_slice.ensures c.increased-species.ensures;
+    } in
+    subst (λ (x : List ℤ). IsCoverIn net c.increased-species.result x) (sym c.in_ok-numbers-in-Feasible.ensures.list) one
 
 pub returns-in-Feasible-clause-known : goal.returns-in-Feasible-clause-known
 returns-in-Feasible-clause-known c =
@@ -41,7 +53,8 @@ returns-in-Feasible-clause-known c =
     let s = decided net c.args.set c.args.solver.now.matrix c.deref.result.now c.in_ok-cover.field-0 (Feasible cover) c.requires.matrix kinds c.in_ok-cover.ensures.answer c.in-Feasible.is in
     record {
       free = solution_formed net c.args.set cover.list s;
-      covered = subst (λ (x : List ℤ). AreIncreased net c.increased-known.result x) c.as_slice.ensures c.increased-known.ensures;
+      covered = subst (λ (x : List ℤ). AreIncreased net c.increased-species.result x) c.as_slice.ensures c.increased-species.ensures;
+      covers = c.in_ok-put_cover-in-Feasible.ensures;
       laws = c.requires.known.laws;
     }
 
@@ -77,6 +90,7 @@ returns-in-Ok-clause-known c =
     record {
       free = c.requires.known.free;
       covered = c.requires.known.covered;
+      covers = c.requires.known.covers;
       laws = subst (λ (laws : List Law). AreLaws net laws) (sym c.in-Ok.ensures.items) (all_push (λ (law : Law). IsLawIn net law.species law.weights.list) _ _ c.requires.known.laws one);
     }
 
