@@ -4,6 +4,7 @@ mod PartFacts
 mod Verified
 mod Persistence
 mod Decompositions
+mod Endotactic
 mod OpenAnswers
 mod Outputs
 mod Certificates

@@ -18,7 +18,10 @@ use Rattle.crn_indep_text.proofs.CallerLemmas.{course_settled as parts_settled, 
 use Rattle.crn_run.specs.Parts.{IsFaultyOf, IsGoodOf, IsVerdictOf, IsPartRejectionOf, Subject, course_of, persist_verdict, subject_of}
 use Rattle.crn_run.specs.Run.{rejected_line}
 use Rattle.crn_run.specs.declared.words.PartName.{PartName}
-use Rattle.crn_run.specs.declared.words.PartName.TheVariants.{Persist, Decomposition}
+use Rattle.crn_run.specs.declared.words.PartName.TheVariants.{Persist, Decomposition, Endo}
+use Rattle.crn_endo_text.specs.Document as endo
+use Rattle.crn_endo_text.proofs.CallerLemmas.{course_settled as endo_settled, endo_is_answered}
+use Rattle.crn_run.proofs.Endotactic.{endotactic_short}
 use Rattle.crn_run.proofs.Decompositions.{decomposition_short}
 
 -- what is known of a part
@@ -45,6 +48,12 @@ facts Decomposition = record {
   judged = documents_are_judged parts.part parts.meant parts_is_answered parts_settled;
   named = λ code own. inr (inr (inr (inl (own.0, own.1))));
   short = decomposition_short;
+}
+facts Endo = record {
+  settled = endo_settled;
+  judged = documents_are_judged endo.part endo.meant endo_is_answered endo_settled;
+  named = λ code own. inr (inr (inr (inr (own.0, own.1))));
+  short = endotactic_short;
 }
 
 -- ---- names of faults

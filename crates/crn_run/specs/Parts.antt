@@ -17,8 +17,14 @@ use Rattle.crn_siphon_text.specs.Document.{part as persist_part, meant as persis
 use Rattle.crn_indep_check.specs.Parts.{AreTrueParts, AreLicensedParts}
 use Rattle.crn_indep_check.specs.declared.parts.Parts.{Parts as AnswerOnParts}
 use Rattle.crn_indep_text.specs.Document.{Seen, part as parts_part, meant as parts_meant}
+use Rattle.crn_endo.specs.Answer.{IsSized, IsLicensedEndo}
+use Rattle.crn_endo_check.specs.Endo.{IsTrueEndo}
+use Rattle.crn_endo_check.specs.declared.endo.Endo.{Endo as AnswerOnEndotactic}
+use Rattle.crn_endo_text.specs.Document.{part as endo_part, meant as endo_meant}
+use Rattle.crn_endo_text.specs.declared.seen.EndoSeen.{EndoSeen}
+use Rattle.crn_endo_text.specs.declared.seen.EndoSeen.TheVariants as endo
 use Rattle.crn_run.specs.declared.words.PartName.{PartName}
-use Rattle.crn_run.specs.declared.words.PartName.TheVariants.{Persist, Decomposition}
+use Rattle.crn_run.specs.declared.words.PartName.TheVariants.{Persist, Decomposition, Endo}
 use Rattle.crn_run.specs.declared.status.Status.{Status}
 use Rattle.crn_run.specs.declared.status.Status.TheVariants.{Done, OpenLeft}
 
@@ -52,6 +58,12 @@ abbrev pub parts_verdict : Seen → List ℕ
 parts_verdict seen =
     if seen.undecided then codes "parts: open\n" else ranks_line seen.ranks
 
+-- the line of a verdict on endotactic networks
+abbrev pub endo_verdict : EndoSeen → List ℕ
+endo_verdict endo.Yes = codes "endo: yes\n"
+endo_verdict (endo.No reaction) = codes "endo: no, reaction " ++ decimal reaction ++ codes "\n"
+endo_verdict endo.Undecided = codes "endo: open\n"
+
 -- what each part is about
 abbrev pub subject_of : PartName → Subject
 subject_of Persist = record {
@@ -73,6 +85,16 @@ subject_of Decomposition = record {
   IsLicensed = λ net budget answer. AreLicensedParts net answer;
   IsOpen = λ seen. seen.undecided ≡ true;
   verdict = λ net seen. parts_verdict seen;
+}
+subject_of Endo = record {
+  Answer = AnswerOnEndotactic;
+  Read = EndoSeen;
+  part = endo_part;
+  meant = endo_meant;
+  IsTrueOf = IsTrueEndo;
+  IsLicensed = λ net budget answer. IsSized net answer × IsLicensedEndo net budget answer;
+  IsOpen = λ seen. seen ≡ endo.Undecided;
+  verdict = λ net seen. endo_verdict seen;
 }
 
 -- ---- what is written

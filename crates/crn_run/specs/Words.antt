@@ -7,7 +7,7 @@ use Rattle.crn_sample.specs.declared.limits.TheConstants.{MAX_SAMPLE, MAX_SAMPLE
 use Rattle.crn_run.specs.declared.words.Command.{Command}
 use Rattle.crn_run.specs.declared.words.Command.TheVariants.{Report, Certify, Check, Sample, Prove, Verify}
 use Rattle.crn_run.specs.declared.words.PartName.{PartName}
-use Rattle.crn_run.specs.declared.words.PartName.TheVariants.{Persist, Decomposition}
+use Rattle.crn_run.specs.declared.words.PartName.TheVariants.{Persist, Decomposition, Endo}
 
 -- the text is this many digits at most, without a sign, and writes a number from 1 to the greatest
 pub record IsNumberWithin (most_digits greatest : ℕ) (text : List ℕ) (number : ℕ) : Type 0 where
@@ -47,6 +47,7 @@ SayPlain plain words budget = ((words ≡ plain) × (budget ≡ DEFAULT_BUDGET))
 abbrev pub part_name : PartName → List ℕ
 part_name Persist = codes "persist"
 part_name Decomposition = codes "parts"
+part_name Endo = codes "endo"
 
 -- the words after the program's name say the command
 abbrev pub Say : List (List ℕ) → Command → Type 0

@@ -4,16 +4,21 @@ ghost use Rattle.crn_siphon_check.specs.Answers.{said_of};
 ghost use Rattle.crn_siphon_check.specs.declared.answer.Outcome.TheVariants.{Undecided};
 ghost use Rattle.crn_siphon_text.specs.Document.{outcome_of};
 ghost use Rattle.crn_indep_text.specs.Document.{seen_of};
+ghost use Rattle.crn_endo_text.specs.Document.{seen_of as endo_seen_of};
+ghost use Rattle.crn_endo_text.specs.declared.seen.EndoSeen.TheVariants as endo;
 ghost use Rattle.crn_run.specs.Run.{RunGives};
 ghost use Rattle.crn_run.specs.Words.{IsCommand};
 ghost use Rattle.crn_run.specs.Inner.Steps.{NetworkGives};
 ghost use Rattle.crn_run.specs.declared.words.Command.TheVariants.{Prove, Verify};
-ghost use Rattle.crn_run.specs.declared.words.PartName.TheVariants.{Persist as PersistPart, Decomposition};
+ghost use Rattle.crn_run.specs.declared.words.PartName.TheVariants.{Persist as PersistPart, Decomposition, Endo as EndoPart};
 
 use crate::output::{end_without_document, status_by};
 use crate::status::Status;
-use crate::verdicts::{write_decomposition, write_persistence};
+use crate::verdicts::{write_decomposition, write_endotactic, write_persistence};
 use crate::words::PartName;
+use crn_endo::endotactic;
+use crn_endo_check::{Endo, valid_answers_on_endotactic_networks_are_true};
+use crn_endo_text::{verify_endo, write_endo, written_documents_on_endotactic_networks_are_good};
 use crn_indep::decompose;
 use crn_indep_check::{Parts, valid_answers_on_decompositions_are_true};
 use crn_indep_text::{verify_parts, write_parts, written_documents_on_decompositions_are_good};
@@ -39,6 +44,7 @@ pub(crate) fn prove<K: Sink>(
     match part {
         PartName::Persist => prove_persist(alloc, net, budget, sink),
         PartName::Decomposition => prove_parts(alloc, net, sink),
+        PartName::Endo => prove_endo(alloc, net, budget, sink),
     }
 }
 
@@ -56,6 +62,7 @@ pub(crate) fn verify<S: Source, K: Sink>(
     match part {
         PartName::Persist => check_persist(alloc, source, sink),
         PartName::Decomposition => check_parts(alloc, source, sink),
+        PartName::Endo => check_endo(alloc, source, sink),
     }
 }
 
@@ -140,6 +147,53 @@ fn check_parts<S: Source, K: Sink>(alloc: Global, source: &mut S, sink: &mut K) 
     valid_answers_on_decompositions_are_true();
     match verify_parts(alloc, source) {
         Ok(seen) => write_decomposition(&seen, sink),
+        Err(stop) => end_without_document(stop, sink),
+    }
+}
+
+// ---- the part `endo`
+
+// Whether an answer on endotactic networks is open.
+fn is_left_open(answer: &Endo) -> bool
+    ensures { IsTrue result ↔ (endo_seen_of answer.now ≡ endo.Undecided) }
+{
+    match answer {
+        Endo::Wide { .. } => true,
+        Endo::Spent { .. } => true,
+        Endo::Large => true,
+        _ => false,
+    }
+}
+
+// Answers whether a network is endotactic, and writes the document of the answer.
+fn prove_endo<K: Sink>(alloc: Global, net: &Network, budget: u32, sink: &mut K) -> Status
+    requires some { 1 ≤ budget }
+    requires most { budget ≤ MAX_BUDGET }
+    ensures { NetworkGives (Prove EndoPart budget) result net.now
+        (K.seen sink.old) (K.seen sink.new) }
+{
+    let answer = match endotactic(alloc, net, budget) {
+        Ok(answer) => answer,
+        Err(_) => return Status::NoMemory,
+    };
+    let whole = status_by(is_left_open(&answer));
+    valid_answers_on_endotactic_networks_are_true();
+    written_documents_on_endotactic_networks_are_good();
+    match write_endo(net, &answer, sink) {
+        Ok(()) => whole,
+        Err(_) => Status::WriteFault,
+    }
+}
+
+// Checks a document on endotactic networks, and writes its verdict or why it is rejected.
+fn check_endo<S: Source, K: Sink>(alloc: Global, source: &mut S, sink: &mut K) -> Status
+    ensures { (words : List (List ℕ)) → IsCommand words (Verify EndoPart) → RunGives result words
+        (record { source = S.seen source.old; sink = K.seen sink.old })
+        (record { source = S.seen source.new; sink = K.seen sink.new }) }
+{
+    valid_answers_on_endotactic_networks_are_true();
+    match verify_endo(alloc, source) {
+        Ok(seen) => write_endotactic(&seen, sink),
         Err(stop) => end_without_document(stop, sink),
     }
 }

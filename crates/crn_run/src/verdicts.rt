@@ -1,12 +1,13 @@
 ghost use Rattle.std.specs.Prelude.{◌≡◌, ◌++◌, decimal, List, ℕ};
 ghost use Rattle.crn_io.specs.Device.{SinkSeen};
 ghost use Rattle.crn_io.specs.Write.{Wrote};
-ghost use Rattle.crn_run.specs.Parts.{parts_verdict, persist_verdict, ranks_line};
+ghost use Rattle.crn_run.specs.Parts.{endo_verdict, parts_verdict, persist_verdict, ranks_line};
 ghost use Rattle.crn_run.specs.Inner.Steps.{LineGives};
 ghost use Rattle.crn_run.specs.declared.status.Status.TheVariants.{Done};
 
 use crate::status::Status;
 use crn_ctext::put_nums;
+use crn_endo_text::EndoSeen;
 use crn_indep_text::PartsSeen;
 use crn_io::{Sink, WriteFault, put_all, put_parts};
 use crn_siphon_check::Outcome;
@@ -75,4 +76,20 @@ pub(crate) fn write_decomposition<K: Sink>(seen: &PartsSeen, sink: &mut K) -> St
         return status_written(put_all(sink, b"parts: open\n"));
     }
     status_written(put_ranks(seen.ranks.as_slice(), sink))
+}
+
+/// Writes the verdict on endotactic networks that was read. Takes no memory.
+pub(crate) fn write_endotactic<K: Sink>(seen: &EndoSeen, sink: &mut K) -> Status
+    ensures { LineGives Done result (endo_verdict seen.now) (K.seen sink.old) (K.seen sink.new) }
+{
+    match seen {
+        EndoSeen::Yes => status_written(put_all(sink, b"endo: yes\n")),
+        EndoSeen::No { reaction } => status_written(put_number(
+            b"endo: no, reaction ",
+            *reaction as usize,
+            b"\n",
+            sink,
+        )),
+        EndoSeen::Undecided => status_written(put_all(sink, b"endo: open\n")),
+    }
 }

@@ -19,6 +19,8 @@ pub enum PartName {
     Persist,
     /// The finest independent decomposition of the reactions.
     Decomposition,
+    /// Whether the network is endotactic.
+    Endo,
 }
 
 /// What the words of a command line ask for.
@@ -179,6 +181,7 @@ fn part_meant(name: &str) -> Option<PartName>
     match name {
         "persist" => Some(PartName::Persist),
         "parts" => Some(PartName::Decomposition),
+        "endo" => Some(PartName::Endo),
         _ => None,
     }
 }
