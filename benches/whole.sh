@@ -16,5 +16,5 @@ benches/certificates.sh "${1:-5}"
 printf '\n## Searches\n'
 benches/search.sh "${1:-5}"
 printf '\n## Persistence\n'
-benches/persist.sh "${1:-5}"
+benches/prove.sh persist "${1:-5}"
 printf '\nin all %d seconds\n' "$SECONDS"
