@@ -62,13 +62,17 @@ few_records net said n f =
     let blocks = answers_few rests_on (few.0, (few.1.0, (few.1.1.1.1.0, tt))) (omega arith, (omega arith, (omega arith, tt))) (short.0, (short.1.0, (short.1.1.1.1.0, tt))) treeless (meaning.start net) said.blocks (networks_are_small net n) f.0 in
     omega (arith, length-append (all_of said.blocks) (case_records said.robust), blocks, case_few said.robust)
 
+-- the blocks of formed answers say their verdicts
+pub blocks_learned : (net : Net) (answers : List Answer) → AreFormed net [] rests_on answers → earlier_of net (all_records meaning rests_on (meaning.start net) answers) ≡ verdicts_on rests_on answers
+blocks_learned net answers formed = answers_learned false rests_on in_order treeless (meaning.start net) answers tt formed
+
 pub written_are_documents : WrittenAreDocuments
 written_are_documents = λ net answers robust n formed valid picked.
     let said = said_of net answers robust in
     let blocks = all_records meaning rests_on (meaning.start net) answers in
     let f : documents.AreFormed meaning rests_on (meaning.start net) blocks = formed_by false rests_on in_order (meaning.start net) answers tt formed in
     let v : documents.AreValid meaning rests_on (meaning.start net) blocks = valid_by false rests_on in_order (meaning.start net) answers tt formed valid in
-    let same : earlier_of net blocks ≡ verdicts_on rests_on answers = answers_learned false rests_on in_order treeless (meaning.start net) answers tt formed in
+    let same : earlier_of net blocks ≡ verdicts_on rests_on answers = blocks_learned net answers formed in
     let t = answers_true net answers formed (valid_documents_are_true rests_on net answers each_built n formed valid) in
     let p = picked_by net (verdicts_on rests_on answers) robust n t picked in
     let is_formed : IsFormed net said = (f, p.1) in
