@@ -11,6 +11,7 @@ ghost use Rattle.crn_cert.specs.Formed.{AreFormed};
 ghost use Rattle.crn_cert.specs.Valid.{AreValid};
 ghost use Rattle.crn_cert.specs.Licensed.{AllTrueOrLicensed};
 ghost use Rattle.crn_cert.specs.TreeSizes.{HaveFewNodes};
+ghost use Rattle.crn_solve.specs.OnRank.{AreRankAnswers};
 ghost use Rattle.crn_solve.specs.Spent.{AreOpenIfSpent};
 ghost use Rattle.crn_solve.specs.Turns.{PreferTheVector};
 ghost use Rattle.crn_solve.specs.Visits.{HaveNodeForEachVisit};
@@ -20,6 +21,7 @@ use crate::concordance::{concordance_verdicts, decide_concordance};
 use crate::confluence_answer::confluence_answer;
 use crate::deficiency_answer::deficiency_answer;
 use crate::linkage_answer::linkage_answer;
+use crate::open::rests_answer;
 use crate::parts::is_open;
 use crate::positive::{conservative, positively_dependent};
 use crate::rank_answer::rank_answer;
@@ -164,6 +166,26 @@ pub fn solve(alloc: Global, net: &Network, budget: u32) -> Result<Answers, NoMem
     let on_tables = decide_concordance(alloc, net, &matrix, first.solver, budget)?;
     answers.push(on_tables.plain);
     answers.push(on_tables.strong);
+    Ok(answers)
+}
+
+/// The answers on linkage classes, strong classes and the rank, each in the place of its question. The two places
+/// between them hold open answers.
+pub fn solve_rank(alloc: Global, net: &Network) -> Result<Answers, NoMemory>
+    ensures { IfOk result (λ answers. (budget : ℕ) → AreRankAnswers net.now budget answers) }
+{
+    net.meets_definition();
+    let linkage = linkage(alloc, net)?;
+    let strong = strong(alloc, net)?;
+    let matrix = species_matrix(alloc, net)?;
+    let mut tableau = Tableau::new(alloc, &matrix)?;
+    let rank = rank_answer(alloc, net, &mut tableau)?;
+    let mut answers = Answers::new(alloc)?;
+    answers.push(linkage_answer(linkage));
+    answers.push(strong_answer(strong));
+    answers.push(rests_answer(5));
+    answers.push(rests_answer(5));
+    answers.push(rank);
     Ok(answers)
 }
 

@@ -16,5 +16,5 @@ mod strong_answer;
 mod systems;
 mod zero_answer;
 
-pub use answers::{solve, solve_verdicts};
+pub use answers::{solve, solve_rank, solve_verdicts};
 pub use positive::law_or_cut;
