@@ -16,7 +16,7 @@ use Rattle.clap.specs.Words.{fault_of, matches_of}
 use Rattle.crn_run.specs.Inner.Parse.{Gives, IsRead, crnt_app, is_two_dashes}
 use Rattle.crn_run.specs.Words.{AreWithBudget, WriteBudget, part_name}
 use Rattle.crn_run.specs.declared.words.PartName.{PartName}
-use Rattle.crn_run.specs.declared.words.PartName.TheVariants.{Persist, Decomposition, Endo}
+use Rattle.crn_run.specs.declared.words.PartName.TheVariants.{Persist, Robust, Decomposition, Endo}
 use Rattle.crn_run.proofs.ClapWords.{IsValue, at, budget, budget_rule, first_none, holding, joined, joined_fault, joined_walked, none_then, parted, parted_fault, parted_walked, rules, second_none, shape, value_of}
 use Rattle.crn_run.proofs.ClapSteps.{IsPlace, first_place, second_place, waiting_fault, waiting_walked}
 use Rattle.crn_run.proofs.ClapReads.{Asked, SayAsked, reads_asked, rows_in, words_of}
@@ -139,6 +139,7 @@ verify_plain = (refl, value_of (codes "verify") refl refl refl)
 -- so are those of parts
 pub part_plain : (part : PartName) → IsPlain (part_name part)
 part_plain Persist = (refl, value_of (codes "persist") refl refl refl)
+part_plain Robust = (refl, value_of (codes "robust") refl refl refl)
 part_plain Decomposition = (refl, value_of (codes "parts") refl refl refl)
 part_plain Endo = (refl, value_of (codes "endo") refl refl refl)
 

@@ -5,6 +5,7 @@ mod Verified
 mod Persistence
 mod Decompositions
 mod Endotactic
+mod Robustness
 mod OpenAnswers
 mod Outputs
 mod Certificates

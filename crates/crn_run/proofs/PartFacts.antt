@@ -18,7 +18,10 @@ use Rattle.crn_indep_text.proofs.CallerLemmas.{course_settled as parts_settled, 
 use Rattle.crn_run.specs.Parts.{IsFaultyOf, IsGoodOf, IsVerdictOf, IsPartRejectionOf, Subject, course_of, persist_verdict, subject_of}
 use Rattle.crn_run.specs.Run.{rejected_line}
 use Rattle.crn_run.specs.declared.words.PartName.{PartName}
-use Rattle.crn_run.specs.declared.words.PartName.TheVariants.{Persist, Decomposition, Endo}
+use Rattle.crn_run.specs.declared.words.PartName.TheVariants.{Persist, Robust, Decomposition, Endo}
+use Rattle.crn_robust_text.specs.Document as robust
+use Rattle.crn_robust_text.proofs.CallerLemmas.{course_settled as robust_settled, robust_is_answered}
+use Rattle.crn_run.proofs.Robustness.{robustness_short}
 use Rattle.crn_endo_text.specs.Document as endo
 use Rattle.crn_endo_text.proofs.CallerLemmas.{course_settled as endo_settled, endo_is_answered}
 use Rattle.crn_run.proofs.Endotactic.{endotactic_short}
@@ -48,6 +51,12 @@ facts Decomposition = record {
   judged = documents_are_judged parts.part parts.meant parts_is_answered parts_settled;
   named = λ code own. inr (inr (inr (inl (own.0, own.1))));
   short = decomposition_short;
+}
+facts Robust = record {
+  settled = robust_settled;
+  judged = documents_are_judged robust.part robust.meant robust_is_answered robust_settled;
+  named = λ code own. inr (inr (inl (omega (arith, own.0), own.1)));
+  short = robustness_short;
 }
 facts Endo = record {
   settled = endo_settled;

@@ -19,7 +19,7 @@ use Rattle.crn_run.specs.Words.{IsCommand, Say, SayPlain, part_name}
 use Rattle.crn_run.specs.declared.words.Command.{Command}
 use Rattle.crn_run.specs.declared.words.Command.TheVariants.{Report, Certify, Check, Sample, Prove, Verify}
 use Rattle.crn_run.specs.declared.words.PartName.{PartName}
-use Rattle.crn_run.specs.declared.words.PartName.TheVariants.{Persist, Decomposition, Endo}
+use Rattle.crn_run.specs.declared.words.PartName.TheVariants.{Persist, Robust, Decomposition, Endo}
 use Rattle.crn_run.proofs.ClapReads.{Asked, SayAsked, words_of}
 use Rattle.crn_run.proofs.ClapForms.{IsPlain, IsPlainIfSome, IsReadAs, budget_is_read, certify_plain, check_plain, digits_are, name_is_read, part_plain, prove_plain, read_is_asked, report_plain, sample_plain, verify_plain}
 
@@ -178,8 +178,9 @@ number_in (Some text) = digits_value 10 text
 
 abbrev part_in : Option Text → PartName
 part_in None = Persist
-part_in (Some name) = if bytes_eq name (codes "parts") then Decomposition else (
-    if bytes_eq name (codes "endo") then Endo else Persist)
+part_in (Some name) = if bytes_eq name (codes "robust") then Robust else (
+    if bytes_eq name (codes "parts") then Decomposition else (
+    if bytes_eq name (codes "endo") then Endo else Persist))
 
 -- the command of this name with these values
 abbrev command_in : Text → Option Text → Option Text → Command
@@ -201,6 +202,7 @@ number_is (Some text) n means = sym means.value
 part_is : (count : Option Text) (part : PartName) → MeansPart count part → part ≡ part_in count
 part_is None part means = absurd means
 part_is (Some text) Persist means = rw means refl
+part_is (Some text) Robust means = rw means refl
 part_is (Some text) Decomposition means = rw means refl
 part_is (Some text) Endo means = rw means refl
 

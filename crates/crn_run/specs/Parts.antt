@@ -2,7 +2,7 @@
 -- Source: this project's own; Angeli, De Leenheer and Sontag (2007) for the part `persist`, Feinberg
 -- (1987) for the part `parts`.
 -- Shapes: texts are lists of bytes; lines of a text count from 1.
-use Rattle.std.specs.Prelude.{◌≡◌, ◌++◌, ℕ, pos, true, if◌then◌else◌, List, map, length, codes, decimal}
+use Rattle.std.specs.Prelude.{◌≡◌, ◌++◌, ◌-◌, ◌↔◌, ℕ, pos, slice_index_or, [], true, if◌then◌else◌, List, map, length, codes, decimal}
 use Rattle.crn_vec.specs.Network.{Net}
 use Rattle.crn_text.specs.Spells.{Spells}
 use Rattle.crn_render.specs.Faults.{fault_line, document_name}
@@ -23,8 +23,15 @@ use Rattle.crn_endo_check.specs.declared.endo.Endo.{Endo as AnswerOnEndotactic}
 use Rattle.crn_endo_text.specs.Document.{part as endo_part, meant as endo_meant}
 use Rattle.crn_endo_text.specs.declared.seen.EndoSeen.{EndoSeen}
 use Rattle.crn_endo_text.specs.declared.seen.EndoSeen.TheVariants as endo
+use Rattle.crn_vec.specs.Confluence.{HasConfluenceLine}
+use Rattle.crn_cert.specs.Questions.{Q5, on}
+use Rattle.crn_cert.specs.Licensed.{IsTrueOrLicensed}
+use Rattle.crn_robust.specs.Law.{IsTrueOf as IsTrueOnRobustness}
+use Rattle.crn_robust.specs.declared.robust.Robust.{Robust as CaseOfRobustness}
+use Rattle.crn_robust.specs.declared.robust.Robust.TheVariants as robust
+use Rattle.crn_robust_text.specs.Document.{Said as SaidOnRobustness, part as robust_part, meant as robust_meant, earlier_of, line_of}
 use Rattle.crn_run.specs.declared.words.PartName.{PartName}
-use Rattle.crn_run.specs.declared.words.PartName.TheVariants.{Persist, Decomposition, Endo}
+use Rattle.crn_run.specs.declared.words.PartName.TheVariants.{Persist, Robust, Decomposition, Endo}
 use Rattle.crn_run.specs.declared.status.Status.{Status}
 use Rattle.crn_run.specs.declared.status.Status.TheVariants.{Done, OpenLeft}
 
@@ -64,6 +71,28 @@ endo_verdict endo.Yes = codes "endo: yes\n"
 endo_verdict (endo.No reaction) = codes "endo: no, reaction " ++ decimal reaction ++ codes "\n"
 endo_verdict endo.Undecided = codes "endo: open\n"
 
+-- what is said of robustness is true, and so is whether the confluence space is a line, unless it is
+-- open
+abbrev pub AreTrueOnRobustness : Net → SaidOnRobustness → Type 0
+AreTrueOnRobustness net said = IsTrueOnRobustness net said.robust
+    × ((said.robust ≡ robust.Rests → ⊥) → (line_of said.robust ≡ 1) ↔ HasConfluenceLine net)
+
+-- the verdict on the rank is true, or open for its cause
+abbrev pub IsLicensedOnRobustness : Net → (budget : ℕ) → SaidOnRobustness → Type 0
+IsLicensedOnRobustness net budget said =
+    IsTrueOrLicensed net budget [] Q5 (on (earlier_of net said.blocks) Q5)
+
+-- the lines of a verdict on robustness, of a network whose species it may name, and of its confluence
+-- space
+abbrev pub robust_verdict : Net → CaseOfRobustness → List ℕ
+robust_verdict net (robust.Yes species first second) = codes "robust: hypotheses hold, species "
+    ++ slice_index_or net.names (species - 1) [] ++ codes "\nconfluence space: a line\n"
+robust_verdict net (robust.Number d) = codes "robust: hypotheses fail, deficiency " ++ decimal d
+    ++ codes "\nconfluence space: no line\n"
+robust_verdict net robust.None =
+    codes "robust: hypotheses fail, no pair\nconfluence space: a line\n"
+robust_verdict net robust.Rests = codes "robust: open\n"
+
 -- what each part is about
 abbrev pub subject_of : PartName → Subject
 subject_of Persist = record {
@@ -75,6 +104,16 @@ subject_of Persist = record {
   IsLicensed = IsLicensedOnPersistence;
   IsOpen = λ outcome. outcome ≡ Undecided;
   verdict = λ net outcome. persist_verdict outcome;
+}
+subject_of Robust = record {
+  Answer = SaidOnRobustness;
+  Read = CaseOfRobustness;
+  part = robust_part;
+  meant = robust_meant;
+  IsTrueOf = AreTrueOnRobustness;
+  IsLicensed = IsLicensedOnRobustness;
+  IsOpen = λ case. case ≡ robust.Rests;
+  verdict = robust_verdict;
 }
 subject_of Decomposition = record {
   Answer = AnswerOnParts;

@@ -7,7 +7,7 @@ use Rattle.crn_sample.specs.declared.limits.TheConstants.{MAX_SAMPLE, MAX_SAMPLE
 use Rattle.crn_run.specs.declared.words.Command.{Command}
 use Rattle.crn_run.specs.declared.words.Command.TheVariants.{Report, Certify, Check, Sample, Prove, Verify}
 use Rattle.crn_run.specs.declared.words.PartName.{PartName}
-use Rattle.crn_run.specs.declared.words.PartName.TheVariants.{Persist, Decomposition, Endo}
+use Rattle.crn_run.specs.declared.words.PartName.TheVariants.{Persist, Robust, Decomposition, Endo}
 
 -- the text is this many digits at most, without a sign, and writes a number from 1 to the greatest
 pub record IsNumberWithin (most_digits greatest : ℕ) (text : List ℕ) (number : ℕ) : Type 0 where
@@ -46,6 +46,7 @@ SayPlain plain words budget = ((words ≡ plain) × (budget ≡ DEFAULT_BUDGET))
 -- the name of a part that is built
 abbrev pub part_name : PartName → List ℕ
 part_name Persist = codes "persist"
+part_name Robust = codes "robust"
 part_name Decomposition = codes "parts"
 part_name Endo = codes "endo"
 

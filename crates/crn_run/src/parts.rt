@@ -1,21 +1,31 @@
-ghost use Rattle.std.specs.Prelude.{◌≡◌, ◌≤◌, ◌↔◌, ℕ, List, IsTrue, true};
+ghost use Rattle.std.specs.Prelude.{◌≡◌, ◌≤◌, ◌⊎◌, ◌↔◌, ◌++◌, ℕ, List, [], ◌∷◌, IfOk, IsTrue, true};
 ghost use Rattle.crn_vec.specs.declared.limits.TheConstants.{MAX_BUDGET};
 ghost use Rattle.crn_siphon_check.specs.Answers.{said_of};
 ghost use Rattle.crn_siphon_check.specs.declared.answer.Outcome.TheVariants.{Undecided};
 ghost use Rattle.crn_siphon_text.specs.Document.{outcome_of};
 ghost use Rattle.crn_indep_text.specs.Document.{seen_of};
+ghost use Rattle.crn_robust.specs.Pick.{IsPicked};
+ghost use Rattle.crn_robust.specs.declared.robust.Robust.TheVariants as robust;
+ghost use Rattle.crn_robust_text.specs.Document.{blocks_of, rests_on};
+ghost use Rattle.crn_ctext.specs.PartBlocks.{verdicts_on};
+ghost use Rattle.crn_cert.specs.Formed.{AreFormed, IsFormed};
+ghost use Rattle.crn_cert.specs.Valid.{AreValid, IsValid};
+ghost use Rattle.crn_cert.specs.Verdicts.{tight};
+ghost use Rattle.crn_check.specs.Facts.{AreFactsOf, HoldsNoneFrom, asked};
 ghost use Rattle.crn_endo_text.specs.Document.{seen_of as endo_seen_of};
 ghost use Rattle.crn_endo_text.specs.declared.seen.EndoSeen.TheVariants as endo;
 ghost use Rattle.crn_run.specs.Run.{RunGives};
 ghost use Rattle.crn_run.specs.Words.{IsCommand};
 ghost use Rattle.crn_run.specs.Inner.Steps.{NetworkGives};
 ghost use Rattle.crn_run.specs.declared.words.Command.TheVariants.{Prove, Verify};
-ghost use Rattle.crn_run.specs.declared.words.PartName.TheVariants.{Persist as PersistPart, Decomposition, Endo as EndoPart};
+ghost use Rattle.crn_run.specs.declared.words.PartName.TheVariants.{Persist as PersistPart, Robust as RobustPart, Decomposition, Endo as EndoPart};
 
 use crate::output::{end_without_document, status_by};
 use crate::status::Status;
-use crate::verdicts::{write_decomposition, write_endotactic, write_persistence};
+use crate::verdicts::{write_decomposition, write_endotactic, write_persistence, write_robustness};
 use crate::words::PartName;
+use crn_cert::{Answer, Answers};
+use crn_check::{Facts, check_answer};
 use crn_endo::endotactic;
 use crn_endo_check::{Endo, valid_answers_on_endotactic_networks_are_true};
 use crn_endo_text::{verify_endo, write_endo, written_documents_on_endotactic_networks_are_good};
@@ -24,9 +34,16 @@ use crn_indep_check::{Parts, valid_answers_on_decompositions_are_true};
 use crn_indep_text::{verify_parts, write_parts, written_documents_on_decompositions_are_good};
 use crn_io::{Sink, Source};
 use crn_net::Network;
+use crn_robust::{Robust, cases_decide_robustness, pick};
+use crn_robust_text::{
+    valid_answers_on_robustness_are_true, verify_robust, write_robust,
+    written_documents_on_robustness_are_good,
+};
 use crn_siphon::persist;
 use crn_siphon_check::{Persist, valid_answers_on_persistence_are_true};
 use crn_siphon_text::{verify_persist, write_persist, written_documents_on_persistence_are_good};
+use crn_solve::solve_rank;
+use crn_vec::NoMemory;
 use std::alloc::Global;
 
 /// Answers the question of a part on a network, and writes the document of the answer. Takes memory, before it writes.
@@ -43,6 +60,7 @@ pub(crate) fn prove<K: Sink>(
 {
     match part {
         PartName::Persist => prove_persist(alloc, net, budget, sink),
+        PartName::Robust => prove_robust(alloc, net, sink),
         PartName::Decomposition => prove_parts(alloc, net, sink),
         PartName::Endo => prove_endo(alloc, net, budget, sink),
     }
@@ -61,6 +79,7 @@ pub(crate) fn verify<S: Source, K: Sink>(
 {
     match part {
         PartName::Persist => check_persist(alloc, source, sink),
+        PartName::Robust => check_robust(alloc, source, sink),
         PartName::Decomposition => check_parts(alloc, source, sink),
         PartName::Endo => check_endo(alloc, source, sink),
     }
@@ -194,6 +213,83 @@ fn check_endo<S: Source, K: Sink>(alloc: Global, source: &mut S, sink: &mut K) -
     valid_answers_on_endotactic_networks_are_true();
     match verify_endo(alloc, source) {
         Ok(seen) => write_endotactic(&seen, sink),
+        Err(stop) => end_without_document(stop, sink),
+    }
+}
+
+// ---- the part `robust`
+
+// Whether an answer on robustness is open.
+fn rests(answer: &Robust) -> bool
+    ensures { IsTrue result ↔ (answer.now ≡ robust.Rests) }
+{
+    matches!(answer, Robust::Rests)
+}
+
+// Takes up the verdict of a valid answer to a question on which robustness rests.
+fn take_up(net: &Network, facts: &mut Facts, question: u32, answer: &Answer)
+    requires asks { (question ≡ 1) ⊎ (question ≡ 2) ⊎ (question ≡ 5) }
+    requires facts { AreFactsOf net.now facts.old }
+    requires later { HoldsNoneFrom question facts.old.earlier }
+    requires formed { IsFormed net.now facts.old.earlier (asked question) answer.now }
+    requires valid { IsValid net.now facts.old.earlier (asked question) answer.now }
+    ensures held { facts.new.earlier
+        ≡ facts.old.earlier ++ (asked question, tight answer.now.verdict) ∷ [] }
+    ensures facts { AreFactsOf net.now facts.new }
+{
+    let _ = check_answer(net, facts, question, answer);
+}
+
+// The case that holds of a network, by valid answers on its linkage classes, its strong classes and its rank.
+fn case_by(alloc: Global, net: &Network, answers: &Answers) -> Result<Robust, NoMemory>
+    requires formed { AreFormed net.now [] rests_on (blocks_of answers.now) }
+    requires valid { AreValid net.now [] rests_on (blocks_of answers.now) }
+    ensures { IfOk result (IsPicked net.now (verdicts_on rests_on (blocks_of answers.now))) }
+{
+    let mut facts = Facts::new(alloc, net)?;
+    let linkage = answers.get(1);
+    let strong = answers.get(2);
+    let rank = answers.get(5);
+    take_up(net, &mut facts, 1, linkage);
+    take_up(net, &mut facts, 2, strong);
+    take_up(net, &mut facts, 5, rank);
+    Ok(pick(net, &facts))
+}
+
+// Answers whether the structural hypotheses on robustness hold, and writes the document of the answer. No search is bounded
+// by a budget.
+fn prove_robust<K: Sink>(alloc: Global, net: &Network, sink: &mut K) -> Status
+    ensures { (budget : ℕ) → NetworkGives (Prove RobustPart budget) result net.now
+        (K.seen sink.old) (K.seen sink.new) }
+{
+    let answers = match solve_rank(alloc, net) {
+        Ok(answers) => answers,
+        Err(_) => return Status::NoMemory,
+    };
+    let robust = match case_by(alloc, net, &answers) {
+        Ok(robust) => robust,
+        Err(_) => return Status::NoMemory,
+    };
+    let whole = status_by(rests(&robust));
+    cases_decide_robustness();
+    valid_answers_on_robustness_are_true();
+    written_documents_on_robustness_are_good();
+    match write_robust(net, &answers, &robust, sink) {
+        Ok(()) => whole,
+        Err(_) => Status::WriteFault,
+    }
+}
+
+// Checks a document on robustness, and writes its verdict or why it is rejected.
+fn check_robust<S: Source, K: Sink>(alloc: Global, source: &mut S, sink: &mut K) -> Status
+    ensures { (words : List (List ℕ)) → IsCommand words (Verify RobustPart) → RunGives result words
+        (record { source = S.seen source.old; sink = K.seen sink.old })
+        (record { source = S.seen source.new; sink = K.seen sink.new }) }
+{
+    cases_decide_robustness();
+    valid_answers_on_robustness_are_true();
+    match verify_robust(alloc, source) {
+        Ok(verified) => write_robustness(&verified.net, &verified.answer, sink),
         Err(stop) => end_without_document(stop, sink),
     }
 }

@@ -1,7 +1,8 @@
 ghost use Rattle.std.specs.Prelude.{◌≡◌, ◌++◌, decimal, List, ℕ};
 ghost use Rattle.crn_io.specs.Device.{SinkSeen};
+ghost use Rattle.crn_robust_text.specs.Document.{AreInside};
 ghost use Rattle.crn_io.specs.Write.{Wrote};
-ghost use Rattle.crn_run.specs.Parts.{endo_verdict, parts_verdict, persist_verdict, ranks_line};
+ghost use Rattle.crn_run.specs.Parts.{endo_verdict, parts_verdict, persist_verdict, ranks_line, robust_verdict};
 ghost use Rattle.crn_run.specs.Inner.Steps.{LineGives};
 ghost use Rattle.crn_run.specs.declared.status.Status.TheVariants.{Done};
 
@@ -10,6 +11,8 @@ use crn_ctext::put_nums;
 use crn_endo_text::EndoSeen;
 use crn_indep_text::PartsSeen;
 use crn_io::{Sink, WriteFault, put_all, put_parts};
+use crn_net::Network;
+use crn_robust::Robust;
 use crn_siphon_check::Outcome;
 use itoa::Buffer;
 
@@ -91,5 +94,45 @@ pub(crate) fn write_endotactic<K: Sink>(seen: &EndoSeen, sink: &mut K) -> Status
             sink,
         )),
         EndoSeen::Undecided => status_written(put_all(sink, b"endo: open\n")),
+    }
+}
+
+// A text between two others.
+fn put_between_two<K: Sink>(
+    before: &[u8],
+    text: &[u8],
+    after: &[u8],
+    sink: &mut K,
+) -> Result<(), WriteFault>
+    ensures { Wrote (before.now ++ text.now ++ after.now)
+        (K.seen sink.old) (K.seen sink.new) result }
+{
+    put_parts(sink, &[before, text, after])
+}
+
+/// Writes the verdict on robustness that was read of a network. Takes no memory.
+pub(crate) fn write_robustness<K: Sink>(net: &Network, robust: &Robust, sink: &mut K) -> Status
+    requires { AreInside net.now robust.now }
+    ensures { LineGives Done result (robust_verdict net.now robust.now)
+        (K.seen sink.old) (K.seen sink.new) }
+{
+    match robust {
+        Robust::Yes { species, .. } => status_written(put_between_two(
+            b"robust: hypotheses hold, species ",
+            net.name(*species as usize - 1),
+            b"\nconfluence space: a line\n",
+            sink,
+        )),
+        Robust::Number(deficiency) => status_written(put_number(
+            b"robust: hypotheses fail, deficiency ",
+            *deficiency as usize,
+            b"\nconfluence space: no line\n",
+            sink,
+        )),
+        Robust::None => status_written(put_all(
+            sink,
+            b"robust: hypotheses fail, no pair\nconfluence space: a line\n",
+        )),
+        Robust::Rests => status_written(put_all(sink, b"robust: open\n")),
     }
 }

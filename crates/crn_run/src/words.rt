@@ -17,6 +17,8 @@ use std::alloc::Global;
 pub enum PartName {
     /// Whether each siphon contains the species of a conservation law.
     Persist,
+    /// Whether the structural hypotheses on robustness hold.
+    Robust,
     /// The finest independent decomposition of the reactions.
     Decomposition,
     /// Whether the network is endotactic.
@@ -180,6 +182,7 @@ fn part_meant(name: &str) -> Option<PartName>
 {
     match name {
         "persist" => Some(PartName::Persist),
+        "robust" => Some(PartName::Robust),
         "parts" => Some(PartName::Decomposition),
         "endo" => Some(PartName::Endo),
         _ => None,
