@@ -1,10 +1,4 @@
-use crn_cert::{
-    Answer, Answers, Gap, Proof, RankList, RankProof, Rows, Verdict, Verdicts,
-    formed_answers_have_formed_verdicts, heads_depend_on_no_lists, nodes_are_of_one_tree,
-    pair_places_are_pairs, shapes_exist, shares_fit, tested_marks_are_sides,
-    tests_decide_valid_trees, valid_answers_are_true, valid_documents_are_true,
-    valid_trees_leave_nothing,
-};
+use crn_cert::{Answer, Answers, Gap, Proof, RankList, RankProof, Rows, Verdict, Verdicts};
 use crn_vec::{Ints, Nums};
 use std::process::Abort;
 
@@ -111,19 +105,4 @@ fn proofs_of_ranks_are_read_back(rt: HostRuntime) {
     list.push(base_alone(&rt)).expect(&rt, "memory");
     assert!(rt; list.len() == 1);
     assert!(rt; list.row(0).base.as_slice() == [4].as_slice());
-}
-
-#[test]
-fn laws_hold() {
-    valid_answers_are_true();
-    valid_documents_are_true();
-    valid_trees_leave_nothing();
-    tested_marks_are_sides();
-    pair_places_are_pairs();
-    shapes_exist();
-    heads_depend_on_no_lists();
-    formed_answers_have_formed_verdicts();
-    tests_decide_valid_trees();
-    shares_fit();
-    nodes_are_of_one_tree();
 }

@@ -1,10 +1,6 @@
 // How faults are displayed.
 use crn_net::NetFault;
-use crn_text::{
-    TextCode, TextFault, canonical_text_spells_its_network, each_text_is_judged,
-    first_fault_is_one, sound_lines_are_statements, spelled_text_has_no_fault, spelling_is_unique,
-    texts_are_split_in_one_way,
-};
+use crn_text::{TextCode, TextFault};
 use std::process::Abort;
 
 const NETWORKS: &[(NetFault, &str)] = &[
@@ -106,15 +102,4 @@ fn each_fault_of_a_text_is_displayed_with_its_name(rt: HostRuntime) {
     };
     let shown = format!(in rt.alloc(); "{fault}").expect(&rt, "memory");
     assert!(rt; shown.as_str() == "line 3: NoArrow: the line has no arrow");
-}
-
-#[test]
-fn laws_hold() {
-    texts_are_split_in_one_way();
-    first_fault_is_one();
-    spelling_is_unique();
-    spelled_text_has_no_fault();
-    each_text_is_judged();
-    sound_lines_are_statements();
-    canonical_text_spells_its_network();
 }

@@ -1,15 +1,6 @@
 use crn_vec::{
-    Ints, Kind, Matrix, Nums, Sign, agrees, base_gives_rank, budgets_that_are_never_spent,
-    confluence_vectors_are_one, counts, cuts_exclude_solutions, deficiency_is_one_number, dot,
-    feasible_prefixes_decide_discordance, feasible_prefixes_decide_signals, level_is_zero,
-    longer_visits, marks_are_sides, may_take, may_weigh, multiples_share_signals,
-    negatives_have_opposite_shapes, networks_are_lawful, networks_have_tables,
-    no_problem_lacks_visits, opposite, product, rank_is_one_number, rules_out, shapes_are_one,
-    sign_of, signals_are_of_shape, signals_are_steady, signals_meet_the_laws_of_sign_problems,
-    signals_of_networks_are_feasible, support, tables_are_steady,
-    tables_meet_the_laws_of_sign_problems, terminal_classes_are_by_reactions,
-    visits_are_in_preorder, visits_are_one_list, visits_are_reached,
-    weak_reversibility_is_by_reactions, weights_decide_cuts,
+    Ints, Kind, Matrix, Nums, Sign, agrees, counts, dot, may_take, may_weigh, opposite, product,
+    rules_out, sign_of, support,
 };
 
 #[test]
@@ -46,38 +37,6 @@ fn nums_take_and_give_back(rt: HostRuntime) {
 fn nums_are_made_of_lists(rt: HostRuntime) {
     let nums = Nums::from_slice(rt.alloc(), &[5, 6]).expect(&rt, "memory");
     assert!(rt; nums.as_slice() == [5, 6].as_slice());
-}
-
-#[test]
-fn laws_hold() {
-    base_gives_rank();
-    rank_is_one_number();
-    cuts_exclude_solutions();
-    weights_decide_cuts();
-    weak_reversibility_is_by_reactions();
-    terminal_classes_are_by_reactions();
-    marks_are_sides();
-    deficiency_is_one_number();
-    confluence_vectors_are_one();
-    visits_are_one_list();
-    no_problem_lacks_visits();
-    visits_are_reached();
-    longer_visits();
-    budgets_that_are_never_spent();
-    tables_meet_the_laws_of_sign_problems();
-    tables_are_steady();
-    feasible_prefixes_decide_discordance();
-    networks_have_tables();
-    signals_meet_the_laws_of_sign_problems();
-    signals_are_steady();
-    level_is_zero();
-    feasible_prefixes_decide_signals();
-    shapes_are_one();
-    negatives_have_opposite_shapes();
-    multiples_share_signals();
-    signals_are_of_shape();
-    signals_of_networks_are_feasible();
-    networks_are_lawful();
 }
 
 #[test]
