@@ -37,6 +37,7 @@ def test_examples_of_help():
         folder = Path(name)
         for file in ("two_site", "edelstein", "long", "model"):
             (folder / f"{file}.crn").write_bytes(EDELSTEIN.read_bytes())
+        (folder / "two_species.crn").write_bytes(b"A -> B\n")
         (folder / "networks").mkdir()
         (folder / "networks/a.crn").write_bytes(PAIR)
         (folder / "egfr.net").write_text(

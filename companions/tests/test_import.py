@@ -124,7 +124,7 @@ def test_cures():
                 other += 1
                 yield f"{line}: no other reaction is suggested", "note" in " ".join(wanted) or "reactions" in " ".join(wanted) or \
                     line in ("A + B\\n-> C", "A +\\nB -> C", "A + B ->\\nC"), found, wanted
-    yield "most have a suggestion", same > 120, same, other
+    yield "most have a suggestion", same > 100, same, other
 
 
 def shape(text):

@@ -111,7 +111,8 @@ def slope_dot(proof: Proof) -> str:
     up = [x / long for x in slope]
     ends = {"low": (at[0] - far * up[1], at[1] + far * up[0]), "high": (at[0] + far * up[1], at[1] - far * up[0]),
             "up": (at[0] + up[0], at[1] + up[1]), "start": (at[0], at[1])}
-    lines = ['  layout=neato; splines=true; outputorder=edgesfirst; size="10,10";', '  node [shape=box, style="rounded,filled", fillcolor="white", margin=0.04];']
+    lines = ['  layout=neato; splines=true; outputorder=edgesfirst; size="10,10";',
+             '  node [shape=box, style="rounded,filled", fillcolor="white", margin=0.04];']
     lines += [f'  c{c} [label={quoted(str(it))}, pos="{amounts[0]},{amounts[1]}!"];'
               for c, (it, amounts) in enumerate(zip(network.complexes, network.amounts), 1)]
     lines += [f'  {name} [shape=point, style=invis, pos="{x:.6f},{y:.6f}!"];' for name, (x, y) in ends.items()]
