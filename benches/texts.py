@@ -211,7 +211,8 @@ def literature():
 def proved():
     """For each part pairs of a name and a text, to measure it on."""
     large = [("240 reactions near all limits", near_limits()), ("30 pairs of species, each a linkage class", "".join(f"A{i} <-> B{i}\n" for i in range(30))),
-             ("random network of 40 species without reverses", random_directed()), ("nineteen-site futile cycle", futile(19))]
+             ("random network of 40 species without reverses", random_directed()),
+             ("random network of 60 species, 240 reactions", random_directed(60, 160, 240)), ("nineteen-site futile cycle", futile(19))]
     return {
         "persist": conservative(),
         "parts": [*large, *literature()],
