@@ -1,5 +1,5 @@
 -- The rows that a tableau keeps at first make a tableau.
-use Rattle.std.proofs.Common.{◌≡◌, ◌≢◌, ℕ, zero, suc, ◌+◌, ◌-◌, ◌*◌, ◌^◌, ◌<◌, ◌≤◌, inl, inr, List, [], ◌∷◌, ◌++◌, length, get_or, take, drop, map, refl, sym, ap, subst, ◌∙◌, arith, lit<, append_assoc, add-one}
+use Rattle.std.proofs.Common.{◌≡◌, ◌≢◌, ℕ, zero, suc, ◌+◌, ◌-◌, ◌*◌, ◌<◌, ◌≤◌, inl, inr, List, [], ◌∷◌, ◌++◌, length, get_or, take, drop, map, refl, sym, ap, subst, ◌∙◌, arith, lit<, append_assoc, add-one}
 use Rattle.std.specs.Prelude.{ℤ, pos, neg_ℤ, ◌*ℤ◌, slice_index, unsigned_abs}
 use Rattle.std.specs.Int.{◌∣◌}
 use Rattle.std.proofs.lemmas.Int.{ints}
@@ -11,11 +11,11 @@ use Rattle.crn_vec.specs.Vectors.{Mat, entry, dot, column, AreOfLength, AreWithi
 use Rattle.crn_vec.specs.Elementary.{width, InDualSpace}
 use Rattle.crn_vec.proofs.CallerLemmas.{within_at, past_end, lt_or, length-neg, entry-neg, dot_single, zero_times, entry-column, row_count}
 use Rattle.crn_tab.specs.Tableau.{AreSmall, choose}
-use Rattle.crn_tab.specs.Slots.{IsContent, slot_entry, spread, basis_from, row_at, ArePlaced, IsRowAt, IsTableau, AreLowRows, AreShortRows}
+use Rattle.crn_tab.specs.Slots.{IsContent, slot_entry, spread, basis_from, row_at, ArePlaced, IsRowAt, IsTableau}
 use Rattle.crn_tab.specs.Inner.Start.{IsIdentity, start_row, start_rows}
-use Rattle.crn_tab.proofs.Rows.{everywhere}
+use Rattle.crn_tab.proofs.SameRows.{everywhere}
 use Rattle.crn_tab.proofs.Places.{lt_true, lt_false, slot_basic, slot_own, slot_none, length-spread, entry-spread}
-use Rattle.crn_tab.proofs.Finish.{small_list}
+use Rattle.crn_tab.proofs.Finish.{below_list}
 
 pub length-start_row : (r : List ℤ) → length (start_row r) ≡ length r + 1
 length-start_row r = omega (arith, length-append (map neg_ℤ r) (pos 1 ∷ []), length-neg r)
@@ -133,16 +133,6 @@ first_below bound r few some h = everywhere (λ z. unsigned_abs z < bound) (star
       omega (arith, e, some)
 ])
 
-pub first_low : (a : Mat) → AreOfLength a.cols a.rows → ((i : ℕ) → AreWithin MAX_AMOUNT (get_or a.rows i [])) → AreLowRows (a.cols + 1) (length a.rows) (start_rows a.rows)
-first_low a wide within i lt =
-    let B : List ℤ → Type 0 = λ v. (k : ℕ) → unsigned_abs (entry v k) < 2 ^ 30 in
-    subst B (sym (start_row_at a.cols a.rows i wide lt)) (first_below (2 ^ 30) (get_or a.rows i []) (lit< tt) (lit< tt) (within i))
-
-pub first_short : (a : Mat) → AreOfLength a.cols a.rows → ((i : ℕ) → AreWithin MAX_AMOUNT (get_or a.rows i [])) → AreShortRows (a.cols + 1) (length a.rows) (start_rows a.rows)
-first_short a wide within i lt =
-    let B : List ℤ → Type 0 = λ v. (k : ℕ) → unsigned_abs (entry v k) < 2 ^ 14 in
-    subst B (sym (start_row_at a.cols a.rows i wide lt)) (first_below (2 ^ 14) (get_or a.rows i []) (lit< tt) (lit< tt) (within i))
-
 pub first_tableau : (a : Mat) (at order : List ℕ) → AreOfLength a.cols a.rows → 1 ≤ a.cols → width a ≤ MAX_COORDINATES → ((i : ℕ) → AreWithin MAX_AMOUNT (get_or a.rows i []))
     → IsIdentity (width a) at → IsIdentity (width a) order → IsTableau a at order (start_rows a.rows)
 first_tableau a at order wide some few within p q =
@@ -166,6 +156,6 @@ first_tableau a at order wide some few within p q =
             positive = omega (arith, ints, last);
             primitive = one_primitive (start_row r) n last;
           });
-      small = small_list (n + 1) (length a.rows) (start_rows a.rows) (omega arith) long
+      small = below_list WIDE_ENTRY (n + 1) (length a.rows) (start_rows a.rows) (lit< tt) (omega arith) long
           (λ i lt. let S : List ℤ → Type 0 = AreSmall in subst S (sym (row_is i lt)) (first_below WIDE_ENTRY (get_or a.rows i []) (lit< tt) (lit< tt) (within i)));
     }

@@ -7,7 +7,7 @@ use Rattle.std.proofs.Math.Nat.{suc-mul, mul-le-mul_right}
 use Rattle.crn_vec.specs.Vectors.{entry}
 use Rattle.crn_vec.proofs.CallerLemmas.{lt_or, drop_seam}
 use Rattle.crn_tab.specs.Slots.{row_at}
-use Rattle.crn_tab.proofs.Rows.{same_rows}
+use Rattle.crn_tab.proofs.SameRows.{same_rows}
 
 -- the row that was written
 pub row_written : (w i : ℕ) (prefix into back : List ℤ) → length prefix ≡ i * w → length into ≡ w → row_at w (prefix ++ (into ++ back)) i ≡ into

@@ -8,7 +8,7 @@ use Rattle.crn_vec.specs.Vectors.{entry}
 use Rattle.crn_tab.specs.Slots.{row_at}
 use Rattle.crn_tab.specs.Inner.Rows.{IsLead}
 use Rattle.crn_tab.proofs.NewRows.{look}
-use Rattle.crn_tab.proofs.Rows.{same_rows}
+use Rattle.crn_tab.proofs.SameRows.{same_rows}
 use Rattle.crn_tab.proofs.Cross.{read}
 
 -- what was taken out and put back

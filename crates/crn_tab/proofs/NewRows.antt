@@ -1,14 +1,13 @@
 -- The new row of an exchange, from its difference.
-use Rattle.std.proofs.Common.{◌≡◌, ◌≢◌, ℕ, zero, suc, ◌+◌, ◌-◌, ◌<◌, ◌≤◌, ◌⊎◌, inl, inr, List, [], ◌∷◌, length, refl, sym, ap, ◌∙◌, arith}
-use Rattle.std.specs.Prelude.{ℤ, pos, ◌-ℤ◌, ◌*ℤ◌, ◌≤ℤ◌, ◌<ℤ◌, unsigned_abs}
+use Rattle.std.proofs.Common.{◌≡◌, ◌≢◌, ℕ, zero, suc, ◌<◌, ◌≤◌, ◌⊎◌, inl, inr, List, [], ◌∷◌, length, refl, sym, ap, ◌∙◌, arith}
+use Rattle.std.specs.Prelude.{ℤ, pos, ◌-ℤ◌, ◌*ℤ◌, unsigned_abs}
 use Rattle.std.proofs.lemmas.Int.{ints}
 use Rattle.std.proofs.Math.ListN.{length-set}
-use lib.IntN.{*ℤ-zero, zero-*ℤ}
-use Rattle.crn_vec.proofs.CallerLemmas.{pos_pos}
+use lib.IntN.{zero-*ℤ}
 use Rattle.crn_vec.specs.Vectors.{entry}
 use Rattle.crn_tab.specs.Inner.Rows.{AreBelow, put, IsNewRow}
 use Rattle.crn_tab.specs.Slots.{IsContent}
-use Rattle.crn_tab.proofs.Rows.{same_rows}
+use Rattle.crn_tab.proofs.SameRows.{same_rows}
 
 -- a place is the written one or as before
 pub look : (v : List ℤ) (c k : ℕ) (x : ℤ) → c < length v → ((k ≡ c) × (entry (put v c x) k ≡ x)) ⊎ ((k ≢ c) × (entry (put v c x) k ≡ entry v k))
@@ -64,11 +63,3 @@ new_row_none n c old lead lt e h = record {
     primitive = h;
   };
 }
-
-pub last_stays : (c : ℕ) (old lead : List ℤ) (p q : ℤ) → c + 1 < length old → pos 1 ≤ℤ p → pos 1 ≤ℤ entry old (length old - 1)
-    → entry lead (length old - 1) ≡ pos 0 → (p *ℤ entry (put old c (pos 0)) (length old - 1)) -ℤ (q *ℤ entry lead (length old - 1)) ≢ pos 0
-last_stays c old lead p q lt some den e = λ zero_is.
-    let n : ℕ = length old - 1 in
-    let stays : entry (put old c (pos 0)) (length old - 1) ≡ entry old (length old - 1) = put_other old c (length old - 1) (pos 0) (omega arith) (omega arith) in
-    let up : pos 0 <ℤ (p *ℤ entry old (length old - 1)) = pos_pos p (entry old (length old - 1)) (omega (arith, ints)) (omega (arith, ints)) in
-    omega (arith, ints, up, zero_is, ap (λ (t : ℤ). p *ℤ t) stays, ap (λ (t : ℤ). q *ℤ t) e, *ℤ-zero q)

@@ -1,14 +1,15 @@
 -- The row of a coordinate outside the basis.
-use Rattle.std.proofs.Common.{◌≡◌, ℕ, ◌+◌, ◌-◌, ◌*◌, ◌<◌, ◌≤◌, List, length, ap, subst, ◌∙◌, arith}
+use Rattle.std.proofs.Common.{◌≡◌, ℕ, ◌+◌, ◌-◌, ◌*◌, ◌<◌, ◌≤◌, List, length, ap, subst, ◌∙◌, arith, lit<}
 use Rattle.std.specs.Prelude.{ℤ, slice_index}
 use Rattle.std.proofs.Math.Nat.{suc-mul, mul-le-mul_right}
+use Rattle.crn_vec.specs.declared.limits.TheConstants.{WIDE_ENTRY}
 use Rattle.crn_vec.specs.Vectors.{Mat}
 use Rattle.crn_vec.specs.Lists.{IsIn}
 use Rattle.crn_vec.specs.Elementary.{width, IsNamed}
 use Rattle.crn_tab.specs.Tableau.{AreSmall}
 use Rattle.crn_tab.specs.Slots.{spread, basis_of, row_at, IsTableau}
 use Rattle.crn_tab.proofs.Bases.{outside_slot, rows_make_basis, row_is_named}
-use Rattle.crn_tab.proofs.Finish.{small_row, spread_small}
+use Rattle.crn_tab.proofs.Finish.{below_row, spread_small}
 
 pub record IsRowOf (a : Mat) (at : List ℕ) (rows : List ℤ) (k i : ℕ) : Type 0 where
   pub low : a.cols ≤ slice_index at k
@@ -33,7 +34,7 @@ row_of a at order rows k t lt out =
       i_lt = i_lt;
       inside = omega (arith, t.long, suc-mul i (n + 1), mul-le-mul_right (n + 1) (let le : i + 1 ≤ length a.rows = omega arith in le));
       long = (t.each i i_lt).long;
-      small = small_row (n + 1) i rows t.small;
+      small = below_row WIDE_ENTRY (n + 1) i rows (lit< tt) t.small;
       named = subst N own (row_is_named a at order i (row_at (n + 1) rows i) t.placed i_lt basis (t.each i i_lt));
-      bounded = spread_small n i (row_at (n + 1) rows i) at (small_row (n + 1) i rows t.small);
+      bounded = spread_small n i (row_at (n + 1) rows i) at (below_row WIDE_ENTRY (n + 1) i rows (lit< tt) t.small);
     }

@@ -1,7 +1,7 @@
 -- How a tableau keeps the vectors that its basis names, for a matrix with n columns and m rows.
 -- Each coordinate has a slot: below n in the basis, n + i at row i. A row keeps the entries at the slots below n, then the one at its own slot.
 use Rattle.std.specs.Int.{◌∣◌}
-use Rattle.std.specs.Prelude.{Bool, IsTrue, List, [], drop, length, map, nat_eq, nat_lt, pos, slice_index, suc, take, unsigned_abs, ℕ, ℤ, ◌*◌, ◌+◌, ◌<◌, ◌^◌, ◌∷◌, ◌≡◌, ◌≤ℤ◌, ◌≤◌}
+use Rattle.std.specs.Prelude.{List, [], drop, length, map, nat_eq, nat_lt, pos, slice_index, suc, take, unsigned_abs, ℕ, ℤ, ◌*◌, ◌+◌, ◌<◌, ◌∷◌, ◌≡◌, ◌≤ℤ◌, ◌≤◌}
 use Rattle.crn_tab.specs.Tableau.{AreSmall, choose}
 use Rattle.crn_vec.specs.Elementary.{InDualSpace, width}
 use Rattle.crn_vec.specs.Vectors.{AreOfLength, Mat, entry}
@@ -60,22 +60,7 @@ pub record IsTableau (a : Mat) (at order : List ℕ) (rows : List ℤ) : Type 0 
   pub each : (i : ℕ) → i < length a.rows → IsRowAt a at i (row_at (a.cols + 1) rows i)
   pub small : AreSmall rows
 
--- each entry of the first `m` rows is low, below 2^30 in absolute value
-abbrev pub AreLowRows : ℕ → ℕ → List ℤ → Type 0
-AreLowRows w m rows = (i : ℕ) → i < m → (k : ℕ) → unsigned_abs (entry (row_at w rows i) k) < 2 ^ 30
-
--- each entry of the first `m` rows is short, below 2^14 in absolute value
-abbrev pub AreShortRows : ℕ → ℕ → List ℤ → Type 0
-AreShortRows w m rows = (i : ℕ) → i < m → (k : ℕ) → unsigned_abs (entry (row_at w rows i) k) < 2 ^ 14
-
--- the rows make a tableau, low or short if it says so, and the working lists have what an exchange needs
-pub record IsWhole (a : Mat) (at order : List ℕ) (rows lead : List ℤ) (low short : Bool) (spare_room room : ℕ) (work narrow_lead narrow_work : List ℤ) : Type 0 where
+-- the rows make a tableau, and an exchange has lists as long as they
+pub record IsWhole (a : Mat) (at order : List ℕ) (rows : List ℤ) (scratch : ℕ) : Type 0 where
   pub tableau : IsTableau a at order rows
-  pub low_rows : IsTrue low → AreLowRows (a.cols + 1) (length a.rows) rows
-  pub short_rows : IsTrue short → AreShortRows (a.cols + 1) (length a.rows) rows
-  pub spare_fits : length rows ≤ spare_room
-  pub lead_long : length lead ≡ a.cols + 1
-  pub places_room : a.cols + 1 ≤ room
-  pub work_long : length work ≡ a.cols + 1
-  pub narrow_long : length narrow_lead ≡ a.cols + 1
-  pub narrow_work_long : length narrow_work ≡ a.cols + 1
+  pub scratch_fits : scratch ≡ a.cols + 1

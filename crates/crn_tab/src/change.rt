@@ -1,12 +1,12 @@
 ghost use Rattle.std.specs.Prelude.{◌≡◌, ◌≢◌, ◌≤◌, ◌<◌, ◌^◌, ◌-◌, ◌*◌, ◌+◌, ℕ, ℤ, pos, ◌≤ℤ◌, ◌-ℤ◌, ◌*ℤ◌, List, length, unsigned_abs, slice_set, vec_capacity, IsTrue, false};
 ghost use Rattle.std.specs.Int.{◌∣◌};
 ghost use Rattle.crn_vec.specs.Vectors.{entry};
-ghost use Rattle.crn_tab.specs.Slots.{AreLowRows, AreShortRows, IsContent, row_at};
+ghost use Rattle.crn_tab.specs.Slots.{IsContent, row_at};
 ghost use Rattle.crn_tab.specs.Tableau.{AreSmall};
-ghost use Rattle.crn_tab.specs.Inner.Rows.{AreBelow, AreFilled, ArePlaces, IsCombined, IsKeptRow, IsNewRow, IsRowChanged};
+ghost use Rattle.crn_tab.specs.Inner.Rows.{AreBelow, AreFilled, ArePlaces, AreRowsBelow, IsCombined, IsKeptRow, IsNewRow, IsRowChanged};
 
 use crate::combine::{common, over};
-use crate::lead::{Lead, make_lead, put_lead, put_places};
+use crate::lead::{Lead, Pivot, make_lead, put_lead, put_places};
 use crate::low::{LOW_ENTRY, are_low, both, is_below, low_cross, low_differences, make_primitive};
 use crate::short::{
     SHORT_ENTRY, change_short, is_narrow, is_short, look_again, narrow, put_narrow_if,
@@ -313,15 +313,15 @@ fn change_rows(rows: &mut [i64], short: &mut bool, m: usize, lead: &Lead, work: 
     requires work_count { length work.old ≡ length lead.now.entries.now }
     requires short { IsTrue lead.now.short → (lead.now.narrow.now ≡ lead.now.entries.now)
         × AreBelow (2 ^ 14) lead.now.entries.now
-        × AreShortRows (length lead.now.entries.now) m rows.old }
+        × AreRowsBelow (2 ^ 14) (length lead.now.entries.now) m rows.old }
     requires short_rows { IsTrue short.old
-        → AreShortRows (length lead.now.entries.now) m rows.old }
+        → AreRowsBelow (2 ^ 14) (length lead.now.entries.now) m rows.old }
     requires count { length rows.old ≡ m * length lead.now.entries.now }
     requires place { lead.now.slot + 1 < length lead.now.entries.now }
     requires row { (i : ℕ) → i < m
         → IsKeptRow (length lead.now.entries.now)
         (row_at (length lead.now.entries.now) rows.old i) }
-    requires low_rows { AreLowRows (length lead.now.entries.now) m rows.old }
+    requires low_rows { AreRowsBelow (2 ^ 30) (length lead.now.entries.now) m rows.old }
     requires lead { AreBelow (2 ^ 30) lead.now.entries.now }
     requires places { ArePlaces lead.now.entries.now lead.now.places.now }
     requires lead_last { entry lead.now.entries.now (length lead.now.entries.now - 1) ≡ pos 0 }
@@ -346,37 +346,36 @@ fn change_rows(rows: &mut [i64], short: &mut bool, m: usize, lead: &Lead, work: 
     low
 }
 
-// The rows after the exchange of the coordinate at slot c and that of row r, if all entries are low. The answer is whether they all still are.
+// The rows after an exchange, if all entries are low. The answer is whether they all still are.
 pub(crate) fn changed_rows(
     rows: &mut [i64],
     short: &mut bool,
-    m: usize,
-    r: usize,
-    c: usize,
+    pivot: Pivot,
     lead: &mut [i64],
     places: &mut Vec<usize>,
     narrow_lead: &mut [i32],
     work: &mut [i32],
 ) -> bool
     requires few { length rows.old ≤ 2 ^ 20 }
-    requires count { length rows.old ≡ m * length lead.old }
-    requires place { c + 1 < length lead.old }
-    requires inside { r < m }
+    requires count { length rows.old ≡ pivot.rows * length lead.old }
+    requires place { pivot.slot + 1 < length lead.old }
+    requires inside { pivot.row < pivot.rows }
     requires room { length lead.old ≤ vec_capacity places.old }
-    requires row { (i : ℕ) → i < m
+    requires row { (i : ℕ) → i < pivot.rows
         → IsKeptRow (length lead.old) (row_at (length lead.old) rows.old i) }
-    requires low_rows { AreLowRows (length lead.old) m rows.old }
-    requires short_rows { IsTrue short.old → AreShortRows (length lead.old) m rows.old }
+    requires low_rows { AreRowsBelow (2 ^ 30) (length lead.old) pivot.rows rows.old }
+    requires short_rows { IsTrue short.old
+        → AreRowsBelow (2 ^ 14) (length lead.old) pivot.rows rows.old }
     requires narrow_count { length narrow_lead.old ≡ length lead.old }
     requires narrow_work { length work.old ≡ length lead.old }
-    requires some { entry (row_at (length lead.old) rows.old r) c ≢ pos 0 }
-    ensures filled { (order : List ℕ)
-        → AreFilled (length lead.old) m c r rows.old rows.new order (length order) }
-    ensures low { IsTrue result → AreLowRows (length lead.old) m rows.new }
-    ensures short { IsTrue short.new → AreShortRows (length lead.old) m rows.new }
+    requires some { entry (row_at (length lead.old) rows.old pivot.row) pivot.slot ≢ pos 0 }
+    ensures filled { (order : List ℕ) → AreFilled (length lead.old) pivot.rows pivot.slot pivot.row
+        rows.old rows.new order (length order) }
+    ensures low { IsTrue result → AreRowsBelow (2 ^ 30) (length lead.old) pivot.rows rows.new }
+    ensures short { IsTrue short.new → AreRowsBelow (2 ^ 14) (length lead.old) pivot.rows rows.new }
     ensures room { vec_capacity places.new ≡ vec_capacity places.old }
 {
-    make_lead(rows, r, c, lead);
+    make_lead(rows, pivot.row, pivot.slot, lead);
     let last = lead.len() - 1;
     let p = lead[last];
     lead[last] = 0;
@@ -384,8 +383,8 @@ pub(crate) fn changed_rows(
     let by_narrow = is_narrow(short, rows, places.len(), lead.len());
     put_narrow_if(by_narrow, lead, narrow_lead);
     let made = Lead {
-        row: r,
-        slot: c,
+        row: pivot.row,
+        slot: pivot.slot,
         own: &p,
         entries: lead,
         places,
@@ -393,8 +392,8 @@ pub(crate) fn changed_rows(
         short: by_narrow,
         narrow: narrow_lead,
     };
-    let low = change_rows(rows, short, m, &made, work);
+    let low = change_rows(rows, short, pivot.rows, &made, work);
     lead[last] = p;
-    put_lead(rows, r, lead);
+    put_lead(rows, pivot.row, lead);
     low
 }

@@ -33,7 +33,7 @@ pub(crate) fn are_short(row: &[i64]) -> bool
 }
 
 // The same of many rows. If they are not short, this is mostly found soon.
-fn all_short(rows: &[i64]) -> bool
+pub(crate) fn all_short(rows: &[i64]) -> bool
     ensures { IsTrue result → AreBelow (2 ^ 14) rows.now }
 {
     for x in rows {

@@ -4,6 +4,7 @@ ghost use Rattle.crn_vec.specs.Vectors.{entry};
 ghost use Rattle.crn_tab.specs.Inner.Rows.{AreBelow, ArePlaces, IsCombined, put};
 ghost use Rattle.crn_tab.specs.Tableau.{AreSmall};
 
+use crate::lead::Lead;
 use crate::low::{is_low, make_primitive};
 use crn_vec::WIDE_ENTRY;
 
@@ -62,45 +63,42 @@ fn put_differences(row: &[i64], lead: &[i64], places: &[usize], q: &i64, into: &
     true
 }
 
-// The primitive difference of a row without its entry at c and a low multiple of the lead, into a list of its length, if the row itself has the factor 1.
+// The primitive difference of a row without its entry at the lead's slot and a low multiple of the lead, into a list of its length, if the row itself has the factor 1.
 // It goes over the places of the lead, so a lead with few makes few steps. If the answer is no, the list holds nothing of use.
 pub(crate) fn combine_sparse(
     row: &[i64],
-    lead: &[i64],
-    places: &[usize],
-    low: bool,
+    lead: &Lead,
     p: &i64,
     q: &i64,
     known: &i64,
-    c: usize,
     into: &mut [i64],
 ) -> bool
     requires few { length row.now ≤ 2 ^ 20 }
-    requires lead_count { length lead.now ≡ length row.now }
+    requires lead_count { length lead.now.entries.now ≡ length row.now }
     requires into_count { length into.old ≡ length row.now }
-    requires place { c < length row.now }
+    requires place { lead.now.slot < length row.now }
     requires row { AreSmall row.now }
-    requires low { IsTrue low → AreBelow (2 ^ 30) lead.now }
-    requires places { ArePlaces lead.now places.now }
+    requires low { IsTrue lead.now.low → AreBelow (2 ^ 30) lead.now.entries.now }
+    requires places { ArePlaces lead.now.entries.now lead.now.places.now }
     requires p { unsigned_abs p.now < WIDE_ENTRY }
     requires known { (d : ℕ)
-        → ((k : ℕ) → d ∣ unsigned_abs ((p.now *ℤ entry (put row.now c (pos 0)) k)
-        -ℤ (q.now *ℤ entry lead.now k)))
+        → ((k : ℕ) → d ∣ unsigned_abs ((p.now *ℤ entry (put row.now lead.now.slot (pos 0)) k)
+        -ℤ (q.now *ℤ entry lead.now.entries.now k)))
         → d ∣ unsigned_abs known.now }
     requires known_some { pos 1 ≤ℤ known.now }
     requires known_small { unsigned_abs known.now < WIDE_ENTRY }
     ensures combined { IsTrue result
-        → IsCombined p.now q.now (put row.now c (pos 0)) lead.now into.new }
+        → IsCombined p.now q.now (put row.now lead.now.slot (pos 0)) lead.now.entries.now into.new }
     ensures small { IsTrue result → AreSmall into.new }
 {
-    if *p != 1 || !low || !is_low(q) {
+    if *p != 1 || !lead.low || !is_low(q) {
         return false;
     }
     into.copy_from_slice(row);
-    if !put_differences(row, lead, places, q, into) {
+    if !put_differences(row, lead.entries, lead.places, q, into) {
         return false;
     }
-    into[c] = negative_times(q, &lead[c]);
+    into[lead.slot] = negative_times(q, &lead.entries[lead.slot]);
     make_primitive(into, known);
     true
 }

@@ -31,13 +31,12 @@ fn is_barred(kind: Kind, sign: Sign) -> bool
 }
 
 // The lower of two levels, of which the second counts only if it is so.
-fn lower_level(best: usize, level: usize, counts: bool, end: usize) -> usize
-    requires { best ≤ end }
+fn lower_level(best: usize, level: usize, counts: bool) -> usize
     ensures lower { result ≤ best }
     ensures counts { IsTrue counts → result ≤ level }
     ensures one { (result ≡ best) ⊎ ((result ≡ level) × IsTrue counts) }
 {
-    let other = if counts { level } else { end };
+    let other = if counts { level } else { usize::MAX };
     best.min(other)
 }
 
@@ -49,9 +48,7 @@ fn least_wrong(
     level: usize,
     from: usize,
     best: usize,
-    end: usize,
 ) -> usize
-    requires { best ≤ end }
     ensures lower { result ≤ best }
     ensures from { from ≤ best → from ≤ result }
     ensures right { (y : ℤ) → Follows sign x.now y → from ≤ level → level < result
@@ -60,7 +57,7 @@ fn least_wrong(
         ⊎ ((result ≡ level) × ((y : ℤ) → Follows sign x.now y → MayWeigh kind y → ⊥)) }
 {
     let wrong = is_barred(kind, follower(sign, x));
-    lower_level(best, level, wrong & (from <= level), end)
+    lower_level(best, level, wrong & (from <= level))
 }
 
 // The same at coordinate c.
@@ -72,9 +69,7 @@ fn wrong_at(
     c: usize,
     from: usize,
     best: usize,
-    end: usize,
 ) -> usize
-    requires range { best ≤ end }
     requires kinds { c < length kinds.now }
     requires level { c < length level.now }
     ensures lower { result ≤ best }
@@ -85,7 +80,7 @@ fn wrong_at(
         ⊎ ((result ≡ slice_index level.now c) × ((y : ℤ) → Follows sign x.now y
         → MayWeigh (slice_index_or kinds.now c Pos) y → ⊥)) }
 {
-    least_wrong(sign, x, kinds[c], level[c], from, best, end)
+    least_wrong(sign, x, kinds[c], level[c], from, best)
 }
 
 // The kind whose weights are what a part of a solution may have at a coordinate of the given kind.
@@ -130,7 +125,7 @@ fn wrong_row(
 {
     let n = fields.matrix.cols();
     let kept = part(fields.rows, fields.at[row] - n, n + 1);
-    let mut best = least_wrong(sign, &kept[n], kinds[row], level[row], from, end, end);
+    let mut best = least_wrong(sign, &kept[n], kinds[row], level[row], from, end);
     for s in 0..n {
         best = wrong_at(
             sign,
@@ -140,7 +135,6 @@ fn wrong_row(
             fields.order[s],
             from,
             best,
-            end,
         );
     }
     best
@@ -178,7 +172,7 @@ fn wrong_column(
     let m = fields.matrix.rows();
     let place = fields.at[col];
     let other = opposite(sign);
-    let mut best = least_wrong(sign, &1, dual(kinds[col]), level[col], from, end, end);
+    let mut best = least_wrong(sign, &1, dual(kinds[col]), level[col], from, end);
     for i in 0..m {
         let c = fields.order[n + i];
         let kept = part(fields.rows, i, n + 1);
@@ -189,7 +183,6 @@ fn wrong_column(
             level[c],
             from,
             best,
-            end,
         );
     }
     best

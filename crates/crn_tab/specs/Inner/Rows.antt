@@ -1,6 +1,6 @@
 -- For the contracts of private functions alone. How an exchange makes the new rows.
 -- The lead is the row of the entering coordinate in its new places.
-use Rattle.std.specs.Prelude.{Bool, List, false, length, negsuc, pos, slice_index, slice_set, true, unsigned_abs, ℕ, ℤ, ◌*ℤ◌, ◌+◌, ◌-ℤ◌, ◌-◌, ◌<◌, ◌≡◌, ◌≢◌, ◌≤ℤ◌, ◌≤◌, ◌⊎◌}
+use Rattle.std.specs.Prelude.{Bool, IsTrue, List, false, length, negsuc, pos, slice_index, slice_set, true, unsigned_abs, ℕ, ℤ, ◌*ℤ◌, ◌+◌, ◌-ℤ◌, ◌-◌, ◌<◌, ◌^◌, ◌≡◌, ◌≢◌, ◌≤ℤ◌, ◌≤◌, ◌⊎◌}
 use Rattle.crn_tab.specs.Slots.{IsContent, row_at}
 use Rattle.crn_tab.specs.Tableau.{AreSmall}
 use Rattle.crn_vec.specs.Elementary.{IsWide}
@@ -10,6 +10,27 @@ use Rattle.crn_vec.specs.Vectors.{entry}
 -- each entry is below a bound in absolute value
 abbrev pub AreBelow : ℕ → List ℤ → Type 0
 AreBelow bound v = (k : ℕ) → unsigned_abs (entry v k) < bound
+
+-- the same of the entries of each of the first m rows
+abbrev pub AreRowsBelow : ℕ → ℕ → ℕ → List ℤ → Type 0
+AreRowsBelow bound w m rows = (i : ℕ) → i < m → AreBelow bound (row_at w rows i)
+
+-- the entries are low, below 2^30 in absolute value, or short, below 2^14, if it is said, and the spare list has room for as many
+pub record AreRows (entries : List ℤ) (low short : Bool) (spare_room : ℕ) : Type 0 where
+  pub low_is : IsTrue low → AreBelow (2 ^ 30) entries
+  pub short_is : IsTrue short → AreBelow (2 ^ 14) entries
+  pub spare_fits : length entries ≤ spare_room
+
+-- each list is as long as a row of w entries, or has room for as many places
+pub record IsScratch (w room : ℕ) (work narrow_lead narrow_work : List ℤ) : Type 0 where
+  pub places_fit : w ≤ room
+  pub work_long : length work ≡ w
+  pub narrow_lead_long : length narrow_lead ≡ w
+  pub narrow_work_long : length narrow_work ≡ w
+
+-- each slot has one of as many coordinates
+abbrev pub AreCoordinates : List ℕ → Type 0
+AreCoordinates order = (s : ℕ) → s < length order → slice_index order s < length order
 
 -- the list holds each place where the row is not 0, and places of the row alone, ascending
 pub record ArePlaces (row : List ℤ) (places : List ℕ) : Type 0 where

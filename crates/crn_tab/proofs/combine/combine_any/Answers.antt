@@ -17,7 +17,7 @@ small_without v c lt h k = elim (look v c k (pos 0) lt) [
 ]
 
 pub subtract-requires-clause-row : goal.subtract-requires-clause-row
-subtract-requires-clause-row c = rw c.copy_from_slice.ensures.after (small_without c.args.old.now c.args.c c.requires.place c.requires.old)
+subtract-requires-clause-row c = rw c.copy_from_slice.ensures.after (small_without c.args.old.now c.args.lead.now.slot c.requires.place c.requires.old)
 
 pub reduce-requires-clause-small : goal.reduce-requires-clause-small
 reduce-requires-clause-small c =
@@ -28,32 +28,27 @@ reduce-requires-clause-small c =
 pub reduce-requires-clause-known : goal.reduce-requires-clause-known
 reduce-requires-clause-known c =
     let old = c.args.old.now in
-    let row = put old c.args.c (pos 0) in
+    let row = put old c.args.lead.now.slot (pos 0) in
     let fit = rw c.copy_from_slice.ensures.after at c.if-subtract.ensures in
-    λ d h. c.requires.known d (each_difference d c.args.p.now c.args.q.now row c.args.lead.now c.subtract.new.row (c.requires.lead_count ∙ sym (length-set old c.args.c (pos 0)))
+    λ d h. c.requires.known d (each_difference d c.args.p.now c.args.q.now row c.args.lead.now.entries.now c.subtract.new.row (c.requires.lead_count ∙ sym (length-set old c.args.lead.now.slot (pos 0)))
     (λ k lt. ap (λ (v : List ℤ). entry v k) fit.3.0 ∙ fit.2 k lt) h)
 
 pub returns-then-subtract : goal.returns-then-subtract
 returns-then-subtract c =
     let old = c.args.old.now in
-    let row = put old c.args.c (pos 0) in
+    let row = put old c.args.lead.now.slot (pos 0) in
     let u = c.subtract.new.row in
     let fit = rw c.copy_from_slice.ensures.after at c.if-subtract.ensures in
     let m = c.reduce.ensures.primitive in
     let long : length u ≡ length row = ap (λ (v : List ℤ). length v) fit.3.0 ∙ fit.1 in (
       c.reduce.new.row,
-      combined_of c.args.p.now c.args.q.now row c.args.lead.now u c.reduce.new.row m.t (c.requires.lead_count ∙ sym (length-set old c.args.c (pos 0)))
+      combined_of c.args.p.now c.args.q.now row c.args.lead.now.entries.now u c.reduce.new.row m.t (c.requires.lead_count ∙ sym (length-set old c.args.lead.now.slot (pos 0)))
           long (c.reduce.auto.row ∙ long) (λ k lt. ap (λ (v : List ℤ). entry v k) fit.3.0 ∙ fit.2 k lt) m.content m.some (λ k lt. m.parts k (omega (arith, lt, long))),
       (refl, c.reduce.ensures.small),
     )
 
 pub combine-requires-clause-row : goal.combine-requires-clause-row
-combine-requires-clause-row c = rw c.copy_from_slice-2.ensures.after (small_without c.args.old.now c.args.c c.requires.place c.requires.old)
+combine-requires-clause-row c = rw c.copy_from_slice-2.ensures.after (small_without c.args.old.now c.args.lead.now.slot c.requires.place c.requires.old)
 
 pub combine-requires-clause-known : goal.combine-requires-clause-known
 combine-requires-clause-known c = rw c.copy_from_slice-2.ensures.after c.requires.known
-
-pub combine-requires-clause-some : goal.combine-requires-clause-some
-combine-requires-clause-some c =
-    let some = c.requires.some in
-    rw c.copy_from_slice-2.ensures.after (some.0, omega (arith, some.1, length-set c.args.old.now c.args.c (pos 0)), some.2)

@@ -1,5 +1,5 @@
 use Rattle.std.proofs.Common.{arith}
-use Rattle.crn_tab.proofs.Rows.{same_rows, small_everywhere}
+use Rattle.crn_tab.proofs.SameRows.{same_rows, small_everywhere}
 use Rattle.crn_tab.proofs.combine.keep.Goals as goal
 
 pub returns : goal.returns

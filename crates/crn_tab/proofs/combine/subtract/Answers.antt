@@ -6,7 +6,7 @@ use Rattle.crn_vec.specs.Vectors.{entry}
 use Rattle.crn_tab.proofs.Cross.{narrowed}
 use Rattle.crn_tab.proofs.Differences.{differences, length-differences, entry-differences}
 use Rattle.crn_tab.proofs.NewRows.{look}
-use Rattle.crn_tab.proofs.Rows.{same_rows, small_everywhere}
+use Rattle.crn_tab.proofs.SameRows.{same_rows, small_everywhere}
 use Rattle.crn_tab.proofs.combine.subtract.Goals as goal
 
 pub loop-j-preserved : goal.loop-j-preserved

@@ -7,7 +7,7 @@ use Rattle.std.proofs.Math.Nat.{one-dvd}
 use Rattle.crn_tab.specs.Inner.Rows.{AreBelow, IsPrimitivePart}
 use Rattle.crn_vec.specs.Vectors.{entry}
 use Rattle.crn_tab.proofs.Cross.{read}
-use Rattle.crn_tab.proofs.Rows.{everywhere}
+use Rattle.crn_tab.proofs.SameRows.{everywhere}
 use Rattle.crn_tab.proofs.WideProducts.{times_divides}
 use Rattle.crn_tab.proofs.low.reduce.Goals as goal
 

@@ -8,7 +8,7 @@ use Rattle.crn_vec.proofs.CallerLemmas.{eq_or}
 use Rattle.crn_vec.specs.Vectors.{entry}
 use Rattle.crn_vec.specs.declared.limits.TheConstants.{WIDE_ENTRY}
 use Rattle.crn_tab.proofs.Cross.{read}
-use Rattle.crn_tab.proofs.Rows.{everywhere}
+use Rattle.crn_tab.proofs.SameRows.{everywhere}
 use Rattle.crn_tab.proofs.low.shared_divisor.Goals as goal
 
 pub loop-x-init : goal.loop-x-init

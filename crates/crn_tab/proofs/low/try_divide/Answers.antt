@@ -9,7 +9,7 @@ use Rattle.crn_vec.specs.Vectors.{entry}
 use Rattle.crn_frac.proofs.CallerLemmas.{smaller}
 use Rattle.crn_tab.proofs.Cross.{read}
 use Rattle.crn_tab.proofs.NewRows.{look}
-use Rattle.crn_tab.proofs.Rows.{same_rows}
+use Rattle.crn_tab.proofs.SameRows.{same_rows}
 use Rattle.crn_tab.proofs.low.try_divide.Goals as goal
 
 pub restore-requires-clause-small : goal.restore-requires-clause-small

@@ -32,41 +32,41 @@ overflow_sub-r c =
     let h = here c.args.matrix.now c.args.at.now c.args.order.now c.args.rows.now c.args.leave c.args.enter c.requires.tableau c.requires.leave c.requires.inside c.requires.enter in
     omega (arith, h.own, c.cols-n.ensures.count)
 
-pub new_rows-least-requires-clause-place : goal.new_rows-least-requires-clause-place
-new_rows-least-requires-clause-place c =
+pub exchange-least-requires-clause-place : goal.exchange-least-requires-clause-place
+exchange-least-requires-clause-place c =
     let h = here c.args.matrix.now c.args.at.now c.args.order.now c.args.rows.now c.args.leave c.args.enter c.requires.tableau c.requires.leave c.requires.inside c.requires.enter in
-    omega (arith, h.c_lt, c.requires.lead_count)
+    omega (arith, h.c_lt, c.requires.scratch)
 
-pub new_rows-least-requires-clause-inside : goal.new_rows-least-requires-clause-inside
-new_rows-least-requires-clause-inside c =
+pub exchange-least-requires-clause-inside : goal.exchange-least-requires-clause-inside
+exchange-least-requires-clause-inside c =
     let h = here c.args.matrix.now c.args.at.now c.args.order.now c.args.rows.now c.args.leave c.args.enter c.requires.tableau c.requires.leave c.requires.inside c.requires.enter in
     omega (arith, h.r_lt, c.cols-n.ensures.count, c.rows-m.ensures.count)
 
-pub new_rows-least-requires-clause-row : goal.new_rows-least-requires-clause-row
-new_rows-least-requires-clause-row c = λ i lt.
-    rw c.requires.lead_count (kept_row c.args.matrix.now c.args.at.now c.args.order.now c.args.rows.now i c.requires.tableau (omega (arith, lt, c.rows-m.ensures.count)))
+pub exchange-least-requires-clause-row : goal.exchange-least-requires-clause-row
+exchange-least-requires-clause-row c = λ i lt.
+    rw c.requires.scratch (kept_row c.args.matrix.now c.args.at.now c.args.order.now c.args.rows.now i c.requires.tableau (omega (arith, lt, c.rows-m.ensures.count)))
 
-pub new_rows-least-requires-clause-some : goal.new_rows-least-requires-clause-some
-new_rows-least-requires-clause-some c =
+pub exchange-least-requires-clause-some : goal.exchange-least-requires-clause-some
+exchange-least-requires-clause-some c =
     let h = here c.args.matrix.now c.args.at.now c.args.order.now c.args.rows.now c.args.leave c.args.enter c.requires.tableau c.requires.leave c.requires.inside c.requires.enter in
-    rw (c.requires.lead_count, c.cols-n.ensures.count)
+    rw (c.requires.scratch, c.cols-n.ensures.count)
     (some_entry c.args.matrix.now c.args.at.now c.args.order.now c.args.rows.now c.args.leave c.args.enter (slice_index c.args.at.now c.args.leave) (slice_index c.args.at.now c.args.enter - c.args.matrix.now.cols)
     c.requires.tableau h c.requires.some)
 
 pub returns-then-least-n-clause-wide : goal.returns-then-least-n-clause-wide
 returns-then-least-n-clause-wide c = λ ne.
     let h = here c.args.matrix.now c.args.at.now c.args.order.now c.args.rows.now c.args.leave c.args.enter c.requires.tableau c.requires.leave c.requires.inside c.requires.enter in
-    let f = rw (c.requires.lead_count, c.cols-n.ensures.count, c.rows-m.ensures.count) at c.new_rows-least.ensures.filled in
-    let lt : c.new_rows-least.result < width c.args.matrix.now = omega (arith, c.cols-n.ensures.count, c.rows-m.ensures.count) in (
+    let f = rw (c.requires.scratch, c.cols-n.ensures.count, c.rows-m.ensures.count) at c.exchange-least.ensures.filled in
+    let lt : c.exchange-least.result < width c.args.matrix.now = omega (arith, c.cols-n.ensures.count, c.rows-m.ensures.count) in (
       refl,
       refl,
-      c.new_rows-least.ensures.stay (omega (arith, c.cols-n.ensures.count, c.rows-m.ensures.count, c.requires.tableau.placed.order_long)),
+      c.exchange-least.ensures.stay (omega (arith, c.cols-n.ensures.count, c.rows-m.ensures.count, c.requires.tableau.placed.order_long)),
       λ next ex. (
-        wide_here c.args.matrix.now c.args.at.now c.args.order.now c.args.rows.now c.new_rows-least.new.rows c.args.leave c.args.enter
-            (slice_index c.args.at.now c.args.leave) (slice_index c.args.at.now c.args.enter - c.args.matrix.now.cols) c.new_rows-least.result c.requires.tableau h f
+        wide_here c.args.matrix.now c.args.at.now c.args.order.now c.args.rows.now c.exchange-least.new.self c.args.leave c.args.enter
+            (slice_index c.args.at.now c.args.leave) (slice_index c.args.at.now c.args.enter - c.args.matrix.now.cols) c.exchange-least.result c.requires.tableau h f
             lt next ex,
-        least_here c.args.matrix.now c.args.at.now c.args.order.now c.args.rows.now c.new_rows-least.new.rows c.args.leave c.args.enter
-            (slice_index c.args.at.now c.args.leave) (slice_index c.args.at.now c.args.enter - c.args.matrix.now.cols) c.new_rows-least.result c.requires.tableau h f
+        least_here c.args.matrix.now c.args.at.now c.args.order.now c.args.rows.now c.exchange-least.new.self c.args.leave c.args.enter
+            (slice_index c.args.at.now c.args.leave) (slice_index c.args.at.now c.args.enter - c.args.matrix.now.cols) c.exchange-least.result c.requires.tableau h f
             lt next ex,
       ),
     )
@@ -74,18 +74,18 @@ returns-then-least-n-clause-wide c = λ ne.
 pub returns-then-least-n-clause-row : goal.returns-then-least-n-clause-row
 returns-then-least-n-clause-row c = λ ne next ex.
     let h = here c.args.matrix.now c.args.at.now c.args.order.now c.args.rows.now c.args.leave c.args.enter c.requires.tableau c.requires.leave c.requires.inside c.requires.enter in
-    let f = rw (c.requires.lead_count, c.cols-n.ensures.count, c.rows-m.ensures.count) at c.new_rows-least.ensures.filled in
-    let lt : c.new_rows-least.result < width c.args.matrix.now = omega (arith, c.cols-n.ensures.count, c.rows-m.ensures.count) in
-    row_here c.args.matrix.now c.args.at.now c.args.order.now c.args.rows.now c.new_rows-least.new.rows c.args.leave c.args.enter
-    (slice_index c.args.at.now c.args.leave) (slice_index c.args.at.now c.args.enter - c.args.matrix.now.cols) c.new_rows-least.result c.requires.tableau h f
+    let f = rw (c.requires.scratch, c.cols-n.ensures.count, c.rows-m.ensures.count) at c.exchange-least.ensures.filled in
+    let lt : c.exchange-least.result < width c.args.matrix.now = omega (arith, c.cols-n.ensures.count, c.rows-m.ensures.count) in
+    row_here c.args.matrix.now c.args.at.now c.args.order.now c.args.rows.now c.exchange-least.new.self c.args.leave c.args.enter
+    (slice_index c.args.at.now c.args.leave) (slice_index c.args.at.now c.args.enter - c.args.matrix.now.cols) c.exchange-least.result c.requires.tableau h f
     lt next ex
 
 pub returns-clause-ok : goal.returns-clause-ok
 returns-clause-ok c = λ e.
     let h = here c.args.matrix.now c.args.at.now c.args.order.now c.args.rows.now c.args.leave c.args.enter c.requires.tableau c.requires.leave c.requires.inside c.requires.enter in
-    let f = rw (c.requires.lead_count, c.cols-n.ensures.count, c.rows-m.ensures.count) at c.new_rows-least.ensures.filled in
-    rw c.cols-n.ensures.count (ok_here c.args.matrix.now c.args.at.now c.args.order.now c.args.rows.now c.new_rows-least.new.rows c.args.leave c.args.enter
-    (slice_index c.args.at.now c.args.leave) (slice_index c.args.at.now c.args.enter - c.args.matrix.now.cols) c.new_rows-least.result c.requires.tableau h (omega arith) f e)
+    let f = rw (c.requires.scratch, c.cols-n.ensures.count, c.rows-m.ensures.count) at c.exchange-least.ensures.filled in
+    rw c.cols-n.ensures.count (let t = ok_here c.args.matrix.now c.args.at.now c.args.order.now c.args.rows.now c.exchange-least.new.self c.args.leave c.args.enter
+    (slice_index c.args.at.now c.args.leave) (slice_index c.args.at.now c.args.enter - c.args.matrix.now.cols) c.exchange-least.result c.requires.tableau h c.exchange-least.ensures.long f e in (t.1, t.2))
 
 pub bounds-order-c : goal.bounds-order-c
 bounds-order-c c =
@@ -99,8 +99,8 @@ bounds-order-n c =
 
 pub returns-clause-wide : goal.returns-clause-wide
 returns-clause-wide c = λ ne.
-    let f = rw (c.requires.lead_count, c.cols-n.ensures.count, c.rows-m.ensures.count) at c.new_rows-least.ensures.filled in
-    let le : c.new_rows-least.result ≤ width c.args.matrix.now = elim f.last [
+    let f = rw (c.requires.scratch, c.cols-n.ensures.count, c.rows-m.ensures.count) at c.exchange-least.ensures.filled in
+    let le : c.exchange-least.result ≤ width c.args.matrix.now = elim f.last [
       | inl h ↦ omega (arith, h.0, c.requires.tableau.placed.order_long)
       | inr w ↦ omega (arith, w.own, c.requires.tableau.placed.order_below (c.args.matrix.now.cols + 1 - 1 + w.i) (omega (arith, w.inside)))
     ] in
@@ -108,14 +108,16 @@ returns-clause-wide c = λ ne.
 
 pub returns-then-least-n-clause-tableau : goal.returns-then-least-n-clause-tableau
 returns-then-least-n-clause-tableau c =
-    let same = c.new_rows-least.ensures.stay (omega (arith, c.cols-n.ensures.count, c.rows-m.ensures.count, c.requires.tableau.placed.order_long)) in
+    let same = c.exchange-least.ensures.stay (omega (arith, c.cols-n.ensures.count, c.rows-m.ensures.count, c.requires.tableau.placed.order_long)) in
     subst (λ (rows : List ℤ). IsTableau c.args.matrix.now c.args.at.now c.args.order.now rows) (sym same) c.requires.tableau
 
 pub returns-clause-tableau : goal.returns-clause-tableau
 returns-clause-tableau c =
-    let f = rw (c.requires.lead_count, c.cols-n.ensures.count, c.rows-m.ensures.count) at c.new_rows-least.ensures.filled in
-    let le : c.new_rows-least.result ≤ width c.args.matrix.now = elim f.last [
+    let h = here c.args.matrix.now c.args.at.now c.args.order.now c.args.rows.now c.args.leave c.args.enter c.requires.tableau c.requires.leave c.requires.inside c.requires.enter in
+    let f = rw (c.requires.scratch, c.cols-n.ensures.count, c.rows-m.ensures.count) at c.exchange-least.ensures.filled in
+    let le : c.exchange-least.result ≤ width c.args.matrix.now = elim f.last [
       | inl h ↦ omega (arith, h.0, c.requires.tableau.placed.order_long)
       | inr w ↦ omega (arith, w.own, c.requires.tableau.placed.order_below (c.args.matrix.now.cols + 1 - 1 + w.i) (omega (arith, w.inside)))
     ] in
-    (returns-clause-ok c (omega (arith, le, c.if-least-n.false, c.cols-n.ensures.count, c.rows-m.ensures.count))).0
+    rw c.cols-n.ensures.count (ok_here c.args.matrix.now c.args.at.now c.args.order.now c.args.rows.now c.exchange-least.new.self c.args.leave c.args.enter
+    (slice_index c.args.at.now c.args.leave) (slice_index c.args.at.now c.args.enter - c.args.matrix.now.cols) c.exchange-least.result c.requires.tableau h c.exchange-least.ensures.long f (omega (arith, le, c.if-least-n.false, c.cols-n.ensures.count, c.rows-m.ensures.count))).0

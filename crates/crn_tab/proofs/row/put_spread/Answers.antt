@@ -5,7 +5,7 @@ use Rattle.std.proofs.lemmas.Int.{to_z-of_z}
 use Rattle.crn_tab.specs.Slots.{slot_entry, spread}
 use Rattle.crn_tab.proofs.NewRows.{look}
 use Rattle.crn_tab.proofs.Places.{length-spread, entry-spread}
-use Rattle.crn_tab.proofs.Rows.{same_rows}
+use Rattle.crn_tab.proofs.SameRows.{same_rows}
 use Rattle.crn_tab.proofs.row.put_spread.Goals as goal
 
 pub loop-k-preserved : goal.loop-k-preserved

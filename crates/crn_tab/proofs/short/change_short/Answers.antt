@@ -10,7 +10,7 @@ use Rattle.crn_tab.proofs.Divided.{each_difference}
 use Rattle.crn_tab.proofs.Primitive.{combined_of}
 use Rattle.crn_tab.proofs.LowCross.{read_low}
 use Rattle.crn_tab.proofs.ShortCross.{read_short}
-use Rattle.crn_tab.proofs.Rows.{everywhere}
+use Rattle.crn_tab.proofs.SameRows.{everywhere}
 use Rattle.crn_tab.proofs.WideProducts.{times_divides}
 use Rattle.crn_tab.proofs.short.change_short.Goals as goal
 

@@ -1,5 +1,5 @@
 use Rattle.std.proofs.Common.{arith}
-use Rattle.crn_tab.proofs.Rows.{same_rows}
+use Rattle.crn_tab.proofs.SameRows.{same_rows}
 use Rattle.crn_tab.proofs.short.put_narrow.Goals as goal
 
 pub returns : goal.returns

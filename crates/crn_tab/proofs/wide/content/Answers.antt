@@ -7,7 +7,7 @@ use Rattle.crn_vec.specs.Vectors.{entry}
 use Rattle.crn_vec.specs.declared.limits.TheConstants.{WIDE_ENTRY}
 use Rattle.crn_tab.specs.declared.inverse.Inverse.{Inverse}
 use Rattle.crn_tab.proofs.Cross.{read}
-use Rattle.crn_tab.proofs.Rows.{everywhere}
+use Rattle.crn_tab.proofs.SameRows.{everywhere}
 use Rattle.crn_tab.proofs.wide.content.Goals as goal
 use Rattle.crn_tab.proofs.wide.content.Goals.{then-not-is_multiple, else-not-is_multiple}
 

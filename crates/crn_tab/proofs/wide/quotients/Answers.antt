@@ -6,7 +6,7 @@ use Rattle.crn_vec.specs.declared.limits.TheConstants.{WIDE_ENTRY}
 use Rattle.crn_vec.specs.Vectors.{entry}
 use Rattle.crn_tab.proofs.Cross.{read}
 use Rattle.crn_tab.proofs.NewRows.{look}
-use Rattle.crn_tab.proofs.Rows.{small_everywhere}
+use Rattle.crn_tab.proofs.SameRows.{small_everywhere}
 use Rattle.crn_tab.proofs.wide.quotients.Goals as goal
 
 pub loop-j-preserved : goal.loop-j-preserved

@@ -1,11 +1,11 @@
-use Rattle.std.proofs.Common.{◌≡◌, ◌<◌, ◌+◌, ℕ, List, length, ap, sym, subst, arith}
+use Rattle.std.proofs.Common.{◌≡◌, ◌<◌, ◌+◌, ℕ, List, length, ap, ◌∙◌, sym, subst, arith}
 use Rattle.std.specs.Prelude.{ℤ, ◌↔◌}
 use Rattle.crn_vec.specs.Vectors.{Mat}
 use Rattle.crn_vec.specs.Lists.{IsIn}
 use Rattle.crn_vec.specs.Elementary.{width}
 use Rattle.crn_tab.specs.Inner.Start.{IsIdentity}
-use Rattle.crn_tab.specs.Slots.{basis_of, AreLowRows, AreShortRows, IsTableau}
-use Rattle.crn_tab.proofs.FirstRows.{first_tableau, first_low, first_short}
+use Rattle.crn_tab.specs.Slots.{basis_of, IsTableau}
+use Rattle.crn_tab.proofs.FirstRows.{first_tableau}
 use Rattle.crn_tab.proofs.BasicTest.{first_basis}
 use Rattle.crn_tab.proofs.tableau.Tableau.new.Goals as goal
 
@@ -25,17 +25,7 @@ invariant_of-result c =
     (counted a.cols c.cols-n.result (length a.rows) c.rows-m.result at c.cols-n.ensures.count c.rows-m.ensures.count c.in_ok-at.ensures)
     (counted a.cols c.cols-n.result (length a.rows) c.rows-m.result order c.cols-n.ensures.count c.rows-m.ensures.count c.in_ok-order.ensures) in
     let T : List ℤ → Type 0 = λ rows. IsTableau a at order rows in
-    record {
-      tableau = subst T (sym c.in_ok-rows.ensures) first;
-      low_rows = λ _. let L : List ℤ → Type 0 = λ rows. AreLowRows (a.cols + 1) (length a.rows) rows in subst L (sym c.in_ok-rows.ensures) (first_low a c.cols-n.ensures.shape c.rows-m.ensures.small);
-      short_rows = λ _. let L : List ℤ → Type 0 = λ rows. AreShortRows (a.cols + 1) (length a.rows) rows in subst L (sym c.in_ok-rows.ensures) (first_short a c.cols-n.ensures.shape c.rows-m.ensures.small);
-      spare_fits = omega (arith, c.in_ok-spare.ensures.exact, c.len.ensures);
-      lead_long = omega (arith, c.in_ok-lead.ensures.len, c.cols-n.ensures.count);
-      places_room = omega (arith, c.in_ok-places.ensures.exact, c.cols-n.ensures.count);
-      work_long = omega (arith, c.in_ok-work.ensures.len, c.cols-n.ensures.count);
-      narrow_long = omega (arith, c.in_ok-narrow_lead.ensures.len, c.cols-n.ensures.count);
-      narrow_work_long = omega (arith, c.in_ok-narrow_work.ensures.len, c.cols-n.ensures.count);
-    }
+    record { tableau = subst T (sym (c.in_ok-rows.ensures ∙ c.in_ok-first_rows.ensures)) first; scratch_fits = c.in_ok-scratch.ensures ∙ ap (λ n. n + 1) c.cols-n.ensures.count }
 
 pub returns-clause-basis : goal.returns-clause-basis
 returns-clause-basis c =

@@ -8,7 +8,7 @@ use Rattle.crn_tab.proofs.Signs.{is_none}
 use Rattle.crn_tab.proofs.NewRows.{new_row_none}
 use Rattle.crn_tab.proofs.LeadRow.{lead_small_at, lead_primitive_at}
 use Rattle.crn_tab.proofs.LeadBack.{put_back, rows_after}
-use Rattle.crn_tab.proofs.pivot.spare_rows.Goals as goal
+use Rattle.crn_tab.proofs.spare.spare_rows.Goals as goal
 
 kept : (w w' m c r : ℕ) (rows spare lead lead' : List ℤ) (order : List ℕ) (least : ℕ) → w' ≡ w → lead' ≡ lead
     → ((i : ℕ) → i < m → i ≢ r → entry (row_at w' rows i) c ≢ pos 0 → IsRowDone w' c i rows lead' spare least (slice_index order (w' - 1 + i)))
@@ -30,12 +30,12 @@ fill_rows-least-requires-clause-lead_primitive c =
     let w = length c.args.lead.now in
     let rows = c.args.rows.now in
     let lead = c.make_lead.new.lead in
-    let was = c.requires.row c.args.r c.requires.inside in
-    let small = lead_small_at w c.args.c (row_at w rows c.args.r) lead c.make_lead.ensures was.small in
+    let was = c.requires.row c.args.pivot.row c.requires.inside in
+    let small = lead_small_at w c.args.pivot.slot (row_at w rows c.args.pivot.row) lead c.make_lead.ensures was.small in
     let some : 1 ≤ w = omega (arith, c.requires.place) in
     let lead0 = set lead (length lead - 1) (pos 0) in
-    let back = put_back lead c.args.c w (row_at w rows c.args.r) c.make_lead.ensures some (small (length lead - 1)) (length lead0 - 1) (ap (λ n. n - 1) (length-set lead (length lead - 1) (pos 0))) in
-    subst (λ (l : List ℤ). IsContent l 1) (sym back) (lead_primitive_at w c.args.c (row_at w rows c.args.r) lead some c.make_lead.ensures was.primitive)
+    let back = put_back lead c.args.pivot.slot w (row_at w rows c.args.pivot.row) c.make_lead.ensures some (small (length lead - 1)) (length lead0 - 1) (ap (λ n. n - 1) (length-set lead (length lead - 1) (pos 0))) in
+    subst (λ (l : List ℤ). IsContent l 1) (sym back) (lead_primitive_at w c.args.pivot.slot (row_at w rows c.args.pivot.row) lead some c.make_lead.ensures was.primitive)
 
 -- the rows that were brought, for the width that the code reads
 brought_at : (w w' m c : ℕ) (rows spare new : List ℤ) → w' ≡ w → ((i : ℕ) → i < m → entry (row_at w' rows i) c ≢ pos 0 → row_at w' new i ≡ row_at w' spare i) → ((i : ℕ) → i < m → entry (row_at w' rows i) c ≡ pos 0 → row_at w' new i ≡ row_at w' rows i)
@@ -89,17 +89,17 @@ returns-then-least-order-clause-filled c =
     let lead = c.make_lead.new.lead in
     let lead0 = set lead (length lead - 1) (pos 0) in
     let least = c.fill_rows-least.result in
-    let small = lead_small_at w c.args.c (row_at w rows c.args.r) lead c.make_lead.ensures (c.requires.row c.args.r c.requires.inside).small in
+    let small = lead_small_at w c.args.pivot.slot (row_at w rows c.args.pivot.row) lead c.make_lead.ensures (c.requires.row c.args.pivot.row c.requires.inside).small in
     let some : 1 ≤ w = omega (arith, c.requires.place) in
     let width : length lead0 ≡ w = length-set lead (length lead - 1) (pos 0) ∙ c.make_lead.ensures.long in
-    let back = put_back lead c.args.c w (row_at w rows c.args.r) c.make_lead.ensures some (small (length lead - 1)) (length lead0 - 1) (ap (λ n. n - 1) (length-set lead (length lead - 1) (pos 0))) in
-    let done = kept w (length lead0) c.args.m c.args.c c.args.r rows c.fill_rows-least.new.spare lead _ order least width back c.fill_rows-least.ensures.done in
+    let back = put_back lead c.args.pivot.slot w (row_at w rows c.args.pivot.row) c.make_lead.ensures some (small (length lead - 1)) (length lead0 - 1) (ap (λ n. n - 1) (length-set lead (length lead - 1) (pos 0))) in
+    let done = kept w (length lead0) c.args.pivot.rows c.args.pivot.slot c.args.pivot.row rows c.fill_rows-least.new.spare lead _ order least width back c.fill_rows-least.ensures.done in
     record {
       lead = lead;
       is = c.make_lead.ensures;
-      made = λ i lt ne. (placed w c.args.m c.args.c c.args.r i rows lead c.fill_rows-least.new.spare rows order least c.requires.place c.requires.row done c.requires.order_below c.requires.order
+      made = λ i lt ne. (placed w c.args.pivot.rows c.args.pivot.slot c.args.pivot.row i rows lead c.fill_rows-least.new.spare rows order least c.requires.place c.requires.row done c.requires.order_below c.requires.order
           (λ all. absurd (omega (arith, all))) (λ all. absurd (omega (arith, all))) lt ne).made;
-      last = elim (wide_kept w (length lead0) c.args.m c.args.c c.args.r rows lead _ order least width back c.fill_rows-least.ensures.least) [
+      last = elim (wide_kept w (length lead0) c.args.pivot.rows c.args.pivot.slot c.args.pivot.row rows lead _ order least width back c.fill_rows-least.ensures.least) [
         | inl e ↦ absurd (omega arith)
         | inr h ↦ inr h
       ];
@@ -113,22 +113,22 @@ returns-clause-filled c =
     let lead = c.make_lead.new.lead in
     let lead0 = set lead (length lead - 1) (pos 0) in
     let least = c.fill_rows-least.result in
-    let small = lead_small_at w c.args.c (row_at w rows c.args.r) lead c.make_lead.ensures (c.requires.row c.args.r c.requires.inside).small in
+    let small = lead_small_at w c.args.pivot.slot (row_at w rows c.args.pivot.row) lead c.make_lead.ensures (c.requires.row c.args.pivot.row c.requires.inside).small in
     let some : 1 ≤ w = omega (arith, c.requires.place) in
     let width : length lead0 ≡ w = length-set lead (length lead - 1) (pos 0) ∙ c.make_lead.ensures.long in
-    let back = put_back lead c.args.c w (row_at w rows c.args.r) c.make_lead.ensures some (small (length lead - 1)) (length lead0 - 1) (ap (λ n. n - 1) (length-set lead (length lead - 1) (pos 0))) in
-    let again = put_back lead c.args.c w (row_at w rows c.args.r) c.make_lead.ensures some (small (length lead - 1)) (length lead - 1) refl in
-    let at_places = rows_after w c.args.r lead _ c.bring_rows.new.rows c.put_lead.new.rows again c.make_lead.ensures.long c.put_lead.ensures.own c.put_lead.ensures.others in
-    let done = kept w (length lead0) c.args.m c.args.c c.args.r rows c.fill_rows-least.new.spare lead _ order least width back c.fill_rows-least.ensures.done in
-    let brought = brought_at w _ c.args.m c.args.c rows c.fill_rows-least.new.spare c.bring_rows.new.rows (ap (length {A = ℤ}) again ∙ c.make_lead.ensures.long) c.bring_rows.ensures.changed c.bring_rows.ensures.same in
-    let each : (i : ℕ) → i < c.args.m → i ≢ c.args.r → Placed w c.args.c i rows lead c.put_lead.new.rows least (slice_index order (w - 1 + i)) (length order) = λ i lt ne.
-    placed w c.args.m c.args.c c.args.r i rows lead c.fill_rows-least.new.spare c.put_lead.new.rows order least c.requires.place c.requires.row done c.requires.order_below c.requires.order
+    let back = put_back lead c.args.pivot.slot w (row_at w rows c.args.pivot.row) c.make_lead.ensures some (small (length lead - 1)) (length lead0 - 1) (ap (λ n. n - 1) (length-set lead (length lead - 1) (pos 0))) in
+    let again = put_back lead c.args.pivot.slot w (row_at w rows c.args.pivot.row) c.make_lead.ensures some (small (length lead - 1)) (length lead - 1) refl in
+    let at_places = rows_after w c.args.pivot.row lead _ c.bring_rows.new.rows c.put_lead.new.rows again c.make_lead.ensures.long c.put_lead.ensures.own c.put_lead.ensures.others in
+    let done = kept w (length lead0) c.args.pivot.rows c.args.pivot.slot c.args.pivot.row rows c.fill_rows-least.new.spare lead _ order least width back c.fill_rows-least.ensures.done in
+    let brought = brought_at w _ c.args.pivot.rows c.args.pivot.slot rows c.fill_rows-least.new.spare c.bring_rows.new.rows (ap (length {A = ℤ}) again ∙ c.make_lead.ensures.long) c.bring_rows.ensures.changed c.bring_rows.ensures.same in
+    let each : (i : ℕ) → i < c.args.pivot.rows → i ≢ c.args.pivot.row → Placed w c.args.pivot.slot i rows lead c.put_lead.new.rows least (slice_index order (w - 1 + i)) (length order) = λ i lt ne.
+    placed w c.args.pivot.rows c.args.pivot.slot c.args.pivot.row i rows lead c.fill_rows-least.new.spare c.put_lead.new.rows order least c.requires.place c.requires.row done c.requires.order_below c.requires.order
     (λ _ some. at_places.1 i ne ∙ brought.0 i lt some) (λ _ none. at_places.1 i ne ∙ brought.1 i lt none) lt ne in
     record {
       lead = lead;
       is = c.make_lead.ensures;
       made = λ i lt ne. (each i lt ne).made;
-      last = elim (wide_kept w (length lead0) c.args.m c.args.c c.args.r rows lead _ order least width back c.fill_rows-least.ensures.least) [
+      last = elim (wide_kept w (length lead0) c.args.pivot.rows c.args.pivot.slot c.args.pivot.row rows lead _ order least width back c.fill_rows-least.ensures.least) [
         | inl e ↦ inl (e, at_places.0, (λ i lt ne. (each i lt ne).here e))
         | inr h ↦ inr h
       ];
