@@ -18,6 +18,7 @@ use Rattle.crn_cert.proofs.CallerLemmas.{same_tree, narrow_all}
 use Rattle.crn_sign.specs.declared.end.SearchEnd.{SearchEnd}
 use Rattle.crn_sign.specs.declared.end.SearchEnd.TheVariants.{Found as FoundEnd, Refuted as RefutedEnd, Spent as SpentEnd}
 use Rattle.crn_sign.specs.declared.walk.Ending.{Ending}
+use Rattle.crn_sign.specs.declared.walk.Listing.{Listing}
 use Rattle.crn_sign.specs.declared.walk.Ending.TheVariants.{Found, Refuted, Spent}
 use Rattle.crn_sign.specs.Search.{IsFeasibleBy, IsOutcome, IsSearchEnd, IsTreeAt}
 use Rattle.crn_sign.specs.Inner.Walk.{EndsWith, EndsWithout, RunsOut, EndsAt, EndsBelow, HasTree, IsEndOf, IsFoundAt, IsLeafAt, Appends, outcome_at}
@@ -25,11 +26,15 @@ use Rattle.crn_sign.specs.Inner.Walk.{EndsWith, EndsWithout, RunsOut, EndsAt, En
 -- ---- nodes
 
 -- one node is listed, if nodes are kept
-abbrev pub AppendsOne : Bool → List TreeNode → List TreeNode → Listed → Type 0
-AppendsOne k old new one = k ≡ true → map listed new ≡ map listed old ++ one ∷ []
+pub record AppendsOne (old new : Listing) (one : Listed) : Type 0 where
+  pub keeps : new.keeps ≡ old.keeps
+  pub nodes : old.keeps ≡ true → map listed new.nodes.items ≡ map listed old.nodes.items ++ one ∷ []
 
-pub appends_one : (k : Bool) (old new : List TreeNode) (node : TreeNode) (one : Listed) → listed node ≡ one → (k ≡ true → new ≡ old ++ node ∷ []) → AppendsOne k old new one
-appends_one k old new node one is h on = ap (λ (ns : List TreeNode). map listed ns) (h on) ∙ map-append listed old (node ∷ []) ∙ ap (λ (l : Listed). map listed old ++ l ∷ []) is
+pub appends_one : (old new : Listing) (node : TreeNode) (one : Listed) → listed node ≡ one → new.keeps ≡ old.keeps → (old.keeps ≡ true → new.nodes.items ≡ old.nodes.items ++ node ∷ []) → AppendsOne old new one
+appends_one old new node one is same h = record {
+  keeps = same;
+  nodes = λ on. ap (λ (ns : List TreeNode). map listed ns) (h on) ∙ map-append listed old.nodes.items (node ∷ []) ∙ ap (λ (l : Listed). map listed old.nodes.items ++ l ∷ []) is;
+}
 
 -- the nodes of one tree after those of another
 nodes_after : (old mid new : List TreeNode) (xs ys : List Listed) → map listed mid ≡ map listed old ++ xs → map listed new ≡ map listed mid ++ ys → map listed new ≡ map listed old ++ (xs ++ ys)
@@ -72,10 +77,10 @@ leaf_b w p u node is c = record {
   none = λ s. cuts_exclude_solutions w.matrix_b (w.kinds_b p) u s.part_b.0 c.cut s.part_b.1;
 }
 
-pub leaf_at : (k : Bool) (w : Signed) (p : List Sign) (node : TreeNode) (left after : ℕ) (old new : List TreeNode) → after + 1 ≡ left → (k ≡ true → new ≡ old ++ node ∷ []) → IsLeafAt w p node → EndsAt k w p left after old new Refuted
-leaf_at k w p node left after old new e h l = (
+pub leaf_at : (w : Signed) (p : List Sign) (node : TreeNode) (left after : ℕ) (old new : Listing) → after + 1 ≡ left → AppendsOne old new (listed node) → IsLeafAt w p node → EndsAt w p left after old new Refuted
+leaf_at w p node left after old new e one l = (
   l.tree,
-  λ on. appends_one k old new node (listed node) refl h on ∙ ap (λ (ls : List Listed). map listed old ++ ls) l.nodes,
+  record { keeps = one.keeps; nodes = λ on. one.nodes on ∙ ap (λ (ls : List Listed). map listed old.nodes.items ++ ls) l.nodes },
   l.tree_at,
   subst (λ (ps : List (List Sign)). EndsWithout w (p ∷ []) ps left after) (sym l.one) (leaf w p left after e l.none),
 )
@@ -83,16 +88,16 @@ leaf_at k w p node left after old new e h l = (
 feasible_by : (w : Signed) (p : List Sign) (a b : List ℤ) → IsFeasibleBy w p a b → IsFeasible w p
 feasible_by w p a b s = record { opened = s.opened; part_a = (a, (s.part_a.v, s.part_a.solves)); part_b = (b, (s.part_b.v, s.part_b.solves)) }
 
-pub found_at : (k : Bool) (w : Signed) (p : List Sign) (left after : ℕ) (old new : List TreeNode) (e : Ending) → after + 1 ≡ left → IsFoundAt w p e → EndsAt k w p left after old new e
-found_at k w p left after old new (Found f) n h =
+pub found_at : (w : Signed) (p : List Sign) (left after : ℕ) (old new : Listing) (e : Ending) → after + 1 ≡ left → IsFoundAt w p e → EndsAt w p left after old new e
+found_at w p left after old new (Found f) n h =
     let C : List Sign → Type 0 = λ t. IsFeasibleBy w t f.value.a.list f.value.b.list × EndsWith w (p ∷ []) left after t in
     subst C (sym h.0) (h.1, record { before = []; visits = ended (feasible_by w p f.value.a.list f.value.b.list h.1) h.1.full; count = omega (arith, n) })
-found_at k w p left after old new Refuted n h = absurd h
-found_at k w p left after old new Spent n h = absurd h
+found_at w p left after old new Refuted n h = absurd h
+found_at w p left after old new Spent n h = absurd h
 
 -- from what is visited below a feasible prefix to what is visited with it
-pub opened_at : (k : Bool) (w : Signed) (p : List Sign) (left mid after : ℕ) (old new : List TreeNode) (e : Ending) → mid + 1 ≡ left → IsFeasible w p → ¬ (IsFull w p) → EndsBelow k w p mid after old new e → EndsAt k w p left after old new e
-opened_at k w p left mid after old new (Found g) n s f h = (
+pub opened_at : (w : Signed) (p : List Sign) (left mid after : ℕ) (old new : Listing) (e : Ending) → mid + 1 ≡ left → IsFeasible w p → ¬ (IsFull w p) → EndsBelow w p mid after old new e → EndsAt w p left after old new e
+opened_at w p left mid after old new (Found g) n s f h = (
   h.0,
   record {
     before = p ∷ h.1.before;
@@ -100,7 +105,7 @@ opened_at k w p left mid after old new (Found g) n s f h = (
     count = omega (arith, n, h.1.count);
   },
 )
-opened_at k w p left mid after old new Refuted n s f h =
+opened_at w p left mid after old new Refuted n s f h =
     let b = h.3 in
     let g = b.ends in
     let rest = b.rest in (
@@ -112,7 +117,7 @@ opened_at k w p left mid after old new Refuted n s f h =
         count = omega (arith, n, g.count);
       }),
     )
-opened_at k w p left mid after old new Spent n s f h = record {
+opened_at w p left mid after old new Spent n s f h = record {
   passes = passes_at w (p ∷ []) (suc mid) left (omega (arith, n)) (below s f (subst (λ (t : List (List Sign)). Passes w t mid) (sym (append-nil (children p))) h.passes));
   none = h.none;
 }
@@ -125,10 +130,10 @@ EndsEarly w due left after (Found f) = IsFeasibleBy w f.value.pattern f.value.a.
 EndsEarly w due left after Refuted = ⊥
 EndsEarly w due left after Spent = RunsOut w due left after
 
-pub early_first : (k : Bool) (w : Signed) (c : List Sign) (rest : List (List Sign)) (left after : ℕ) (old new : List TreeNode) (e : Ending) → ¬ (e ≡ Refuted) → EndsAt k w c left after old new e → EndsEarly w (c ∷ rest) left after e
-early_first k w c rest left after old new (Found f) n h = (h.0, record { before = h.1.before; visits = visits_ended w (c ∷ []) (h.1.before ++ f.value.pattern ∷ []) rest true h.1.visits refl; count = h.1.count })
-early_first k w c rest left after old new Refuted n h = absurd (n refl)
-early_first k w c rest left after old new Spent n h = record { passes = passes_first w (c ∷ []) rest left h.passes; none = h.none }
+pub early_first : (w : Signed) (c : List Sign) (rest : List (List Sign)) (left after : ℕ) (old new : Listing) (e : Ending) → ¬ (e ≡ Refuted) → EndsAt w c left after old new e → EndsEarly w (c ∷ rest) left after e
+early_first w c rest left after old new (Found f) n h = (h.0, record { before = h.1.before; visits = visits_ended w (c ∷ []) (h.1.before ++ f.value.pattern ∷ []) rest true h.1.visits refl; count = h.1.count })
+early_first w c rest left after old new Refuted n h = absurd (n refl)
+early_first w c rest left after old new Spent n h = record { passes = passes_first w (c ∷ []) rest left h.passes; none = h.none }
 
 pub early_then : (w : Signed) (c : List Sign) (rest list : List (List Sign)) (left mid after : ℕ) (e : Ending) → EndsWithout w (c ∷ []) list left mid → EndsEarly w rest mid after e → EndsEarly w (c ∷ rest) left after e
 early_then w c rest list left mid after (Found f) v h = (
@@ -149,15 +154,15 @@ without_then w c rest xs ys left mid after v u = record {
 }
 
 -- the tree of a child, whose nodes are listed if nodes are kept
-pub record IsChildTree (k : Bool) (w : Signed) (c : List Sign) (left after : ℕ) (old new : List TreeNode) : Type 0 where
+pub record IsChildTree (w : Signed) (c : List Sign) (left after : ℕ) (old new : Listing) : Type 0 where
   pub tree : Plan
-  pub appends : Appends k old new tree
+  pub appends : Appends old new tree
   pub tree_at : IsTreeAt w c tree
   pub ends : EndsWithout w (c ∷ []) (places c tree) left after
 
-pub child_tree : (k : Bool) (w : Signed) (c : List Sign) (left after : ℕ) (old new : List TreeNode) (e : Ending) → EndsAt k w c left after old new e → e ≡ Refuted → IsChildTree k w c left after old new
-child_tree k w c left after old new e h is =
-    let q = subst (λ (x : Ending). EndsAt k w c left after old new x) is h in
+pub child_tree : (w : Signed) (c : List Sign) (left after : ℕ) (old new : Listing) (e : Ending) → EndsAt w c left after old new e → e ≡ Refuted → IsChildTree w c left after old new
+child_tree w c left after old new e h is =
+    let q = subst (λ (x : Ending). EndsAt w c left after old new x) is h in
     record { tree = q.0; appends = q.1; tree_at = q.2; ends = q.3 }
 
 -- ---- the children of a prefix
@@ -182,29 +187,33 @@ children_two p = by (all_zero p) refl
     by true e = record { rest = []; is = children_zero p e }
     by false e = record { rest = with p Minus ∷ []; is = children_some p e }
 
-below_early : (k : Bool) (w : Signed) (p : List Sign) (due : List (List Sign)) (left after : ℕ) (old new : List TreeNode) (e : Ending) → children p ≡ due → EndsEarly w due left after e → EndsBelow k w p left after old new e
-below_early k w p due left after old new (Found f) is h = (h.0, subst (λ (d : List (List Sign)). EndsWith w d left after f.value.pattern) (sym is) h.1)
-below_early k w p due left after old new Refuted is h = absurd h
-below_early k w p due left after old new Spent is h = subst (λ (d : List (List Sign)). RunsOut w d left after) (sym is) h
+below_early : (w : Signed) (p : List Sign) (due : List (List Sign)) (left after : ℕ) (old new : Listing) (e : Ending) → children p ≡ due → EndsEarly w due left after e → EndsBelow w p left after old new e
+below_early w p due left after old new (Found f) is h = (h.0, subst (λ (d : List (List Sign)). EndsWith w d left after f.value.pattern) (sym is) h.1)
+below_early w p due left after old new Refuted is h = absurd h
+below_early w p due left after old new Spent is h = subst (λ (d : List (List Sign)). RunsOut w d left after) (sym is) h
 
 -- an end at the first child, at the second, and at the third
-pub first_child : (k : Bool) (w : Signed) (p : List Sign) (left after : ℕ) (old root new : List TreeNode) (e : Ending) → ¬ (e ≡ Refuted) → EndsAt k w (with p Zero) left after root new e → EndsBelow k w p left after old new e
-first_child k w p left after old root new e n h =
+pub first_child : (w : Signed) (p : List Sign) (left after : ℕ) (old root new : Listing) (e : Ending) → ¬ (e ≡ Refuted) → EndsAt w (with p Zero) left after root new e → EndsBelow w p left after old new e
+first_child w p left after old root new e n h =
     let two = children_two p in
-    below_early k w p (with p Zero ∷ with p Plus ∷ two.rest) left after old new e two.is (early_first k w (with p Zero) (with p Plus ∷ two.rest) left after root new e n h)
+    below_early w p (with p Zero ∷ with p Plus ∷ two.rest) left after old new e two.is (early_first w (with p Zero) (with p Plus ∷ two.rest) left after root new e n h)
 
-pub second_child : (k : Bool) (w : Signed) (p : List Sign) (left mid after : ℕ) (old root first new : List TreeNode) (e : Ending) → IsChildTree k w (with p Zero) left mid root first → ¬ (e ≡ Refuted) → EndsAt k w (with p Plus) mid after first new e
-    → EndsBelow k w p left after old new e
-second_child k w p left mid after old root first new e zt n h =
+pub second_child : (w : Signed) (p : List Sign) (left mid after : ℕ) (old root first new : Listing) (e : Ending) → IsChildTree w (with p Zero) left mid root first → ¬ (e ≡ Refuted) → EndsAt w (with p Plus) mid after first new e
+    → EndsBelow w p left after old new e
+second_child w p left mid after old root first new e zt n h =
     let two = children_two p in
-    below_early k w p (with p Zero ∷ with p Plus ∷ two.rest) left after old new e two.is
-    (early_then w (with p Zero) (with p Plus ∷ two.rest) (places (with p Zero) zt.tree) left mid after e zt.ends (early_first k w (with p Plus) two.rest mid after first new e n h))
+    below_early w p (with p Zero ∷ with p Plus ∷ two.rest) left after old new e two.is
+    (early_then w (with p Zero) (with p Plus ∷ two.rest) (places (with p Zero) zt.tree) left mid after e zt.ends (early_first w (with p Plus) two.rest mid after first new e n h))
 
-pub both_trees : (k : Bool) (w : Signed) (p : List Sign) (left mid after : ℕ) (old root first new : List TreeNode) → AppendsOne k old root ListedSplitTwo → length p < w.choices → all_zero p ≡ true
-    → IsChildTree k w (with p Zero) left mid root first → IsChildTree k w (with p Plus) mid after first new → EndsBelow k w p left after old new Refuted
-both_trees k w p left mid after old root first new one lt zeros zt qt = (
+pub both_trees : (w : Signed) (p : List Sign) (left mid after : ℕ) (old root first new : Listing) → AppendsOne old root ListedSplitTwo → length p < w.choices → all_zero p ≡ true
+    → IsChildTree w (with p Zero) left mid root first → IsChildTree w (with p Plus) mid after first new → EndsBelow w p left after old new Refuted
+both_trees w p left mid after old root first new one lt zeros zt qt = (
   Both zt.tree qt.tree,
-  λ on. nodes_after old root new (ListedSplitTwo ∷ []) (preorder zt.tree ++ preorder qt.tree) (one on) (nodes_after root first new (preorder zt.tree) (preorder qt.tree) (zt.appends on) (qt.appends on)),
+  record {
+    keeps = qt.appends.keeps ∙ zt.appends.keeps ∙ one.keeps;
+    nodes = λ on. nodes_after old.nodes.items root.nodes.items new.nodes.items (ListedSplitTwo ∷ []) (preorder zt.tree ++ preorder qt.tree) (one.nodes on)
+        (nodes_after root.nodes.items first.nodes.items new.nodes.items (preorder zt.tree) (preorder qt.tree) (zt.appends.nodes (one.keeps ∙ on)) (qt.appends.nodes (zt.appends.keeps ∙ one.keeps ∙ on)));
+  },
   record { valid = (lt, zeros, zt.tree_at.valid, qt.tree_at.valid); narrow = (zt.tree_at.narrow, qt.tree_at.narrow) },
   record {
     rest = places (with p Zero) zt.tree ++ places (with p Plus) qt.tree;
@@ -214,9 +223,9 @@ both_trees k w p left mid after old root first new one lt zeros zt qt = (
   },
 )
 
-three_trees : (k : Bool) (w : Signed) (p : List Sign) (left mid high after : ℕ) (old root first second new : List TreeNode) → AppendsOne k old root ListedSplitThree → length p < w.choices → all_zero p ≡ false
-    → IsChildTree k w (with p Zero) left mid root first → IsChildTree k w (with p Plus) mid high first second → IsChildTree k w (with p Minus) high after second new → EndsBelow k w p left after old new Refuted
-three_trees k w p left mid high after old root first second new one lt some zt qt mt =
+three_trees : (w : Signed) (p : List Sign) (left mid high after : ℕ) (old root first second new : Listing) → AppendsOne old root ListedSplitThree → length p < w.choices → all_zero p ≡ false
+    → IsChildTree w (with p Zero) left mid root first → IsChildTree w (with p Plus) mid high first second → IsChildTree w (with p Minus) high after second new → EndsBelow w p left after old new Refuted
+three_trees w p left mid high after old root first second new one lt some zt qt mt =
     let zs = places (with p Zero) zt.tree in
     let qs = places (with p Plus) qt.tree in
     let ms = places (with p Minus) mt.tree in
@@ -225,8 +234,13 @@ three_trees k w p left mid high after old root first second new one lt some zt q
     let ml = preorder mt.tree in
     let all = without_then w (with p Zero) (with p Plus ∷ with p Minus ∷ []) zs (qs ++ ms) left mid after zt.ends (without_then w (with p Plus) (with p Minus ∷ []) qs ms mid high after qt.ends mt.ends) in (
       Three zt.tree qt.tree mt.tree,
-      λ on. nodes_after old root new (ListedSplitThree ∷ []) (zl ++ ql ++ ml) (one on)
-          (nodes_after root second new (zl ++ ql) ml (nodes_after root first second zl ql (zt.appends on) (qt.appends on)) (mt.appends on)),
+      record {
+        keeps = mt.appends.keeps ∙ qt.appends.keeps ∙ zt.appends.keeps ∙ one.keeps;
+        nodes = λ on. nodes_after old.nodes.items root.nodes.items new.nodes.items (ListedSplitThree ∷ []) (zl ++ ql ++ ml) (one.nodes on)
+            (nodes_after root.nodes.items second.nodes.items new.nodes.items (zl ++ ql) ml
+            (nodes_after root.nodes.items first.nodes.items second.nodes.items zl ql (zt.appends.nodes (one.keeps ∙ on)) (qt.appends.nodes (zt.appends.keeps ∙ one.keeps ∙ on)))
+            (mt.appends.nodes (qt.appends.keeps ∙ zt.appends.keeps ∙ one.keeps ∙ on)));
+      },
       record { valid = (lt, some, zt.tree_at.valid, qt.tree_at.valid, mt.tree_at.valid); narrow = (zt.tree_at.narrow, qt.tree_at.narrow, mt.tree_at.narrow) },
       record {
         rest = zs ++ qs ++ ms;
@@ -236,18 +250,18 @@ three_trees k w p left mid high after old root first second new one lt some zt q
       },
     )
 
-third_early : (k : Bool) (w : Signed) (p : List Sign) (left mid high after : ℕ) (old root first second new : List TreeNode) (e : Ending) → all_zero p ≡ false
-    → IsChildTree k w (with p Zero) left mid root first → IsChildTree k w (with p Plus) mid high first second → ¬ (e ≡ Refuted) → EndsAt k w (with p Minus) high after second new e → EndsBelow k w p left after old new e
-third_early k w p left mid high after old root first second new e some zt qt n h =
-    below_early k w p (with p Zero ∷ with p Plus ∷ with p Minus ∷ []) left after old new e (children_some p some)
+third_early : (w : Signed) (p : List Sign) (left mid high after : ℕ) (old root first second new : Listing) (e : Ending) → all_zero p ≡ false
+    → IsChildTree w (with p Zero) left mid root first → IsChildTree w (with p Plus) mid high first second → ¬ (e ≡ Refuted) → EndsAt w (with p Minus) high after second new e → EndsBelow w p left after old new e
+third_early w p left mid high after old root first second new e some zt qt n h =
+    below_early w p (with p Zero ∷ with p Plus ∷ with p Minus ∷ []) left after old new e (children_some p some)
     (early_then w (with p Zero) (with p Plus ∷ with p Minus ∷ []) (places (with p Zero) zt.tree) left mid after e zt.ends
-    (early_then w (with p Plus) (with p Minus ∷ []) (places (with p Plus) qt.tree) mid high after e qt.ends (early_first k w (with p Minus) [] high after second new e n h)))
+    (early_then w (with p Plus) (with p Minus ∷ []) (places (with p Plus) qt.tree) mid high after e qt.ends (early_first w (with p Minus) [] high after second new e n h)))
 
-pub third_child : (k : Bool) (w : Signed) (p : List Sign) (left mid high after : ℕ) (old root first second new : List TreeNode) (e : Ending) → AppendsOne k old root ListedSplitThree → length p < w.choices → all_zero p ≡ false
-    → IsChildTree k w (with p Zero) left mid root first → IsChildTree k w (with p Plus) mid high first second → EndsAt k w (with p Minus) high after second new e → EndsBelow k w p left after old new e
-third_child k w p left mid high after old root first second new (Found f) one lt some zt qt h = third_early k w p left mid high after old root first second new (Found f) some zt qt (λ (r : Found f ≡ Refuted). cc) h
-third_child k w p left mid high after old root first second new Refuted one lt some zt qt h = three_trees k w p left mid high after old root first second new one lt some zt qt (child_tree k w (with p Minus) high after second new Refuted h refl)
-third_child k w p left mid high after old root first second new Spent one lt some zt qt h = third_early k w p left mid high after old root first second new Spent some zt qt (λ (r : Spent ≡ Refuted). cc) h
+pub third_child : (w : Signed) (p : List Sign) (left mid high after : ℕ) (old root first second new : Listing) (e : Ending) → AppendsOne old root ListedSplitThree → length p < w.choices → all_zero p ≡ false
+    → IsChildTree w (with p Zero) left mid root first → IsChildTree w (with p Plus) mid high first second → EndsAt w (with p Minus) high after second new e → EndsBelow w p left after old new e
+third_child w p left mid high after old root first second new (Found f) one lt some zt qt h = third_early w p left mid high after old root first second new (Found f) some zt qt (λ (r : Found f ≡ Refuted). cc) h
+third_child w p left mid high after old root first second new Refuted one lt some zt qt h = three_trees w p left mid high after old root first second new one lt some zt qt (child_tree w (with p Minus) high after second new Refuted h refl)
+third_child w p left mid high after old root first second new Spent one lt some zt qt h = third_early w p left mid high after old root first second new Spent some zt qt (λ (r : Spent ≡ Refuted). cc) h
 
 -- a prefix that is not closed, and neither of whose parts is ruled out, is feasible
 pub feasible_from : (w : Signed) (p q : List Sign) → q ≡ p → w.closed p ≡ false → ((x : List ℤ) × SolvesB w p x) → ((x : List ℤ) × SolvesA w q x) → IsFeasible w p
@@ -255,22 +269,26 @@ feasible_from w p q e c b a = record { opened = c; part_a = (a.0, subst (λ (t :
 
 -- ---- the end of the search
 
+-- a listing that began with no nodes has those of the tree alone
+all_nodes : (old new : Listing) (tree : Plan) → old.keeps ≡ true → old.nodes.items ≡ [] → Appends old new tree → map listed new.nodes.items ≡ preorder tree
+all_nodes old new tree on none h = h.nodes on ∙ ap (λ (ns : List TreeNode). map listed ns ++ preorder tree) none
+
 -- the end of the visits of the prefix with no choice leaves the nodes of a tree, if it is one
-pub has_tree : (w : Signed) (budget after : ℕ) (nodes : List TreeNode) (e : Ending) → EndsAt true w [] budget after [] nodes e → HasTree e nodes
-has_tree w budget after nodes (Found f) h = tt
-has_tree w budget after nodes Refuted h = (h.0, h.1 refl)
-has_tree w budget after nodes Spent h = tt
+pub has_tree : (w : Signed) (budget after : ℕ) (old new : Listing) (e : Ending) → old.keeps ≡ true → old.nodes.items ≡ [] → EndsAt w [] budget after old new e → HasTree e new.nodes.items
+has_tree w budget after old new (Found f) on none h = tt
+has_tree w budget after old new Refuted on none h = (h.0, all_nodes old new h.0 on none h.1)
+has_tree w budget after old new Spent on none h = tt
 
 -- and it is that of the search
-pub search_end : (w : Signed) (budget after : ℕ) (nodes : List TreeNode) (e : Ending) (end : SearchEnd) → IsEndOf e nodes end → EndsAt true w [] budget after [] nodes e → IsSearchEnd w budget end
-search_end w budget after nodes (Found f) end is h = subst (λ (x : SearchEnd). IsSearchEnd w budget x) (sym is) (h.0, h.1.before, h.1.visits, omega (arith, h.1.count))
-search_end w budget after nodes Refuted end is h =
-    let same : h.0 ≡ is.0 = same_tree h.0 is.0 nodes (h.1 refl) is.2 in
+pub search_end : (w : Signed) (budget after : ℕ) (old new : Listing) (e : Ending) (end : SearchEnd) → IsEndOf e new.nodes.items end → old.keeps ≡ true → old.nodes.items ≡ [] → EndsAt w [] budget after old new e → IsSearchEnd w budget end
+search_end w budget after old new (Found f) end is on none h = subst (λ (x : SearchEnd). IsSearchEnd w budget x) (sym is) (h.0, h.1.before, h.1.visits, omega (arith, h.1.count))
+search_end w budget after old new Refuted end is on none h =
+    let same : h.0 ≡ is.0 = same_tree h.0 is.0 new.nodes.items (all_nodes old new h.0 on none h.1) is.2 in
     subst (λ (x : SearchEnd). IsSearchEnd w budget x) (ap RefutedEnd same ∙ sym is.1) (h.2, h.3.visits, omega (arith, h.3.count))
-search_end w budget after nodes Spent end is h = subst (λ (x : SearchEnd). IsSearchEnd w budget x) (sym is) h.passes
+search_end w budget after old new Spent end is on none h = subst (λ (x : SearchEnd). IsSearchEnd w budget x) (sym is) h.passes
 
 -- the same if no tree is kept
-pub search_outcome : (w : Signed) (budget after : ℕ) (old new : List TreeNode) (e : Ending) → EndsAt false w [] budget after old new e → IsOutcome w budget (outcome_at e)
+pub search_outcome : (w : Signed) (budget after : ℕ) (old new : Listing) (e : Ending) → EndsAt w [] budget after old new e → IsOutcome w budget (outcome_at e)
 search_outcome w budget after old new (Found f) h = (FoundEnd f.value.pattern f.value.a f.value.b, refl, (h.0, h.1.before, h.1.visits, omega (arith, h.1.count)))
 search_outcome w budget after old new Refuted h = (RefutedEnd h.0, refl, (h.2, h.3.visits, omega (arith, h.3.count)))
 search_outcome w budget after old new Spent h = (SpentEnd, refl, h.passes)

@@ -61,7 +61,7 @@ pub(crate) fn opposite(one: Bits) -> Bits
 
 /// The places of 64 at which a mark is not what is required. A weak plus is met by 0 too.
 #[inline(always)]
-pub(crate) fn misfits(asked: Bits, weak: u64, marks: Bits) -> u64
+pub(crate) fn misfit_places(asked: Bits, weak: u64, marks: Bits) -> u64
     ensures { (i : ℕ) → bit_at result i ≡ 0
         → Suits (weakened (kind_of_mark (mark_in asked i)) (bit_at weak i)) (mark_in marks i) }
 {
@@ -82,7 +82,7 @@ pub(crate) fn all_meet(asked: &[Bits], weak: &[u64], marks: &[Bits]) -> bool
         return false;
     }
     for w in 0..asked.len() {
-        if misfits(asked[w], word_of(weak, w), marks[w]) != 0 {
+        if misfit_places(asked[w], word_of(weak, w), marks[w]) != 0 {
             return false;
         }
     }
@@ -239,7 +239,7 @@ pub(crate) fn kinds_of(
 }
 
 /// Adds a great multiple of a vector of these marks to the vector that is marked.
-pub(crate) fn lay(_matrix: &Matrix, one: &[Bits], marks: &mut [Bits])
+pub(crate) fn add_multiple(_matrix: &Matrix, one: &[Bits], marks: &mut [Bits])
     requires one { AreRowMarks _matrix.now one.now }
     requires marks { AreRowMarks _matrix.now marks.old }
     ensures { AreRowMarks _matrix.now marks.new }
@@ -260,7 +260,7 @@ fn are_opposite(one: Mark, other: Mark) -> bool
 
 /// Adds a multiple of a vector of these marks to one of the vector that is marked, so that the sum
 /// is 0 at g, if they have opposite signs there. The answer is whether they have.
-pub(crate) fn clear(_matrix: &Matrix, one: &[Bits], marks: &mut [Bits], g: usize) -> bool
+pub(crate) fn cancel_at(_matrix: &Matrix, one: &[Bits], marks: &mut [Bits], g: usize) -> bool
     requires one { AreRowMarks _matrix.now one.now }
     requires marks { AreRowMarks _matrix.now marks.old }
     requires goal { g < width _matrix.now }

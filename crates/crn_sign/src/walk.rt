@@ -44,6 +44,13 @@ pub(crate) struct Level {
     pub sums: Vec<Bits>,
 }
 
+/// The nodes of the visits in their order, if a tree is to be kept.
+#[derive(Drop)]
+pub(crate) struct Listing {
+    pub nodes: Vec<TreeNode>,
+    pub keeps: bool,
+}
+
 /// A full feasible prefix, with solutions of both its parts.
 #[derive(Drop)]
 pub(crate) struct FullPrefix {
@@ -207,13 +214,10 @@ fn rule_out_a<P: SignProblem>(
         (λ s. IsSearchStop (P.signed problem.now) s) }
 {
     let depth = search.prefix.len();
-    match search.a.ruled_out(
-        search.alloc,
-        problem.matrix_a(),
-        problem.weak_a(),
-        here,
-        depth,
-    ) {
+    match search
+        .a
+        .ruled_out(problem.matrix_a(), problem.weak_a(), here, depth)
+    {
         Ok(u) => Ok(u),
         Err(stop) => Err(wide_a(stop)),
     }
@@ -238,10 +242,7 @@ fn rule_out_b<P: SignProblem>(
         (λ s. IsSearchStop (P.signed problem.now) s) }
 {
     let depth = search.prefix.len();
-    match search
-        .b
-        .ruled_out(search.alloc, problem.matrix_b(), &[], here, depth)
-    {
+    match search.b.ruled_out(problem.matrix_b(), &[], here, depth) {
         Ok(u) => Ok(u),
         Err(stop) => Err(wide_b(stop, !search.b.has_decided)),
     }
@@ -301,19 +302,14 @@ fn found_end<P: SignProblem>(
         (λ s. IsSearchStop (P.signed problem.now) s) }
 {
     let pattern = Signs::from_slice(search.alloc, &search.prefix)?;
-    let a = match search.a.solution(
-        search.alloc,
-        problem.matrix_a(),
-        problem.weak_a(),
-        &here.a.asked,
-    ) {
+    let a = match search
+        .a
+        .solution(problem.matrix_a(), problem.weak_a(), &here.a.asked)
+    {
         Ok(a) => a,
         Err(stop) => return Err(wide_a(stop)),
     };
-    let b = match search
-        .b
-        .solution(search.alloc, problem.matrix_b(), &[], &here.b.asked)
-    {
+    let b = match search.b.solution(problem.matrix_b(), &[], &here.b.asked) {
         Ok(b) => b,
         Err(stop) => return Err(wide_b(stop, false)),
     };
@@ -362,14 +358,15 @@ fn leaves_room<P: SignProblem>(_problem: &P, _search: &Progress, _here: &Level)
 
 // Lists a node, if nodes are to be kept.
 #[inline(always)]
-fn list_node(nodes: &mut Vec<TreeNode>, keeps: bool, node: TreeNode) -> Result<(), NoMemory>
-    ensures { IfOk result
-        (λ _. keeps ≡ true → nodes.new.items ≡ nodes.old.items ++ node ∷ []) }
+fn list_node(listing: &mut Listing, node: TreeNode) -> Result<(), NoMemory>
+    ensures keeps { OnOk result (listing.new.keeps ≡ listing.old.keeps) }
+    ensures nodes { OnOk result (listing.old.keeps ≡ true
+        → listing.new.nodes.items ≡ listing.old.nodes.items ++ node ∷ []) }
 {
-    if !keeps {
+    if !listing.keeps {
         return Ok(());
     }
-    match nodes.push(node) {
+    match listing.nodes.push(node) {
         Ok(()) => Ok(()),
         Err(_) => Err(NoMemory),
     }
@@ -394,8 +391,7 @@ fn child<P: SignProblem>(
     above: &Level,
     next: &mut Level,
     rest: &mut [Level],
-    nodes: &mut Vec<TreeNode>,
-    keeps: bool,
+    listing: &mut Listing,
     option: Sign,
 ) -> Result<Ending, SearchStop>
     requires ready { IsReady (P.signed problem.now) search.old }
@@ -412,13 +408,13 @@ fn child<P: SignProblem>(
     ensures rest { OnOk result
         (AreRoomsBelow (P.signed problem.now) search.old.prefix.items rest.new) }
     ensures answer { MatchResult result
-        (λ e. EndsAt keeps (P.signed problem.now) (search.old.prefix.items ++ option ∷ [])
-        search.old.left search.new.left nodes.old.items nodes.new.items e)
+        (λ e. EndsAt (P.signed problem.now) (search.old.prefix.items ++ option ∷ [])
+        search.old.left search.new.left listing.old listing.new e)
         (λ s. IsSearchStop (P.signed problem.now) s) }
 {
     search.prefix.push_reserved(option);
     enter(problem, &search.prefix, above, next);
-    let end = walk(problem, search, above, next, rest, nodes, keeps)?;
+    let end = walk(problem, search, above, next, rest, listing)?;
     search.prefix.pop();
     Ok(end)
 }
@@ -431,8 +427,7 @@ fn split<P: SignProblem>(
     here: &Level,
     next: &mut Level,
     rest: &mut [Level],
-    nodes: &mut Vec<TreeNode>,
-    keeps: bool,
+    listing: &mut Listing,
 ) -> Result<Ending, SearchStop>
     requires ready { IsReady (P.signed problem.now) search.old }
     requires room { length search.old.prefix.items < (P.signed problem.now).choices }
@@ -448,24 +443,24 @@ fn split<P: SignProblem>(
     ensures rest { OnOk result
         (AreRoomsBelow (P.signed problem.now) search.old.prefix.items rest.new) }
     ensures answer { MatchResult result
-        (λ e. EndsBelow keeps (P.signed problem.now) search.old.prefix.items
-        search.old.left search.new.left nodes.old.items nodes.new.items e)
+        (λ e. EndsBelow (P.signed problem.now) search.old.prefix.items
+        search.old.left search.new.left listing.old listing.new e)
         (λ s. IsSearchStop (P.signed problem.now) s) }
 {
     let zeros = is_all_zero(&search.prefix);
-    list_node(nodes, keeps, split_node(zeros))?;
-    match child(problem, search, here, next, rest, nodes, keeps, Sign::Zero)? {
+    list_node(listing, split_node(zeros))?;
+    match child(problem, search, here, next, rest, listing, Sign::Zero)? {
         Ending::Refuted => {}
         end => return Ok(end),
     }
-    match child(problem, search, here, next, rest, nodes, keeps, Sign::Plus)? {
+    match child(problem, search, here, next, rest, listing, Sign::Plus)? {
         Ending::Refuted => {}
         end => return Ok(end),
     }
     if zeros {
         return Ok(Ending::Refuted);
     }
-    let end = child(problem, search, here, next, rest, nodes, keeps, Sign::Minus)?;
+    let end = child(problem, search, here, next, rest, listing, Sign::Minus)?;
     Ok(end)
 }
 
@@ -478,8 +473,7 @@ pub(crate) fn walk<P: SignProblem>(
     above: &Level,
     here: &mut Level,
     levels: &mut [Level],
-    nodes: &mut Vec<TreeNode>,
-    keeps: bool,
+    listing: &mut Listing,
 ) -> Result<Ending, SearchStop>
     requires ready { IsReady (P.signed problem.now) search.old }
     requires above { AreMarked (P.signed problem.now) above.now }
@@ -496,8 +490,8 @@ pub(crate) fn walk<P: SignProblem>(
     ensures levels { OnOk result
         (AreRooms (P.signed problem.now) search.old.prefix.items levels.new) }
     ensures answer { MatchResult result
-        (λ e. EndsAt keeps (P.signed problem.now) search.old.prefix.items
-        search.old.left search.new.left nodes.old.items nodes.new.items e)
+        (λ e. EndsAt (P.signed problem.now) search.old.prefix.items
+        search.old.left search.new.left listing.old listing.new e)
         (λ s. IsSearchStop (P.signed problem.now) s) }
 {
     if search.left == 0 {
@@ -505,22 +499,21 @@ pub(crate) fn walk<P: SignProblem>(
     }
     search.left -= 1;
     if problem.closed(&search.prefix) {
-        list_node(nodes, keeps, TreeNode::Flat)?;
+        list_node(listing, TreeNode::Flat)?;
         return Ok(Ending::Refuted);
     }
     if let Some(node) = rule_out(problem, search, above, here)? {
-        list_node(nodes, keeps, node)?;
+        list_node(listing, node)?;
         return Ok(Ending::Refuted);
     }
     at_level(problem, search, here);
     if search.prefix.len() == problem.length() {
-        let end = found_end(problem, search, here)?;
-        return Ok(end);
+        return Ok(found_end(problem, search, here)?);
     }
     let (first, rest) = levels.split_at_mut(1);
     let next = &mut first[0];
     surround(problem, &search.prefix, here, next);
-    let end = split(problem, search, here, next, rest, nodes, keeps)?;
+    let end = split(problem, search, here, next, rest, listing)?;
     leaves_room(problem, search, next);
     Ok(end)
 }
@@ -625,13 +618,12 @@ fn visit_all<P: SignProblem>(
     problem: &P,
     solver_b: Solver,
     budget: u32,
-    nodes: &mut Vec<TreeNode>,
-    keeps: bool,
+    listing: &mut Listing,
 ) -> Result<Ending, SearchStop>
     requires { solver_b.matrix ≡ (P.signed problem.now).matrix_b }
     ensures { MatchResult result
-        (λ e. (after : ℕ) × EndsAt keeps (P.signed problem.now) [] budget after
-        nodes.old.items nodes.new.items e)
+        (λ e. (after : ℕ) × EndsAt (P.signed problem.now) [] budget after
+        listing.old listing.new e)
         (λ s. IsSearchStop (P.signed problem.now) s) }
 {
     let mut search = start(alloc, problem, solver_b, budget)?;
@@ -644,8 +636,7 @@ fn visit_all<P: SignProblem>(
         &above,
         &mut first,
         &mut levels,
-        nodes,
-        keeps,
+        listing,
     )?;
     Ok(end)
 }
@@ -668,9 +659,10 @@ pub fn search<P: SignProblem>(
     ensures { MatchResult result (λ e. IsSearchEnd (P.signed problem.now) budget e)
         (λ s. IsSearchStop (P.signed problem.now) s) }
 {
-    let mut nodes = Vec::with_capacity(alloc, 0)?;
-    let end = visit_all(alloc, problem, solver_b, budget, &mut nodes, true)?;
-    Ok(end_of(end, nodes))
+    let nodes = Vec::with_capacity(alloc, 0)?;
+    let mut listing = Listing { nodes, keeps: true };
+    let end = visit_all(alloc, problem, solver_b, budget, &mut listing)?;
+    Ok(end_of(end, listing.nodes))
 }
 
 /// The outcome of the same search. It keeps no tree, and takes less memory.
@@ -686,7 +678,11 @@ pub fn search_outcome<P: SignProblem>(
     ensures { MatchResult result (λ o. IsOutcome (P.signed problem.now) budget o)
         (λ s. IsSearchStop (P.signed problem.now) s) }
 {
-    let mut nodes = Vec::with_capacity(alloc, 0)?;
-    let end = visit_all(alloc, problem, solver_b, budget, &mut nodes, false)?;
+    let nodes = Vec::with_capacity(alloc, 0)?;
+    let mut listing = Listing {
+        nodes,
+        keeps: false,
+    };
+    let end = visit_all(alloc, problem, solver_b, budget, &mut listing)?;
     Ok(outcome_at(end))
 }

@@ -10,7 +10,7 @@ use Rattle.crn_vec.specs.Elementary.{width}
 use Rattle.crn_vec.specs.Systems.{IsSolution}
 use Rattle.crn_farkas.specs.Decision.{IsSmallCut}
 use Rattle.crn_sign.specs.declared.part.Part.{Part}
-use Rattle.crn_sign.specs.declared.part.Finder.{Finder}
+use Rattle.crn_sign.specs.declared.finder.Finder.{Finder}
 use Rattle.crn_sign.specs.Inner.Bits.{word_count}
 use Rattle.crn_sign.specs.Inner.Columns.{AreColumns}
 use Rattle.crn_sign.specs.Inner.PastCuts.{ArePastCuts}
@@ -20,16 +20,15 @@ use Rattle.crn_sign.specs.Inner.Pools.{IsPool}
 pub record IsFinder (a : Mat) (f : Finder) : Type 0 where
   pub matrix : f.solver.matrix ≡ a
   pub pool : IsPool a f.pool
-  pub signs : length f.signs.items ≡ width a
-  pub ray : length f.ray.items ≡ word_count a
-  pub negative : length f.negative.items ≡ word_count a
-  pub wanted : length f.wanted.items ≡ word_count a
-  pub asked : length f.asked.items ≡ word_count a
+  pub signs : length f.witness_signs.items ≡ width a
+  pub witness : length f.witness_marks.items ≡ word_count a
+  pub negative : length f.negative_marks.items ≡ word_count a
+  pub required : length f.required_of_change.items ≡ word_count a
 
 -- what was found is of this matrix
 pub record IsPart (a : Mat) (p : Part) : Type 0 where
   pub finder : IsFinder a p.finder
-  pub past : ArePastCuts a p.past.items
+  pub past : ArePastCuts a p.past_cuts.items
   pub columns : AreColumns a p.columns.items
 
 -- multipliers that rule the system out, or none if it has a solution

@@ -1,7 +1,7 @@
 -- For the contracts of private functions alone.
 -- How the visits of a prefix, of its children and of all below them end.
--- Shapes: `left` visits are allowed where it begins, and `after` where it ends; `old` are the nodes
--- that are listed where it begins, and `new` those where it ends. `due` lists the prefixes that are to
+-- Shapes: `left` visits are allowed where it begins, and `after` where it ends; `old` is the listing
+-- of nodes where it begins, and `new` that where it ends. `due` lists the prefixes that are to
 -- be visited with all below them.
 use Rattle.std.specs.Prelude.{◌≡◌, ◌+◌, ℕ, ℤ, true, false, List, [], ◌∷◌, ◌++◌, length, map, Bool, Option, None, Some}
 use Rattle.crn_vec.specs.declared.signs.Sign.{Sign}
@@ -19,6 +19,7 @@ use Rattle.crn_sign.specs.declared.end.SearchOutcome.{SearchOutcome}
 use Rattle.crn_sign.specs.declared.end.SearchOutcome.TheVariants.{Found as FoundOutcome, Refuted as RefutedOutcome, Spent as SpentOutcome}
 use Rattle.crn_sign.specs.declared.fault.SearchStop.{SearchStop}
 use Rattle.crn_sign.specs.declared.fault.SearchStop.TheVariants.{WideA, WideB, NoMemory}
+use Rattle.crn_sign.specs.declared.walk.Listing.{Listing}
 use Rattle.crn_sign.specs.declared.walk.Ending.{Ending}
 use Rattle.crn_sign.specs.declared.walk.Ending.TheVariants.{Found, Refuted, Spent}
 use Rattle.crn_sign.specs.Search.{IsFeasibleBy, IsTreeAt}
@@ -59,17 +60,19 @@ split_node true = SplitTwo
 split_node false = SplitThree
 
 -- if nodes are kept, those of the tree were put at the end of the old ones
-abbrev pub Appends : Bool → List TreeNode → List TreeNode → Plan → Type 0
-Appends keeps old new tree = keeps ≡ true → map listed new ≡ map listed old ++ preorder tree
+pub record Appends (old new : Listing) (tree : Plan) : Type 0 where
+  pub keeps : new.keeps ≡ old.keeps
+  pub nodes : old.keeps ≡ true
+      → map listed new.nodes.items ≡ map listed old.nodes.items ++ preorder tree
 
 -- what the visit of a prefix, and of all below it, ends with
-abbrev pub EndsAt : Bool → Signed → List Sign → ℕ → ℕ → List TreeNode → List TreeNode → Ending → Type 0
-EndsAt keeps w p left after old new (Found f) =
+abbrev pub EndsAt : Signed → List Sign → ℕ → ℕ → Listing → Listing → Ending → Type 0
+EndsAt w p left after old new (Found f) =
     IsFeasibleBy w f.value.pattern f.value.a.list f.value.b.list
     × EndsWith w (p ∷ []) left after f.value.pattern
-EndsAt keeps w p left after old new Refuted = (tree : Plan) × Appends keeps old new tree
+EndsAt w p left after old new Refuted = (tree : Plan) × Appends old new tree
     × IsTreeAt w p tree × EndsWithout w (p ∷ []) (places p tree) left after
-EndsAt keeps w p left after old new Spent = RunsOut w (p ∷ []) left after
+EndsAt w p left after old new Spent = RunsOut w (p ∷ []) left after
 
 -- the visits of a tree's nodes below its root
 pub record BelowRoot (w : Signed) (p : List Sign) (tree : Plan) (left after : ℕ) : Type 0 where
@@ -78,13 +81,13 @@ pub record BelowRoot (w : Signed) (p : List Sign) (tree : Plan) (left after : �
   pub ends : EndsWithout w (children p) rest left after
 
 -- what the visits of a prefix's children, and of all below them, end with
-abbrev pub EndsBelow : Bool → Signed → List Sign → ℕ → ℕ → List TreeNode → List TreeNode → Ending → Type 0
-EndsBelow keeps w p left after old new (Found f) =
+abbrev pub EndsBelow : Signed → List Sign → ℕ → ℕ → Listing → Listing → Ending → Type 0
+EndsBelow w p left after old new (Found f) =
     IsFeasibleBy w f.value.pattern f.value.a.list f.value.b.list
     × EndsWith w (children p) left after f.value.pattern
-EndsBelow keeps w p left after old new Refuted = (tree : Plan) × Appends keeps old new tree
+EndsBelow w p left after old new Refuted = (tree : Plan) × Appends old new tree
     × IsTreeAt w p tree × BelowRoot w p tree left after
-EndsBelow keeps w p left after old new Spent = RunsOut w (children p) left after
+EndsBelow w p left after old new Spent = RunsOut w (children p) left after
 
 -- the full prefix, with solutions of its parts
 abbrev pub IsFoundAt : Signed → List Sign → Ending → Type 0

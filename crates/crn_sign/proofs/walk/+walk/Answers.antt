@@ -1,7 +1,8 @@
 use Rattle.std.proofs.Common.{◌≡◌, ◌+◌, List, [], ◌∷◌, ◌++◌, length, refl, sym, ◌∙◌, ap, subst, arith, rules}
 use Rattle.crn_vec.specs.declared.signs.Sign.TheVariants.{Zero, Plus, Minus}
 use Rattle.crn_sign.specs.declared.bits.Bits.{Bits}
-use Rattle.crn_cert.specs.declared.tree_node.TreeNode.{TreeNode}
+use Rattle.crn_cert.specs.declared.tree_node.TreeNode.TheVariants.{Flat}
+use Rattle.crn_sign.specs.declared.walk.Listing.{Listing}
 use Rattle.crn_cert.specs.Preorder.{ListedSplitTwo, ListedSplitThree, listed}
 use Rattle.crn_sign.specs.Inner.Walk.{EndsAt, EndsBelow, IsFoundAt, split_node}
 use Rattle.crn_vec.specs.declared.signs.Sign.{Sign}
@@ -19,7 +20,7 @@ walk-returns-then-closed-clause-answer g t c =
     let w : Signed = g.P.SignProblem.signed c.args.problem.now in
     let p : List Sign = c.args.search.now.prefix.items in
     let l = leaf_flat w p (ap (λ (q : List Sign). w.closed q) (sym c.deref.ensures.value) ∙ sym c.closed.ensures ∙ c.if-closed.true) in
-    leaf_at c.args.keeps w p _ c.args.search.now.left _ c.args.nodes.now.items c.list_node.new.nodes.items (omega arith) c.in_ok-list_node.ensures l
+    leaf_at w p Flat c.args.search.now.left _ c.args.listing.now c.list_node.new.listing (omega arith) (appends_one c.args.listing.now c.list_node.new.listing Flat (listed Flat) refl c.in_ok-list_node.ensures.keeps c.in_ok-list_node.ensures.nodes) l
 
 pub split-returns-in_default : goal.split-returns-in_default
 split-returns-in_default g t c = record {
@@ -27,54 +28,54 @@ split-returns-in_default g t c = record {
   ready = c.in_ok-end.ensures.ready;
   next = c.in_ok-end.ensures.next;
   rest = c.in_ok-end.ensures.rest;
-  answer = first_child c.args.keeps (g.P.SignProblem.signed c.args.problem.now) c.args.search.now.prefix.items c.args.search.now.left c.child.new.search.left c.args.nodes.now.items c.list_node.new.nodes.items c.child.new.nodes.items c.in_ok-end.end c.in_default.not-Refuted c.in_ok-end.ensures.answer;
+  answer = first_child (g.P.SignProblem.signed c.args.problem.now) c.args.search.now.prefix.items c.args.search.now.left c.child.new.search.left c.args.listing.now c.list_node.new.listing c.child.new.listing c.in_ok-end.end c.in_default.not-Refuted c.in_ok-end.ensures.answer;
 }
 
 pub split-returns-in_default-2 : goal.split-returns-in_default-2
 split-returns-in_default-2 g t c =
     let w : Signed = g.P.SignProblem.signed c.args.problem.now in
     let p : List Sign = c.args.search.now.prefix.items in
-    let first : List TreeNode = c.child.new.nodes.items in
-    let new : List TreeNode = c.child-2.new.nodes.items in
-    let z = child_tree c.args.keeps w (p ++ Zero ∷ []) c.args.search.now.left c.child.new.search.left c.list_node.new.nodes.items first c.in_ok-end.end c.in_ok-end.ensures.answer c.in-Refuted.is in
-    let a = subst (λ (q : List Sign). EndsAt c.args.keeps w (q ++ Plus ∷ []) c.child.new.search.left c.child-2.new.search.left first new c.in_ok-end-2.end) c.in_ok-end.ensures.prefix c.in_ok-end-2.ensures.answer in
+    let first : Listing = c.child.new.listing in
+    let new : Listing = c.child-2.new.listing in
+    let z = child_tree w (p ++ Zero ∷ []) c.args.search.now.left c.child.new.search.left c.list_node.new.listing first c.in_ok-end.end c.in_ok-end.ensures.answer c.in-Refuted.is in
+    let a = subst (λ (q : List Sign). EndsAt w (q ++ Plus ∷ []) c.child.new.search.left c.child-2.new.search.left first new c.in_ok-end-2.end) c.in_ok-end.ensures.prefix c.in_ok-end-2.ensures.answer in
     record {
       prefix = c.in_ok-end-2.ensures.prefix ∙ c.in_ok-end.ensures.prefix;
       ready = c.in_ok-end-2.ensures.ready;
       next = subst (λ (q : List Sign). AreAround w q c.child-2.new.next) c.in_ok-end.ensures.prefix c.in_ok-end-2.ensures.next;
       rest = subst (λ (q : List Sign). AreRoomsBelow w q c.child-2.new.rest) c.in_ok-end.ensures.prefix c.in_ok-end-2.ensures.rest;
-      answer = second_child c.args.keeps w p c.args.search.now.left c.child.new.search.left c.child-2.new.search.left c.args.nodes.now.items c.list_node.new.nodes.items first new c.in_ok-end-2.end z c.in_default-2.not-Refuted a;
+      answer = second_child w p c.args.search.now.left c.child.new.search.left c.child-2.new.search.left c.args.listing.now c.list_node.new.listing first new c.in_ok-end-2.end z c.in_default-2.not-Refuted a;
     }
 
 pub split-returns-then-zeros-clause-answer : goal.split-returns-then-zeros-clause-answer
 split-returns-then-zeros-clause-answer g t c =
     let w : Signed = g.P.SignProblem.signed c.args.problem.now in
     let p : List Sign = c.args.search.now.prefix.items in
-    let old : List TreeNode = c.args.nodes.now.items in
-    let root : List TreeNode = c.list_node.new.nodes.items in
-    let first : List TreeNode = c.child.new.nodes.items in
-    let new : List TreeNode = c.child-2.new.nodes.items in
-    let one : AppendsOne c.args.keeps old root ListedSplitTwo = appends_one c.args.keeps old root _ ListedSplitTwo (ap listed (c.split_node.ensures ∙ ap split_node c.if-zeros.true)) c.in_ok-list_node.ensures in
-    let z = child_tree c.args.keeps w (p ++ Zero ∷ []) c.args.search.now.left c.child.new.search.left root first c.in_ok-end.end c.in_ok-end.ensures.answer c.in-Refuted.is in
-    let a = subst (λ (q : List Sign). EndsAt c.args.keeps w (q ++ Plus ∷ []) c.child.new.search.left c.child-2.new.search.left first new c.in_ok-end-2.end) c.in_ok-end.ensures.prefix c.in_ok-end-2.ensures.answer in
-    let q = child_tree c.args.keeps w (p ++ Plus ∷ []) c.child.new.search.left c.child-2.new.search.left first new c.in_ok-end-2.end a c.in-Refuted-2.is in
-    both_trees c.args.keeps w p c.args.search.now.left c.child.new.search.left c.child-2.new.search.left old root first new one c.requires.room (ap all_zero (sym c.deref.ensures.value) ∙ sym c.is_all_zero-zeros.ensures ∙ c.if-zeros.true) z q
+    let old : Listing = c.args.listing.now in
+    let root : Listing = c.list_node.new.listing in
+    let first : Listing = c.child.new.listing in
+    let new : Listing = c.child-2.new.listing in
+    let one : AppendsOne old root ListedSplitTwo = appends_one old root _ ListedSplitTwo (ap listed (c.split_node.ensures ∙ ap split_node c.if-zeros.true)) c.in_ok-list_node.ensures.keeps c.in_ok-list_node.ensures.nodes in
+    let z = child_tree w (p ++ Zero ∷ []) c.args.search.now.left c.child.new.search.left root first c.in_ok-end.end c.in_ok-end.ensures.answer c.in-Refuted.is in
+    let a = subst (λ (q : List Sign). EndsAt w (q ++ Plus ∷ []) c.child.new.search.left c.child-2.new.search.left first new c.in_ok-end-2.end) c.in_ok-end.ensures.prefix c.in_ok-end-2.ensures.answer in
+    let q = child_tree w (p ++ Plus ∷ []) c.child.new.search.left c.child-2.new.search.left first new c.in_ok-end-2.end a c.in-Refuted-2.is in
+    both_trees w p c.args.search.now.left c.child.new.search.left c.child-2.new.search.left old root first new one c.requires.room (ap all_zero (sym c.deref.ensures.value) ∙ sym c.is_all_zero-zeros.ensures ∙ c.if-zeros.true) z q
 
 pub split-returns-clause-answer : goal.split-returns-clause-answer
 split-returns-clause-answer g t c =
     let w : Signed = g.P.SignProblem.signed c.args.problem.now in
     let p : List Sign = c.args.search.now.prefix.items in
-    let old : List TreeNode = c.args.nodes.now.items in
-    let root : List TreeNode = c.list_node.new.nodes.items in
-    let first : List TreeNode = c.child.new.nodes.items in
-    let second : List TreeNode = c.child-2.new.nodes.items in
-    let new : List TreeNode = c.child-3.new.nodes.items in
-    let one : AppendsOne c.args.keeps old root ListedSplitThree = appends_one c.args.keeps old root _ ListedSplitThree (ap listed (c.split_node.ensures ∙ ap split_node c.if-zeros.false)) c.in_ok-list_node.ensures in
-    let z = child_tree c.args.keeps w (p ++ Zero ∷ []) c.args.search.now.left c.child.new.search.left root first c.in_ok-end.end c.in_ok-end.ensures.answer c.in-Refuted.is in
-    let a = subst (λ (q : List Sign). EndsAt c.args.keeps w (q ++ Plus ∷ []) c.child.new.search.left c.child-2.new.search.left first second c.in_ok-end-2.end) c.in_ok-end.ensures.prefix c.in_ok-end-2.ensures.answer in
-    let q = child_tree c.args.keeps w (p ++ Plus ∷ []) c.child.new.search.left c.child-2.new.search.left first second c.in_ok-end-2.end a c.in-Refuted-2.is in
-    let b = subst (λ (q : List Sign). EndsAt c.args.keeps w (q ++ Minus ∷ []) c.child-2.new.search.left c.child-3.new.search.left second new c.in_ok-end-3.end) (c.in_ok-end-2.ensures.prefix ∙ c.in_ok-end.ensures.prefix) c.in_ok-end-3.ensures.answer in
-    third_child c.args.keeps w p c.args.search.now.left c.child.new.search.left c.child-2.new.search.left c.child-3.new.search.left old root first second new c.in_ok-end-3.end one c.requires.room (ap all_zero (sym c.deref.ensures.value) ∙ sym c.is_all_zero-zeros.ensures ∙ c.if-zeros.false) z q b
+    let old : Listing = c.args.listing.now in
+    let root : Listing = c.list_node.new.listing in
+    let first : Listing = c.child.new.listing in
+    let second : Listing = c.child-2.new.listing in
+    let new : Listing = c.child-3.new.listing in
+    let one : AppendsOne old root ListedSplitThree = appends_one old root _ ListedSplitThree (ap listed (c.split_node.ensures ∙ ap split_node c.if-zeros.false)) c.in_ok-list_node.ensures.keeps c.in_ok-list_node.ensures.nodes in
+    let z = child_tree w (p ++ Zero ∷ []) c.args.search.now.left c.child.new.search.left root first c.in_ok-end.end c.in_ok-end.ensures.answer c.in-Refuted.is in
+    let a = subst (λ (q : List Sign). EndsAt w (q ++ Plus ∷ []) c.child.new.search.left c.child-2.new.search.left first second c.in_ok-end-2.end) c.in_ok-end.ensures.prefix c.in_ok-end-2.ensures.answer in
+    let q = child_tree w (p ++ Plus ∷ []) c.child.new.search.left c.child-2.new.search.left first second c.in_ok-end-2.end a c.in-Refuted-2.is in
+    let b = subst (λ (q : List Sign). EndsAt w (q ++ Minus ∷ []) c.child-2.new.search.left c.child-3.new.search.left second new c.in_ok-end-3.end) (c.in_ok-end-2.ensures.prefix ∙ c.in_ok-end.ensures.prefix) c.in_ok-end-3.ensures.answer in
+    third_child w p c.args.search.now.left c.child.new.search.left c.child-2.new.search.left c.child-3.new.search.left old root first second new c.in_ok-end-3.end one c.requires.room (ap all_zero (sym c.deref.ensures.value) ∙ sym c.is_all_zero-zeros.ensures ∙ c.if-zeros.false) z q b
 
 pub split-returns-clause-next : goal.split-returns-clause-next
 split-returns-clause-next g t c =
@@ -91,13 +92,13 @@ walk-returns-in-Some-clause-answer g t c =
     let w : Signed = g.P.SignProblem.signed c.args.problem.now in
     let p : List Sign = c.args.search.now.prefix.items in
     let d = rw c.in-Some.is at c.in_ok-node.ensures.answer in
-    leaf_at c.args.keeps w p c.in-Some.node c.args.search.now.left _ c.args.nodes.now.items c.list_node-in-Some.new.nodes.items (omega (arith, c.in_ok-node.ensures.place.left)) c.in_ok-list_node-2.ensures d
+    leaf_at w p c.in-Some.node c.args.search.now.left _ c.args.listing.now c.list_node-in-Some.new.listing (omega (arith, c.in_ok-node.ensures.place.left)) (appends_one c.args.listing.now c.list_node-in-Some.new.listing c.in-Some.node (listed c.in-Some.node) refl c.in_ok-list_node-2.ensures.keeps c.in_ok-list_node-2.ensures.nodes) d
 
 pub walk-returns-then-len-length-clause-answer : goal.walk-returns-then-len-length-clause-answer
 walk-returns-then-len-length-clause-answer g t c =
     let w : Signed = g.P.SignProblem.signed c.args.problem.now in
-    let f = subst (λ (p : List Sign). IsFoundAt w p c.in_ok-end.end) c.in_ok-node.ensures.place.prefix c.in_ok-end.ensures.answer in
-    found_at c.args.keeps w c.args.search.now.prefix.items c.args.search.now.left _ c.args.nodes.now.items c.args.nodes.now.items c.in_ok-end.end (omega (arith, c.in_ok-node.ensures.place.left, c.in_ok-end.ensures.place.left)) f
+    let f = subst (λ (p : List Sign). IsFoundAt w p c.in_ok-found_end.field-0) c.in_ok-node.ensures.place.prefix c.in_ok-found_end.ensures.answer in
+    found_at w c.args.search.now.prefix.items c.args.search.now.left _ c.args.listing.now c.args.listing.now c.in_ok-found_end.field-0 (omega (arith, c.in_ok-node.ensures.place.left, c.in_ok-found_end.ensures.place.left)) f
 
 pub walk-found_end-requires-clause-feasible : goal.walk-found_end-requires-clause-feasible
 walk-found_end-requires-clause-feasible g t c =
@@ -114,10 +115,10 @@ walk-returns-clause-answer g t c =
     let d = rw c.in_default.is at c.in_ok-node.ensures.answer in
     let same = c.in_ok-node.ensures.place.prefix in
     let s = feasible_from w p p refl (ap (λ (q : List Sign). w.closed q) (sym c.deref.ensures.value) ∙ sym c.closed.ensures ∙ c.if-closed.false) d.0 d.1 in
-    let e = subst (λ (q : List Sign). EndsBelow c.args.keeps w q c.rule_out.new.search.left c.split.new.search.left c.args.nodes.now.items c.split.new.nodes.items c.in_ok-end-2.end) same c.in_ok-end-2.ensures.answer in
+    let e = subst (λ (q : List Sign). EndsBelow w q c.rule_out.new.search.left c.split.new.search.left c.args.listing.now c.split.new.listing c.in_ok-end.end) same c.in_ok-end.ensures.answer in
     let long : length c.rule_out.new.search.prefix.items ≡ length p = ap (λ (q : List Sign). length q) same in
     let one : c.rule_out.new.search.left + 1 ≡ c.args.search.now.left = omega (arith, c.in_ok-node.ensures.place.left) in
-    opened_at c.args.keeps w p c.args.search.now.left c.rule_out.new.search.left c.split.new.search.left c.args.nodes.now.items c.split.new.nodes.items c.in_ok-end-2.end one s (λ (f : length p ≡ w.choices). omega (arith, f, long, c.len.ensures, c.length.ensures.choices, c.if-len-length.false)) e
+    opened_at w p c.args.search.now.left c.rule_out.new.search.left c.split.new.search.left c.args.listing.now c.split.new.listing c.in_ok-end.end one s (λ (f : length p ≡ w.choices). omega (arith, f, long, c.len.ensures, c.length.ensures.choices, c.if-len-length.false)) e
 
 pub walk-at_level-requires : goal.walk-at_level-requires
 walk-at_level-requires g t c =

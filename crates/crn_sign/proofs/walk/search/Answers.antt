@@ -1,7 +1,6 @@
-use Rattle.std.proofs.Common.{List, [], true, subst}
-use Rattle.crn_cert.specs.declared.tree_node.TreeNode.{TreeNode}
+use Rattle.std.proofs.Common.{true, refl}
 use Rattle.crn_vec.specs.Problems.{Signed}
-use Rattle.crn_sign.specs.Inner.Walk.{EndsAt}
+use Rattle.crn_sign.specs.declared.walk.Listing.{Listing}
 use Rattle.crn_sign.proofs.Walks.{has_tree, search_end}
 use Rattle.crn_sign.proofs.walk.search.Goals as goal
 
@@ -9,14 +8,12 @@ pub end_of-requires : goal.end_of-requires
 end_of-requires g c =
     let w : Signed = g.P.SignProblem.signed c.args.problem.now in
     let h = c.in_ok-end.ensures in
-    let new : List TreeNode = c.visit_all.new.nodes.items in
-    let at = subst (λ (old : List TreeNode). EndsAt true w [] c.args.budget h.0 old new c.in_ok-end.end) c.in_ok-nodes.ensures.items h.1 in
-    has_tree w c.args.budget h.0 new c.in_ok-end.end at
+    let old : Listing = record { nodes = c.in_ok-nodes.nodes; keeps = true } in
+    has_tree w c.args.budget h.0 old c.visit_all.new.listing c.in_ok-end.end refl c.in_ok-nodes.ensures.items h.1
 
 pub returns : goal.returns
 returns g c =
     let w : Signed = g.P.SignProblem.signed c.args.problem.now in
     let h = c.in_ok-end.ensures in
-    let new : List TreeNode = c.visit_all.new.nodes.items in
-    let at = subst (λ (old : List TreeNode). EndsAt true w [] c.args.budget h.0 old new c.in_ok-end.end) c.in_ok-nodes.ensures.items h.1 in
-    search_end w c.args.budget h.0 new c.in_ok-end.end c.end_of.result c.end_of.ensures at
+    let old : Listing = record { nodes = c.in_ok-nodes.nodes; keeps = true } in
+    search_end w c.args.budget h.0 old c.visit_all.new.listing c.in_ok-end.end c.end_of.result c.end_of.ensures refl c.in_ok-nodes.ensures.items h.1

@@ -1,5 +1,5 @@
 use Rattle.crn_sign.specs.Inner.Parts.{IsFinder}
-use Rattle.crn_sign.proofs.part.Finder.list_misfits.Given as goal
+use Rattle.crn_sign.proofs.finder.Finder.list_misfits.Given as goal
 
 abbrev pub invariant-loop-w : goal.invariant-loop-w
 invariant-loop-w l = IsFinder l.matrix l.self

@@ -1,9 +1,9 @@
 use Rattle.crn_sign.specs.Inner.Marks.{AreRowMarks}
 use Rattle.crn_sign.specs.Inner.Parts.{IsFinder}
-use Rattle.crn_sign.proofs.part.Finder.serve_words.Given as goal
+use Rattle.crn_sign.proofs.finder.Finder.make_misfits_zero.Given as goal
 
-abbrev pub invariant-loop-w : goal.invariant-loop-w
-invariant-loop-w l = record {
+abbrev pub invariant-loop-i : goal.invariant-loop-i
+invariant-loop-i l = record {
   finder : IsFinder l.matrix l.self;
   marks : AreRowMarks l.matrix l.marks;
 }

@@ -1,6 +1,6 @@
 use Rattle.crn_sign.specs.Inner.Marks.{AreRowMarks}
 use Rattle.crn_sign.specs.Inner.Parts.{IsFinder}
-use Rattle.crn_sign.proofs.part.Finder.serve_word.Given as goal
+use Rattle.crn_sign.proofs.finder.Finder.give_kept_signs_in_word.Given as goal
 
 abbrev pub invariant-places : goal.invariant-places
 invariant-places l = record {

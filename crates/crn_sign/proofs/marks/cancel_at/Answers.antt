@@ -3,7 +3,7 @@ use Rattle.crn_sign.specs.declared.marks.Mark.{Mark}
 use Rattle.crn_sign.specs.Inner.Bits.{mark_at}
 use Rattle.crn_sign.specs.Inner.Marks.{AreOpposite}
 use Rattle.crn_sign.proofs.MarkLaws.{cleared}
-use Rattle.crn_sign.proofs.marks.clear.Goals as goal
+use Rattle.crn_sign.proofs.marks.cancel_at.Goals as goal
 
 pub returns : goal.returns
 returns c =

@@ -1,9 +1,9 @@
 use Rattle.crn_sign.specs.Inner.Marks.{AreRowMarks}
 use Rattle.crn_sign.specs.Inner.Parts.{IsFinder}
-use Rattle.crn_sign.proofs.part.Finder.clear_misfits.Given as goal
+use Rattle.crn_sign.proofs.finder.Finder.give_kept_signs_in_words.Given as goal
 
-abbrev pub invariant-loop-i : goal.invariant-loop-i
-invariant-loop-i l = record {
+abbrev pub invariant-loop-w : goal.invariant-loop-w
+invariant-loop-w l = record {
   finder : IsFinder l.matrix l.self;
   marks : AreRowMarks l.matrix l.marks;
 }

@@ -1,7 +1,7 @@
 use Rattle.std.specs.Int.{bit_at}
 use Rattle.std.proofs.lemmas.Nat.Bits.{bit_at-lt, bit_at_and, bit_at_or, bit_at_xor}
 use Rattle.crn_sign.proofs.BitLaws.{fits}
-use Rattle.crn_sign.proofs.marks.misfits.Goals as goal
+use Rattle.crn_sign.proofs.marks.misfit_places.Goals as goal
 
 pub returns : goal.returns
 returns c = λ i e.

@@ -1,6 +1,6 @@
 use Rattle.crn_sign.specs.Inner.Marks.{AreRowMarks}
 use Rattle.crn_sign.specs.Inner.Parts.{IsFinder}
-use Rattle.crn_sign.proofs.part.Finder.raise_misfits.Given as goal
+use Rattle.crn_sign.proofs.finder.Finder.give_required_signs.Given as goal
 
 abbrev pub invariant-loop-i : goal.invariant-loop-i
 invariant-loop-i l = record {

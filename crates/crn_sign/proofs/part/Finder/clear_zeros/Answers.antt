@@ -1,8 +1,0 @@
-use Rattle.std.proofs.lemmas.Result.{err_from_is_err_and}
-use Rattle.crn_sign.specs.Inner.Marks.{kinds_of}
-use Rattle.crn_sign.proofs.part.Finder.clear_zeros.Goals as goal
-
-pub returns-in_err-clear_misfits-clause-answer : goal.returns-in_err-clear_misfits-clause-answer
-returns-in_err-clear_misfits-clause-answer c =
-    let p = err_from_is_err_and c.from_residual.result c.from_residual.ensures.1 in
-    rw (p.1, p.2) (c.in_err-clear_misfits.ensures.stop (kinds_of c.args.matrix.now c.args.weak.now c.args.bits.now))
