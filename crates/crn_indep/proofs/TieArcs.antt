@@ -153,6 +153,19 @@ drawn_all net proof r i arcs le h =
       ],
     )) h
 
+-- a reaction that draws on nothing adds no steps
+pub drawn_none : (net : Net) (proof : RankProof) (r : ℕ) (arcs : List Arc) → ((q : ℕ) → DrawsOn net proof r q → ⊥) → AreTieArcsTo net proof r arcs → AreTieArcsTo net proof (r + 1) arcs
+drawn_none net proof r arcs none h =
+    arcs_same (λ (a q : ℕ). (a < r) × DrawsOn net proof a q) (λ (a q : ℕ). (a < r + 1) × DrawsOn net proof a q) arcs
+    (λ a q t. (omega (arith, t.0), t.1))
+    (λ a q t. (
+      elim (lt_or a r) as (λ _. a < r) [
+        | inl lt ↦ lt
+        | inr ge ↦ let e : a ≡ r = omega (arith, ge, t.0) in absurd (none q (subst (λ (k : ℕ). DrawsOn net proof k q) e t.1))
+      ],
+      t.1,
+    )) h
+
 -- ---- all ties
 
 pub ties_none : (net : Net) (proof : RankProof) (arcs : List Arc) → arcs ≡ [] → AreTieArcsTo net proof 1 arcs

@@ -25,6 +25,10 @@ IsProofForm net proof = IsRankProof net (all_reactions net) (length proof.base.l
 abbrev pub combined : Net → RankProof → List ℕ
 combined net proof = outside proof.base.list (all_reactions net)
 
+-- how many reactions up to k are outside the base
+abbrev pub count_outside : RankProof → ℕ → ℕ
+count_outside proof k = length (outside proof.base.list (range_with_len 1 k))
+
 -- the combination of reaction r, by the reactions that have one, in order
 abbrev pub comb_for : List ℕ → List (List ℤ) → ℕ → List ℤ
 comb_for [] combs r = []

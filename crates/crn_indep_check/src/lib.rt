@@ -12,4 +12,4 @@ pub use check::check_decomposition;
 pub use laws::{shown_decompositions_are_finest, valid_answers_on_decompositions_are_true};
 pub use parts::Parts;
 pub use ranks::ranks_of_parts;
-pub use ties::{draws_on, row_for};
+pub use ties::{draws_at, next_row};

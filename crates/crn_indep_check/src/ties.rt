@@ -1,9 +1,9 @@
-ghost use Rattle.std.specs.Prelude.{◌≡◌, ◌≤◌, ◌↔◌, ◌-◌, ℕ, IsTrue, length};
+ghost use Rattle.std.specs.Prelude.{◌≡◌, ◌≤◌, ◌<◌, ◌↔◌, ◌-◌, ℕ, Some, IsTrue, length, slice_index};
 ghost use Rattle.std.specs.List.{range_with_len};
 ghost use Rattle.crn_vec.specs.Lists.{IsIn};
 ghost use Rattle.crn_cert.specs.Ranges.{IsFrom};
 ghost use Rattle.crn_cert.specs.RankTests.{outside};
-ghost use Rattle.crn_indep_check.specs.Shown.{AreTied, DrawsOn, GivesRow, IsProofForm};
+ghost use Rattle.crn_indep_check.specs.Shown.{AreTied, DrawsOn, GivesRow, IsProofForm, count_outside};
 ghost use Rattle.crn_indep_check.specs.Inner.Ties.{GivesPlace, IsEvenAt};
 
 use crn_cert::RankProof;
@@ -47,37 +47,58 @@ fn outside_before(base: &[u32], r: u32) -> usize
 }
 
 /// The row of the combination of reaction r in a rank proof, or none if it draws on nothing. Reactions count from 1, rows from
-/// 0.
-pub fn row_for(net: &Network, proof: &RankProof, r: u32) -> Option<usize>
+/// 0. `count` is how many reactions before r are outside the base, and then how many up to r.
+pub fn next_row(net: &Network, proof: &RankProof, r: u32, count: &mut usize) -> Option<usize>
     requires inside { IsFrom 1 (length net.now.reactions) r }
-    ensures { GivesRow net.now proof.now r result }
+    requires count { count.old ≡ count_outside proof.now (r - 1) }
+    ensures row { GivesRow net.now proof.now r result }
+    ensures count { count.new ≡ count_outside proof.now r }
 {
     let _ = net;
-    let base = proof.base.as_slice();
-    if is_in(base, r) {
+    if is_in(proof.base.as_slice(), r) {
         return None;
     }
-    let row = outside_before(base, r);
+    let row = *count;
+    *count += 1;
     if row < proof.combs.len() {
         return Some(row);
     }
     None
 }
 
-/// Whether reaction r is outside the base of a rank proof and draws on q, which is in it: its combination, which has this row,
-/// has a number there that is not zero. Reactions count from 1.
-pub fn draws_on(net: &Network, proof: &RankProof, r: u32, row: Option<usize>, q: u32) -> bool
+// The row of the combination of reaction r, or none if it draws on nothing.
+fn row_for(net: &Network, proof: &RankProof, r: u32) -> Option<usize>
+    requires inside { IsFrom 1 (length net.now.reactions) r }
+    ensures { GivesRow net.now proof.now r result }
+{
+    let mut count = outside_before(proof.base.as_slice(), r);
+    next_row(net, proof, r, &mut count)
+}
+
+/// Whether reaction r, whose combination has this row, draws on the member of the base at a place: whether the combination has
+/// a number there that is not zero. Reactions count from 1, places and rows from 0.
+pub fn draws_at(net: &Network, proof: &RankProof, r: u32, row: usize, place: usize) -> bool
+    requires form { IsProofForm net.now proof.now }
+    requires row { GivesRow net.now proof.now r (Some row) }
+    requires inside { place < length proof.now.base.list }
+    ensures { IsTrue result ↔ DrawsOn net.now proof.now r (slice_index proof.now.base.list place) }
+{
+    let _ = net;
+    let _ = r;
+    !is_nought(&proof.combs.row(row)[place + 1])
+}
+
+// Whether reaction r is outside the base of a rank proof and draws on q, which is in it.
+fn draws_on(net: &Network, proof: &RankProof, r: u32, row: Option<usize>, q: u32) -> bool
     requires form { IsProofForm net.now proof.now }
     requires row { GivesRow net.now proof.now r row }
     ensures { IsTrue result ↔ DrawsOn net.now proof.now r q }
 {
-    let _ = net;
-    let _ = r;
     match row {
         None => false,
         Some(row) => match place_in(proof.base.as_slice(), q) {
             None => false,
-            Some(place) => !is_nought(&proof.combs.row(row)[place + 1]),
+            Some(place) => draws_at(net, proof, r, row, place),
         },
     }
 }
