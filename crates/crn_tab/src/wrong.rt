@@ -41,14 +41,7 @@ fn lower_level(best: usize, level: usize, counts: bool) -> usize
 }
 
 // The least level so far of a wrong coordinate: this one's, if it is lower and what follows x may not be there.
-fn least_wrong(
-    sign: Sign,
-    x: &i64,
-    kind: Kind,
-    level: usize,
-    from: usize,
-    best: usize,
-) -> usize
+fn least_wrong(sign: Sign, x: &i64, kind: Kind, level: usize, from: usize, best: usize) -> usize
     ensures lower { result ≤ best }
     ensures from { from ≤ best → from ≤ result }
     ensures right { (y : ℤ) → Follows sign x.now y → from ≤ level → level < result
@@ -127,15 +120,7 @@ fn wrong_row(
     let kept = part(fields.rows, fields.at[row] - n, n + 1);
     let mut best = least_wrong(sign, &kept[n], kinds[row], level[row], from, end);
     for s in 0..n {
-        best = wrong_at(
-            sign,
-            &kept[s],
-            kinds,
-            level,
-            fields.order[s],
-            from,
-            best,
-        );
+        best = wrong_at(sign, &kept[s], kinds, level, fields.order[s], from, best);
     }
     best
 }
@@ -176,14 +161,7 @@ fn wrong_column(
     for i in 0..m {
         let c = fields.order[n + i];
         let kept = part(fields.rows, i, n + 1);
-        best = least_wrong(
-            other,
-            &kept[place],
-            dual(kinds[c]),
-            level[c],
-            from,
-            best,
-        );
+        best = least_wrong(other, &kept[place], dual(kinds[c]), level[c], from, best);
     }
     best
 }

@@ -1,5 +1,5 @@
 use Rattle.std.proofs.Common.{◌≡◌, ◌<◌, ◌*◌, ◌%◌, ◌^◌, sym, ap, ◌∙◌, arith, rules, to_z, of_z}
-use Rattle.std.specs.Prelude.{ℤ, ◌*ℤ◌, FitsSigned, unsigned_abs}
+use Rattle.std.specs.Prelude.{◌*ℤ◌, FitsSigned, unsigned_abs}
 use Rattle.std.specs.Int.{w32}
 use Rattle.std.proofs.lemmas.Int.{to_z-of_z, fits_signed_from_abs, int_wrap_fits, wrapping_mul_is}
 use Rattle.crn_tab.proofs.ShortCross.{product_short}

@@ -1,4 +1,4 @@
-use Rattle.std.proofs.Common.{◌<◌, true, false, ap, ◌∙◌, sym, subst, arith, to_z, below_more}
+use Rattle.std.proofs.Common.{◌<◌, ap, ◌∙◌, sym, subst, arith, to_z, below_more}
 use Rattle.std.specs.Prelude.{ℤ, pos, ◌≤ℤ◌, unsigned_abs}
 use Rattle.std.specs.Int.{◌∣◌, w64}
 use Rattle.std.proofs.lemmas.Nat.Gcd.{dvd-zero, dvd_trans}
