@@ -11,7 +11,7 @@ use crate::tableau::Tableau;
 use crn_vec::WIDE_ENTRY;
 
 // An entry of the vector that a coordinate outside the basis names, positive at that coordinate.
-fn number_at(fields: &Fields, row: usize, col: usize) -> i128
+pub(crate) fn number_at(fields: &Fields, row: usize, col: usize) -> i128
     requires tableau { IsTableau fields.now.matrix.now fields.now.at.now fields.now.order.now
         fields.now.rows.now }
     requires inside { row < width fields.now.matrix.now }

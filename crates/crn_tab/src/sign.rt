@@ -8,6 +8,7 @@ ghost use Rattle.crn_tab.specs.Tableau.{IsRowOfSign, NamesRows};
 
 use crate::fields::Fields;
 use crate::fill::part;
+use crate::number::number_at;
 use crate::row::slot_of;
 use crate::tableau::Tableau;
 use crn_vec::{Sign, product, sign_of};
@@ -23,9 +24,7 @@ fn sign_at(fields: &Fields, row: usize, col: usize) -> Sign
         → IsNamedRow fields.now.matrix.now (basis_of fields.now.matrix.now.cols fields.now.at.now)
         row w → pos 1 ≤ℤ entry w row → HasSign result (entry w col) }
 {
-    let n = fields.matrix.cols();
-    let i = fields.at[row] - n;
-    sign_of(slot_of(part(fields.rows, i, n + 1), n, i, fields.at[col]))
+    sign_of(number_at(fields, row, col))
 }
 
 // The signs of the vectors that a coordinate outside the basis names, if they have this one there.

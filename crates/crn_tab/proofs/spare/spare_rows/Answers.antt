@@ -3,7 +3,7 @@ use Rattle.std.specs.Prelude.{ℤ, pos, slice_index, unsigned_abs}
 use Rattle.std.proofs.Math.ListN.{length-set}
 use Rattle.crn_vec.specs.Vectors.{entry}
 use Rattle.crn_tab.specs.Slots.{IsContent, row_at}
-use Rattle.crn_tab.specs.Inner.Rows.{IsKeptRow, IsRowDone, IsRowMade, HasWideRow}
+use Rattle.crn_tab.specs.Inner.Rows.{AreFilled, IsKeptRow, IsLead, IsRowDone, IsRowMade, HasWideRow}
 use Rattle.crn_tab.proofs.Signs.{is_none}
 use Rattle.crn_tab.proofs.NewRows.{new_row_none}
 use Rattle.crn_tab.proofs.LeadRow.{lead_small_at, lead_primitive_at}
@@ -81,6 +81,16 @@ placed w m c r i rows lead spare new order least c_lt rows_kept done below long 
       }
 ]
 
+-- rows of which one is too wide
+filled_wide : (w m c r : ℕ) (rows new lead : List ℤ) (order : List ℕ) (least : ℕ) → IsLead w c (row_at w rows r) lead → ((i : ℕ) → i < m → i ≢ r → IsRowMade w c i rows lead least (slice_index order (w - 1 + i)))
+    → least < length order → (least ≡ length order) ⊎ HasWideRow w m c r rows lead order least → AreFilled w m c r rows new order least
+filled_wide w m c r rows new lead order least is made lt h = record {
+  lead = lead;
+  is = is;
+  made = made;
+  last = elim h [ inl e ↦ absurd (omega (arith, e, lt)) | inr wide ↦ inr wide ];
+}
+
 pub returns-then-least-order-clause-filled : goal.returns-then-least-order-clause-filled
 returns-then-least-order-clause-filled c =
     let w = length c.args.lead.now in
@@ -94,16 +104,10 @@ returns-then-least-order-clause-filled c =
     let width : length lead0 ≡ w = length-set lead (length lead - 1) (pos 0) ∙ c.make_lead.ensures.long in
     let back = put_back lead c.args.pivot.slot w (row_at w rows c.args.pivot.row) c.make_lead.ensures some (small (length lead - 1)) (length lead0 - 1) (ap (λ n. n - 1) (length-set lead (length lead - 1) (pos 0))) in
     let done = kept w (length lead0) c.args.pivot.rows c.args.pivot.slot c.args.pivot.row rows c.fill_rows-least.new.spare lead _ order least width back c.fill_rows-least.ensures.done in
-    record {
-      lead = lead;
-      is = c.make_lead.ensures;
-      made = λ i lt ne. (placed w c.args.pivot.rows c.args.pivot.slot c.args.pivot.row i rows lead c.fill_rows-least.new.spare rows order least c.requires.place c.requires.row done c.requires.order_below c.requires.order
-          (λ all. absurd (omega (arith, all))) (λ all. absurd (omega (arith, all))) lt ne).made;
-      last = elim (wide_kept w (length lead0) c.args.pivot.rows c.args.pivot.slot c.args.pivot.row rows lead _ order least width back c.fill_rows-least.ensures.least) [
-        | inl e ↦ absurd (omega arith)
-        | inr h ↦ inr h
-      ];
-    }
+    filled_wide w c.args.pivot.rows c.args.pivot.slot c.args.pivot.row rows rows lead order least c.make_lead.ensures
+    (λ i lt ne. (placed w c.args.pivot.rows c.args.pivot.slot c.args.pivot.row i rows lead c.fill_rows-least.new.spare rows order least c.requires.place c.requires.row done c.requires.order_below c.requires.order
+    (λ all. absurd (omega (arith, all))) (λ all. absurd (omega (arith, all))) lt ne).made)
+    (omega arith) (wide_kept w (length lead0) c.args.pivot.rows c.args.pivot.slot c.args.pivot.row rows lead _ order least width back c.fill_rows-least.ensures.least)
 
 pub returns-clause-filled : goal.returns-clause-filled
 returns-clause-filled c =
