@@ -48,7 +48,6 @@ impl Model for Solver {
 
 // Decides a system by a vector that the basis names, if one rules it out, or else by what a basis shows or by its targets.
 fn answer(
-    alloc: Global,
     tableau: &mut Tableau,
     viewed: Option<Tableau>,
     kinds: &[Kind],
@@ -69,9 +68,10 @@ fn answer(
     ensures named { IfOk result (λ d. IsNamedDecision tableau.new.matrix tableau.new.basis d) }
     ensures near { IfErr result (λ s. IsNearStop tableau.new.basis s) }
 {
+    let alloc = *order.allocator();
     match kept_cut(tableau, kinds) {
         Some(cut) => Ok(Decision::Infeasible(multipliers(alloc, tableau, kinds, work, &cut)?)),
-        None => by_view(alloc, tableau, viewed, kinds, order, level, sum, work),
+        None => by_view(tableau, viewed, kinds, order, level, sum, work),
     }
 }
 
@@ -156,9 +156,7 @@ impl Solver {
         ensures named { IfOk result (λ d. IsNamedDecision self.new.matrix self.new.basis d) }
         ensures near { IfErr result (λ s. IsNearStop self.new.basis s) }
     {
-        let alloc = *self.order.allocator();
         let result = answer(
-            alloc,
             &mut self.tableau,
             viewed,
             kinds,

@@ -209,7 +209,6 @@ pub(crate) fn by_targets(
 
 // Decides a system by what a basis shows, that of `viewed` or else the kept one, or else by its targets.
 pub(crate) fn by_view(
-    alloc: Global,
     tableau: &mut Tableau,
     viewed: Option<Tableau>,
     kinds: &[Kind],
@@ -228,6 +227,7 @@ pub(crate) fn by_view(
     ensures named { IfOk result (λ d. IsNamedDecision tableau.new.matrix tableau.new.basis d) }
     ensures near { IfErr result (λ s. IsNearStop tableau.new.basis s) }
 {
+    let alloc = *order.allocator();
     if let Some(decision) = in_view(alloc, tableau, viewed, kinds, sum, work)? {
         return Ok(decision);
     }
