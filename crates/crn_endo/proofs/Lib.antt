@@ -4,3 +4,4 @@ mod Searched
 mod NodeCounts
 mod Answered
 mod WeakWords
+mod Steps

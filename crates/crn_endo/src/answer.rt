@@ -75,7 +75,7 @@ fn decide_at(
         }));
     }
     let slopes = Slopes::new(alloc, net, given, r)?;
-    match search_slopes(alloc, &slopes, left) {
+    match search_slopes(alloc, net, given, r, &slopes, left) {
         Ok(SearchEnd::Found { pattern, a, .. }) => {
             let slope = slope_by(alloc, pattern.as_slice(), a.as_slice())?;
             Ok(Decided::Ended(Endo::No { reaction, slope }))

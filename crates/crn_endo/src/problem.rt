@@ -1,12 +1,15 @@
-ghost use Rattle.std.specs.Prelude.{◌≡◌, ◌≤◌, ℕ, length, IfOk, MatchResult};
+ghost use Rattle.std.specs.Prelude.{◌≡◌, ◌≤◌, ◌<◌, ◌+◌, ◌*◌, ◌==◌, ◌++◌, ◌∷◌, [], not, ℕ, List, length, filter, IfOk, MatchResult};
 ghost use Rattle.crn_vec.specs.declared.limits.TheConstants.{MAX_BUDGET};
-ghost use Rattle.crn_sign.specs.Options.{AskKindsBy, asked_kind, bit_of, word_count};
+ghost use Rattle.crn_vec.specs.declared.signs.Sign.{Sign};
+ghost use Rattle.crn_vec.specs.declared.signs.Sign.TheVariants.{Plus};
+ghost use Rattle.crn_sign.specs.Options.{asked_kind, bit_of, word_count};
 ghost use Rattle.crn_sign.specs.Search.{IsSearchEnd, IsSearchStop};
-ghost use Rattle.crn_endo_check.specs.Slopes.{IsSmallEnough, slope_kinds, slope_matrix, slopes};
-ghost use Rattle.crn_endo.specs.Inner.Asked.{ShowsWeak, firm_kind};
+ghost use Rattle.crn_endo_check.specs.Slopes.{IsSmallEnough, others, reactants, slope_matrix, slopes};
+ghost use Rattle.crn_endo.specs.Inner.Asked.{AreRaised, AskFirmly, ShowsWeak, firm_kind};
 
 use crn_endo_check::Slopes;
 use crn_farkas::Solver;
+use crn_net::Network;
 use crn_sign::{
     Asked, Bits, FREE, SearchEnd, SearchStop, SignProblem, asked_of_sign, put_asked, put_weak,
     search, word_count,
@@ -14,12 +17,17 @@ use crn_sign::{
 use crn_vec::{Kind, Matrix, NoMemory, Sign};
 use std::alloc::Global;
 
-/// The sign problem of a reaction, with its matrix and the coordinates that are at least 0 at some prefix.
+/// The sign problem of a reaction, with its further reactant complexes, its matrix and the coordinates that are at least 0 at
+/// some prefix.
 #[derive(Drop)]
 pub(crate) struct SlopeProblem<'a> {
     pub given: &'a Slopes<'a>,
+    pub net: &'a Network,
+    pub further: Vec<usize>,
     pub matrix: Matrix,
     pub weak: Vec<u64>,
+    ghost net_is: { given.now.net ≡ net.now },
+    ghost further_is: { further.items ≡ others net.now given.now.reaction },
     ghost matrix_is: { matrix ≡ slope_matrix given.now.net given.now.reaction },
     ghost weak_is: { ShowsWeak given.now.net given.now.reaction weak.items },
 }
@@ -61,17 +69,92 @@ fn weak_words(alloc: Global, given: &Slopes, matrix: &Matrix) -> Result<Vec<u64>
     Ok(words)
 }
 
+// The complexes of a list but for one.
+fn further_of(alloc: Global, complexes: &[usize], own: usize) -> Result<Vec<usize>, NoMemory>
+    ensures { IfOk result (λ made. made.items ≡ filter (λ c. not (c == own)) complexes.now) }
+{
+    let mut made = Vec::with_capacity(alloc, complexes.len())?;
+    for i in 0..complexes.len() {
+        if complexes[i] != own {
+            made.push(complexes[i])?;
+        }
+    }
+    Ok(made)
+}
+
+// Requires a positive number, or one at least 0, of the rises along the reactions from a complex.
+fn put_rises(net: &Network, words: &mut [Bits], c: usize)
+    requires { length net.now.names + length net.now.reactions ≤ length words.old * 64 }
+    ensures { AreRaised net.now c (length net.now.reactions) words.old words.new }
+{
+    let species = net.species();
+    for q in 0..net.reactions() {
+        let from = net.reactant(q);
+        if from == c {
+            put_asked(words, species + q, asked_of_sign(Sign::Plus));
+        }
+    }
+}
+
 impl SlopeProblem<'_> {
     // Requires of all coordinates of part A what a prefix requires.
     fn ask(&self, prefix: &[Sign], asked: &mut [Bits])
         requires { length asked.old ≡ word_count self.now.matrix }
         ensures { let s = self.now.given.now in
-            AskKindsBy self.now.matrix self.now.weak.items
-            (slope_kinds s.net s.reaction prefix.now) asked.new }
+            AskFirmly s.net s.reaction prefix.now asked.new }
     {
         let count = self.matrix.cols() + self.matrix.rows();
         for k in 0..count {
             put_asked(asked, k, asked_of_kind(self.given.kind(prefix, k)));
+        }
+    }
+
+    // Requires what the option of a further complex adds, if the first option is plus.
+    fn put_option(&self, i: usize, option: Sign, words: &mut [Bits])
+        requires inside { i < length (others self.now.given.now.net self.now.given.now.reaction) }
+        requires count { length words.old ≡ word_count self.now.matrix }
+        ensures { let s = self.now.given.now in (p : List Sign) → length p ≡ i
+            → AskFirmly s.net s.reaction (Plus ∷ p) words.old
+            → AskFirmly s.net s.reaction (Plus ∷ (p ++ option ∷ [])) words.new }
+    {
+        let species = self.net.species();
+        let reactions = self.net.reactions();
+        let c = self.further[i];
+        put_asked(
+            words,
+            species + reactions + reactions + i,
+            asked_of_sign(option),
+        );
+        match option {
+            Sign::Plus => put_rises(self.net, words, c),
+            Sign::Zero => {}
+            Sign::Minus => {}
+        }
+    }
+
+    // Requires what a prefix requires, given what it does without its last option.
+    fn put_last(&self, prefix: &[Sign], above: &[Bits], sums: &mut [Bits])
+        requires before { let s = self.now.given.now in
+            (p : List Sign) × (o : Sign) × (prefix.now ≡ p ++ o ∷ [])
+            × AskFirmly s.net s.reaction p above.now }
+        requires few { let s = self.now.given.now in
+            length prefix.now ≤ 1 + length (others s.net s.reaction) }
+        requires long { length above.now ≡ word_count self.now.matrix }
+        requires sums { length sums.old ≡ word_count self.now.matrix }
+        ensures { let s = self.now.given.now in
+            AskFirmly s.net s.reaction prefix.now sums.new }
+    {
+        let last = prefix.len() - 1;
+        if last == 0 {
+            self.ask(prefix, sums);
+            return;
+        }
+        match prefix[0] {
+            Sign::Plus => {
+                sums.copy_from_slice(above);
+                self.put_option(last - 1, prefix[last], sums);
+            }
+            _ => self.ask(prefix, sums),
         }
     }
 }
@@ -81,7 +164,7 @@ impl SignProblem for SlopeProblem<'_> {
 
     ghost signed = { λ p. slopes p.given.now.net p.given.now.reaction };
 
-    ghost are_sums = { λ p q words. Unit {0} };
+    ghost are_sums = { λ p q words. AskFirmly p.given.now.net p.given.now.reaction q words };
 
     ghost weak = { λ p. p.weak.items };
 
@@ -101,12 +184,14 @@ impl SignProblem for SlopeProblem<'_> {
         &self.weak
     }
 
-    fn begin_a(&self, _sums: &mut [Bits], asked: &mut [Bits]) {
-        self.ask(&[], asked);
+    fn begin_a(&self, sums: &mut [Bits], asked: &mut [Bits]) {
+        self.ask(&[], sums);
+        asked.copy_from_slice(sums);
     }
 
-    fn settle_a(&self, prefix: &[Sign], _above: &[Bits], _sums: &mut [Bits], asked: &mut [Bits]) {
-        self.ask(prefix, asked);
+    fn settle_a(&self, prefix: &[Sign], above: &[Bits], sums: &mut [Bits], asked: &mut [Bits]) {
+        self.put_last(prefix, above, sums);
+        asked.copy_from_slice(sums);
     }
 
     fn asked_b(&self, _prefix: &[Sign], _k: usize) -> Asked {
@@ -122,12 +207,18 @@ impl SignProblem for SlopeProblem<'_> {
     }
 }
 
-/// Searches for a slope against a reaction, with at most this many visits.
+/// Searches for a slope against a reaction, with at most this many visits. The complexes are the reactants.
 pub(crate) fn search_slopes(
     alloc: Global,
+    net: &Network,
+    complexes: &[usize],
+    reaction: usize,
     given: &Slopes,
     budget: u32,
 ) -> Result<SearchEnd, SearchStop>
+    requires complexes { complexes.now ≡ reactants net.now }
+    requires inside { reaction < length net.now.reactions }
+    requires given { given.now ≡ record { net = net.now; reaction = reaction } }
     requires small { IsSmallEnough given.now.net }
     requires low { 1 ≤ budget }
     requires high { budget ≤ MAX_BUDGET }
@@ -136,9 +227,12 @@ pub(crate) fn search_slopes(
 {
     let matrix = given.matrix(alloc)?;
     let weak = weak_words(alloc, given, &matrix)?;
+    let further = further_of(alloc, complexes, net.reactant(reaction))?;
     let solver = Solver::new(alloc, &matrix)?;
     let problem = SlopeProblem {
         given,
+        net,
+        further,
         matrix,
         weak,
     };

@@ -1,10 +1,9 @@
 use Rattle.std.proofs.Common.{◌≡◌, ◌<◌, ℕ, inl, inr, sym, ap, subst, ◌∙◌, arith}
-use Rattle.crn_vec.specs.declared.signs.Kind.{Kind}
 use Rattle.crn_vec.specs.Vectors.{Mat}
 use Rattle.crn_vec.specs.Elementary.{width}
 use Rattle.crn_vec.specs.Systems.{kind_at}
 use Rattle.crn_vec.proofs.CallerLemmas.{eq_or}
-use Rattle.crn_sign.specs.Options.{bit_of, kind_in, weakened}
+use Rattle.crn_sign.specs.Options.{kind_in, word_count}
 use Rattle.crn_sign.proofs.CallerLemmas.{put_here, put_other}
 use Rattle.crn_endo_check.specs.Slopes.{slope_kinds}
 use Rattle.crn_endo.specs.Inner.Asked.{firm_kind}
@@ -39,8 +38,8 @@ pub returns : goal.returns
 returns c =
     let p = c.args.self.now in
     record {
-      count = c.loop-k.invariant.count;
+      count = c.loop-k.invariant.count ∙ ap word_count p.matrix_is;
       each = λ k lt.
-          ap (λ (t : Kind). weakened t (bit_of p.weak.items k)) (c.loop-k.invariant.done k (omega (arith, lt, c.loop-k-test.false, c.cols.ensures.count, c.rows.ensures.count)))
-          ∙ p.weak_is c.args.prefix.now k (subst (λ (a : Mat). k < width a) p.matrix_is lt);
+          let inside : k < width p.matrix = subst (λ (a : Mat). k < width a) (sym p.matrix_is) lt in
+          c.loop-k.invariant.done k (omega (arith, inside, c.loop-k-test.false, c.cols.ensures.count, c.rows.ensures.count));
     }

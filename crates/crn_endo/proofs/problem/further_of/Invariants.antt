@@ -1,0 +1,5 @@
+use Rattle.std.proofs.Common.{◌≡◌, ◌==◌, not, filter, take}
+use Rattle.crn_endo.proofs.problem.further_of.Given as goal
+
+abbrev pub invariant-loop-i : goal.invariant-loop-i
+invariant-loop-i l = l.made.items ≡ filter (λ c. not (c == l.own)) (take l.i l.complexes)

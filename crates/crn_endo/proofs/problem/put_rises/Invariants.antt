@@ -1,0 +1,5 @@
+use Rattle.crn_endo.specs.Inner.Asked.{AreRaised}
+use Rattle.crn_endo.proofs.problem.put_rises.Given as goal
+
+abbrev pub invariant-loop-q : goal.invariant-loop-q
+invariant-loop-q l = AreRaised l.net l.c l.q l.initial.words l.words
