@@ -20,8 +20,7 @@ pub enum SearchStop {
         basis: Nums,
         /// Whether its system was the first of part B that was left to the solver.
         ///
-        /// The solver then began at the basis of the columns, and nothing was kept for it: the stop depends on the matrix of
-        /// part B and on the system alone.
+        /// The solver then began at the basis with which it was handed in, and nothing was kept for it.
         is_first: bool,
     },
     NoMemory,
