@@ -1,19 +1,6 @@
 -- Rows of free numbers, of ranks and of sides as data.
-use Rattle.std.proofs.Common.{◌≡◌, ◌≤◌, ◌+◌, ◌-◌, ◌++◌, ◌∙◌, ℕ, zero, suc, List, [], ◌∷◌, length, map, take, drop, refl, ap, ap₂, sym, subst, arith, length-take, length-drop}
-use Rattle.std.specs.Prelude.{ℤ, replicate, codes}
-use Rattle.std.specs.List.{AllByRecursion, AllZip, flat_map}
-use Rattle.std.proofs.lemmas.List.{length-append, length-map, length-replicate, take_at, drop_at}
-use Rattle.crn_vec.specs.Network.{Net}
-use Rattle.crn_vec.proofs.CallerLemmas.{zip_long}
-use Rattle.crn_cert.specs.Questions.{Earlier}
-use Rattle.crn_cert.specs.Ranges.{AreBits, AreFree, AreFreeRows}
-use Rattle.crn_cert.specs.declared.answer.RankProof.{RankProof}
-use Rattle.crn_cert.specs.Parts.{IsRankProof, AreClassProofs, AreSides}
-use Rattle.crn_cert.specs.Valid.{class_places}
-use Rattle.crn_cert.specs.Verdicts.{tight_rank}
-use Rattle.crn_cert.specs.Data.{Datum, Nums, Ints, FreeSeveral, Side}
-use Rattle.crn_cert.specs.Table.{Row, row, rank_rows, rank_in, class_rows}
-use Rattle.crn_cert.specs.Blocks.{FitsRow, list_in, rank_data, rank_proof, class_proofs, side_data}
+use Rattle.crn_cert.proofs.Prelude.{◌≡◌, ◌≤◌, ◌+◌, ◌-◌, ◌++◌, ◌∙◌, ℕ, zero, suc, List, [], ◌∷◌, length, map, take, drop, refl, ap, ap₂, sym, subst, arith, length-drop, ℤ, replicate, codes, AllByRecursion, AllZip, flat_map, length-append, length-map, length-replicate, take_at, drop_at, Net, zip_long, Earlier, AreBits, AreFree, AreFreeRows, RankProof, IsRankProof, AreClassProofs, AreSides, class_places, tight_rank, Datum, Nums, Ints, FreeSeveral, Side, Row, row, rank_rows, rank_in, class_rows, FitsRow, list_in, rank_data, rank_proof, class_proofs, side_data}
+use Rattle.std.proofs.Common.{length-take}
 
 -- ---- rows of free numbers
 

@@ -1,20 +1,6 @@
 -- The block of the answer of a block that fits is that block.
-use Rattle.std.proofs.Common.{◌≡◌, ◌≤◌, ◌-◌, ◌++◌, ◌∙◌, ◌==◌, ℕ, zero, suc, Bool, true, false, List, [], ◌∷◌, length, map, take, drop, refl, sym, ap, ap₂, subst, arith}
-use Rattle.std.specs.Prelude.{replicate, codes}
-use Rattle.std.specs.List.{AllZip, flat_map, range_with_len}
-use Rattle.std.proofs.lemmas.List.{length-replicate, take_at, drop_at}
-use Rattle.crn_vec.proofs.CallerLemmas.{zip_long}
-use Rattle.crn_vec.specs.Network.{Net}
-use Rattle.crn_cert.specs.Questions.{Earlier, Question, Q1, Q2, Q3, Q4, Q5, Q6, Q7, Q8, Q9, Q10, Q11, Q12, Q13, Q14, Q15, on}
-use Rattle.crn_cert.specs.Trees.{Plan}
-use Rattle.crn_cert.specs.Valid.{class_places, pair_places}
-use Rattle.crn_cert.specs.Questions.{is_yes}
-use Rattle.crn_cert.specs.declared.head_kind.HeadKind.{HeadKind}
-use Rattle.crn_cert.specs.declared.head_kind.HeadKind.TheVariants.{Classes, Strong, Rank, Deficiency, Yes, YesWeak, YesVec, YesSignal, No, NoReaction, NoVec, NoNumber, NoTerminal, NoClass, NoSum, NoDependence, NoCycle, NoPair, NotRegular, OnlyZero, Plane, NotApplicable, Wide, Budget, Rests}
-use Rattle.crn_cert.specs.Data.{Datum, Num, Nums, Ints, Marks, Led, FreeSeveral, Side}
-use Rattle.crn_cert.specs.Table.{TreeRow, row, rows, rank_rows, rank_in, class_rows, fields, trees, one_or_two, signal_tree, sizes_of}
-use Rattle.crn_cert.specs.Blocks.{FitsRow, FitsTree, FitsHead, block_of, verdict_of, proof_of, list_in, one_if, rank_data, rank_proof, class_length, class_proofs, side_data}
-use Rattle.crn_cert.specs.BlockLaw.{BlocksAreOfAnswers}
+use Rattle.crn_cert.proofs.Prelude.{◌≡◌, ◌≤◌, ◌-◌, ◌++◌, ◌∙◌, ◌==◌, ℕ, zero, suc, Bool, true, false, List, [], ◌∷◌, length, map, take, drop, refl, sym, ap, ap₂, subst, arith, replicate, codes, AllZip, flat_map, range_with_len, length-replicate, take_at, drop_at, zip_long, Net, Earlier, Question, Q1, Q2, Q3, Q4, Q5, Q6, Q7, Q8, Q9, Q10, Q11, Q12, Q13, Q14, Q15, on, Plan, class_places, pair_places, is_yes, HeadKind, No, Datum, Num, Nums, Ints, Marks, Led, FreeSeveral, Side, TreeRow, row, rows, rank_rows, rank_in, class_rows, fields, trees, one_or_two, signal_tree, sizes_of, FitsRow, FitsTree, FitsHead, block_of, verdict_of, proof_of, list_in, one_if, rank_data, rank_proof, class_length, class_proofs, side_data, BlocksAreOfAnswers}
+use Rattle.crn_cert.specs.declared.head_kind.HeadKind.TheVariants.{Classes, Strong, Rank, Deficiency, Yes, YesWeak, YesVec, YesSignal, NoReaction, NoVec, NoNumber, NoTerminal, NoClass, NoSum, NoDependence, NoCycle, NoPair, NotRegular, OnlyZero, Plane, NotApplicable, Wide, Budget, Rests}
 use Rattle.crn_cert.proofs.BlockRows.{free_lists, cut_rows, rank_long}
 use Rattle.crn_cert.proofs.DatumShapes.{AllOf, given, fields_in, fields_of, head_back, rows_back}
 

@@ -1,16 +1,6 @@
 -- Labels, trees, levels and exits that pass the tests are right.
-use Rattle.std.proofs.Common.{◌≡◌, ◌⊎◌, ℕ, zero, suc, ◌+◌, ◌-◌, ◌<◌, ◌≤◌, List, [], ◌∷◌, length, get_or, refl, sym, subst, ◌∙◌, inl, inr, arith}
-use Rattle.std.specs.List.{AllByRecursion}
-use Rattle.std.proofs.lemmas.Bool.{cases_lt, cases_eq}
-use Rattle.crn_vec.specs.Lists.{IsIn}
-use Rattle.crn_vec.specs.Network.{Net, IsNetwork}
-use Rattle.crn_vec.specs.Linkage.{IsLinked, SameClass}
-use Rattle.crn_vec.specs.Strong.{IsReaction, ReactsTo, Reaches, SameStrong, IsTerminal, LeavesClass, AreRightStrongLabels, AreExits}
-use Rattle.crn_vec.proofs.CallerLemmas.{leads_keeps, leads_here, class_then, class_back, class_link, reaches_then, reaches_step}
-use Rattle.crn_vec.proofs.CallerLemmas.{inside_at, reaction_in, place_of}
-use Rattle.crn_cert.specs.Says.{IsReactionNumber, AreLinkageClasses}
-use Rattle.crn_cert.specs.Ranges.{IsFrom}
-use Rattle.crn_cert.specs.ClassTests.{AreNumbered, AreEven, IsFirst, AreLinkTrees, AreFromTrees, AreToTrees, of_class, DoLevelsFall, GoesOut, IsExit, AreAllExits}
+use Rattle.crn_cert.proofs.Prelude.{◌≡◌, ◌⊎◌, ℕ, zero, suc, ◌+◌, ◌-◌, ◌<◌, ◌≤◌, List, [], ◌∷◌, length, get_or, refl, sym, subst, ◌∙◌, inl, inr, arith, AllByRecursion, cases_lt, cases_eq, IsIn, Net, IsNetwork, IsLinked, SameClass, IsReaction, ReactsTo, Reaches, SameStrong, IsTerminal, LeavesClass, AreRightStrongLabels, AreExits, leads_keeps, leads_here, class_then, class_back, class_link, reaches_then, reaches_step, inside_at, reaction_in, place_of, IsReactionNumber, AreLinkageClasses, IsFrom, AreEven, IsFirst, AreLinkTrees, AreFromTrees, AreToTrees, of_class, DoLevelsFall, GoesOut, IsExit, AreAllExits}
+use Rattle.crn_cert.specs.ClassTests.{AreNumbered}
 
 -- a reaction that is named is one
 pub named_in : (net : Net) (r y z : ℕ) → IsReactionNumber net r y z → IsIn (y, z) net.reactions

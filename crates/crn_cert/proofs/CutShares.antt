@@ -1,14 +1,5 @@
 -- The share of cuts fits them.
-use Rattle.std.proofs.Common.{◌≡◌, ◌⊎◌, ◌≤◌, inl, inr, ℕ, zero, suc, ◌+◌, List, [], ◌∷◌, length, map, take, refl, sym, subst, ◌∙◌, arith}
-use Rattle.std.specs.Prelude.{ℤ, pos}
-use Rattle.std.specs.List.{AllZip}
-use Rattle.std.specs.Ordering.{int_eq}
-use Rattle.std.specs.Cmp.Lexicographic.{pointwise}
-use Rattle.std.specs.Cmp.Rules.{signed_items}
-use Rattle.std.proofs.lemmas.Bool.{cases_Bool}
-use Rattle.crn_vec.specs.Lists.{firsts}
-use Rattle.crn_vec.proofs.CallerLemmas.{firsts_from, all_in, all_from, in_take}
-use Rattle.crn_cert.specs.Shares.{HasAt, IsShareable, number_in, share_of_cuts, SharesFit}
+use Rattle.crn_cert.proofs.Prelude.{◌≡◌, ◌⊎◌, ◌≤◌, inl, inr, ℕ, zero, suc, ◌+◌, List, [], ◌∷◌, length, map, take, refl, sym, subst, ◌∙◌, arith, ℤ, pos, AllZip, int_eq, pointwise, signed_items, cases_Bool, firsts, firsts_from, all_in, all_from, in_take, HasAt, IsShareable, number_in, share_of_cuts, SharesFit}
 
 take_few : {A : Type 0} (n : ℕ) (xs : List A) → length (take n xs) ≤ n
 take_few zero xs = omega arith

@@ -1,20 +1,5 @@
 -- Sides and walks that pass the tests show cut pairs, and that a pair is none.
-use Rattle.std.proofs.Common.{◌≡◌, ℕ, ◌<◌, List, [], ◌∷◌, length, get_or, sym, inl, inr, arith}
-use Rattle.std.specs.Prelude.{ℤ}
-use Rattle.std.proofs.lemmas.Int.{ints}
-use Rattle.std.proofs.lemmas.Bool.{cases_eq}
-use Rattle.crn_vec.specs.Network.{Net, IsNetwork}
-use Rattle.crn_vec.specs.Linkage.{SameClass}
-use Rattle.crn_vec.specs.Walks.{LeadsTo}
-use Rattle.crn_vec.specs.Strong.{AreRightStrongLabels, AreExits}
-use Rattle.crn_vec.specs.CutPairs.{IsFreeStep, IsCutPair, IsMarking}
-use Rattle.crn_vec.specs.Deficiency.{IsLabelled}
-use Rattle.crn_vec.proofs.CallerLemmas.{lt_or, past_end}
-use Rattle.crn_vec.proofs.CallerLemmas.{class_then, class_link}
-use Rattle.crn_vec.proofs.CallerLemmas.{marking_is_cut, marks_are_sides}
-use Rattle.crn_cert.specs.Says.{WalkLeads, IsCycle, from_zero}
-use Rattle.crn_cert.specs.ClassTests.{of_class, AreSideMarks, IsWayRound}
-use Rattle.crn_cert.specs.Law.{TestedMarksAreSides}
+use Rattle.crn_cert.proofs.Prelude.{◌≡◌, ℕ, ◌<◌, List, [], ◌∷◌, length, get_or, sym, inl, inr, arith, ℤ, ints, cases_eq, Net, IsNetwork, SameClass, LeadsTo, AreRightStrongLabels, AreExits, IsFreeStep, IsCutPair, IsMarking, IsLabelled, lt_or, past_end, class_then, class_link, marking_is_cut, marks_are_sides, WalkLeads, IsCycle, from_zero, of_class, AreSideMarks, IsWayRound, TestedMarksAreSides}
 use Rattle.crn_cert.proofs.ClassesRight.{named_in, named_inside}
 
 -- marks that pass the test are a marking

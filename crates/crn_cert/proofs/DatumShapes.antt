@@ -1,10 +1,6 @@
 -- Data that fit fields are those of a tuple of numbers and lists, whatever the fields.
-use Rattle.std.proofs.Common.{◌≡◌, ℕ, List, [], ◌∷◌, map, refl, ap₂}
-use Rattle.std.specs.Prelude.{ℤ, Option, Some, None}
-use Rattle.std.specs.List.{AllZip}
-use Rattle.crn_cert.specs.Data.{Datum, Num, Two, Int, Nums, Ints, Marks, Led, Basis, Field, One, CountAndPart, TwoOf, Several, OneAnd, Walk, Members, Free, FreeSeveral, Turn, Shelves, Side, Wide, WideOf, ClassWide, Fits}
-use Rattle.crn_cert.specs.Table.{Row}
-use Rattle.crn_cert.specs.Blocks.{FitsRow, FitsFields}
+use Rattle.crn_cert.proofs.Prelude.{◌≡◌, ℕ, List, [], ◌∷◌, map, refl, ap₂, ℤ, Option, Some, None, AllZip, Datum, Num, Int, Nums, Ints, Marks, Led, Basis, Field, CountAndPart, TwoOf, Several, OneAnd, Walk, Members, Free, FreeSeveral, Turn, Shelves, Side, WideOf, ClassWide, Row, FitsRow, FitsFields}
+use Rattle.crn_cert.specs.Data.{Two, One, Wide, Fits}
 
 -- what a field has
 abbrev pub Of : Field → Type 0

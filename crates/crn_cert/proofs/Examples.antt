@@ -1,31 +1,6 @@
 -- Parts of definitions that compute, at small networks worked by hand.
-use Rattle.std.proofs.Common.{◌≡◌, ℕ, ◌≤◌, List, [], ◌∷◌, refl, arith, lit≤}
-use Rattle.std.specs.Prelude.{pos, negsuc}
-use Rattle.std.specs.List.{range_with_len}
-use Rattle.crn_vec.specs.declared.limits.TheConstants.{WIDE_SOLUTION}
-use Rattle.crn_vec.specs.Kept.{KeptNums}
-use Rattle.crn_vec.specs.Rank.{combination_at}
-use Rattle.crn_vec.specs.Deficiency.{vectors}
-use Rattle.crn_vec.specs.NetSystems.{reaction_system, confluence_system}
-use Rattle.crn_cert.specs.declared.answer.Verdict.TheVariants.{Classes, Strong, NotRegular, NotApplicable}
-use Rattle.crn_cert.specs.ConfluenceTests.{least_from, others_than, tie_at}
-use Rattle.crn_cert.specs.RankTests.{outside}
-use Rattle.crn_vec.specs.declared.signs.Sign.TheVariants.{Zero, Plus, Minus}
-use Rattle.crn_vec.specs.Influence.{plain_table, strong_table}
-use Rattle.crn_cert.specs.Tests.{Test}
-use Rattle.crn_cert.specs.Trees.{Plan, Both, Three, RulesA, Level, IsFormedTree}
-use Rattle.crn_cert.specs.TreeTests.{tree_tests}
-use Rattle.crn_cert.specs.Shares.{cuts_of}
-use Rattle.crn_vec.specs.Network.{Net}
-use Rattle.crn_cert.specs.declared.answer.Gap.TheVariants.{Budget}
-use Rattle.crn_cert.specs.declared.answer.Verdict.TheVariants.{Unknown}
-use Rattle.crn_cert.specs.Questions.{Earlier}
-use Rattle.crn_cert.specs.Formed.{HeadMayBe}
-use Rattle.crn_cert.specs.Licensed.{MayRestOn}
-use Rattle.crn_cert.specs.Valid.{terminals_in, class_places, pair_places}
+use Rattle.crn_cert.proofs.Prelude.{◌≡◌, ℕ, ◌≤◌, List, [], ◌∷◌, refl, arith, lit≤, pos, negsuc, range_with_len, WIDE_SOLUTION, KeptNums, combination_at, vectors, reaction_system, confluence_system, Classes, Strong, NotRegular, NotApplicable, least_from, others_than, tie_at, outside, Zero, Plus, Minus, plain_table, strong_table, Test, Plan, Both, Three, RulesA, Level, IsFormedTree, tree_tests, cuts_of, Net, Budget, Unknown, Earlier, HeadMayBe, MayRestOn, terminals_in, class_places, pair_places, Earlier, Q1, Q2, Q6, Q7, Q12, Q13, on, fault_number}
 use Rattle.crn_cert.proofs.Networks.{chain, enzyme}
-use Rattle.crn_cert.specs.Questions.{Earlier, Q1, Q2, Q6, Q7, Q12, Q13, on}
-use Rattle.crn_cert.specs.Faults.{fault_number}
 
 abbrev listed : List ℕ → KeptNums
 listed xs = record { list = xs; spare = 0 }

@@ -1,7 +1,5 @@
 -- Members of filtered ranges, and tests of which one holds.
-use Rattle.std.proofs.Common.{◌≡◌, ℕ, ◌+◌, ◌<◌, ◌≤◌, ◌⊎◌, inl, inr, Bool, true, false, refl, ◌||◌}
-use Rattle.std.specs.List.{range_with_len, list_any}
-use Rattle.crn_vec.proofs.CallerLemmas.{any_some, range_bounds}
+use Rattle.crn_cert.proofs.Prelude.{◌≡◌, ℕ, ◌+◌, ◌<◌, ◌≤◌, ◌⊎◌, inl, inr, Bool, true, false, refl, ◌||◌, range_with_len, list_any, any_some, range_bounds}
 
 -- a number of the range passes the test
 pub some_place : (test : ℕ → Bool) (a n : ℕ) → list_any test (range_with_len a n) ≡ true → (c : ℕ) × (a ≤ c) × (c < a + n) × (test c ≡ true)

@@ -1,24 +1,7 @@
 -- What the block of a formed answer tells of its proof: proofs of ranks, sides, and trees.
-use Rattle.std.proofs.Common.{◌≡◌, Bool, true, false, ℕ, List, [], ◌∷◌, length, refl, sym, ap, subst}
-use Rattle.std.specs.Prelude.{◌+◌, ◌-◌, ℤ, min, codes}
-use Rattle.std.specs.Option.{IsSome}
-use Rattle.std.specs.List.{AllZip, range_with_len}
-use Rattle.crn_vec.specs.Kept.{KeptInts, KeptNums}
-use Rattle.crn_vec.specs.Network.{Net}
-use Rattle.crn_cert.specs.declared.answer.Verdict.{Verdict}
-use Rattle.crn_cert.specs.declared.answer.Verdict.TheVariants.{Rank, Deficiency, Yes, YesVec, OnlyZero}
-use Rattle.crn_cert.specs.declared.answer.Proof.{Proof}
-use Rattle.crn_cert.specs.declared.answer.Proof.TheVariants.{Nothing, Rank as RankRows, Ranks, Sides, Ties, One, Two}
-use Rattle.crn_cert.specs.declared.answer.RankProof.{RankProof}
-use Rattle.crn_cert.specs.Questions.{Earlier, Question, Q4, Q5, Q6, Q11, Q12, on, is_yes, has_vector, vector_given, IsYes}
-use Rattle.crn_cert.specs.Trees.{Plan}
-use Rattle.crn_cert.specs.Valid.{linkage_count, pair_places}
-use Rattle.crn_cert.specs.Ranges.{IsFrom, AreFrom, AreFree, AreFreeRows}
-use Rattle.crn_cert.specs.Parts.{IsRankProof, AreClassProofs, AreSides, AreSignalTrees}
-use Rattle.crn_cert.specs.Table.{TreeRow, one_or_two, signal_tree, sizes_of}
-use Rattle.crn_cert.specs.Blocks.{FitsTree, trees_of, proof_by}
-use Rattle.crn_cert.specs.Verdicts.{tight_proof}
-use Rattle.crn_cert.specs.Formed.{IsFormedOf}
+use Rattle.crn_cert.proofs.Prelude.{◌≡◌, Bool, true, false, ℕ, List, [], ◌∷◌, length, refl, sym, ap, subst, ℤ, min, codes, IsSome, AllZip, range_with_len, KeptInts, KeptNums, Net, Verdict, Rank, Deficiency, Yes, YesVec, OnlyZero, Proof, Nothing, RankRows, Ranks, Sides, Ties, One, Two, RankProof, Earlier, Question, Q4, Q5, Q6, Q11, Q12, on, is_yes, has_vector, vector_given, IsYes, Plan, linkage_count, pair_places, IsFrom, AreFrom, AreFree, AreFreeRows, IsRankProof, AreClassProofs, AreSides, AreSignalTrees, TreeRow, one_or_two, signal_tree, sizes_of, FitsTree, proof_by, tight_proof, IsFormedOf}
+use Rattle.std.specs.Prelude.{◌+◌, ◌-◌}
+use Rattle.crn_cert.specs.Blocks.{trees_of}
 use Rattle.crn_cert.proofs.BlockRows.{ranks_there, ranks_back, rank_again, classes_there, classes_back, classes_again, duals_counted, sides_there, sides_back, sides_again, free_back, list_back}
 
 -- ---- answers without a proof

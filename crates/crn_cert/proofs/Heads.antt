@@ -1,17 +1,5 @@
 -- The form and the tests of a head look at no list whose records come later.
-use Rattle.std.proofs.Common.{◌≡◌, List, refl, sym, ap, subst}
-use Rattle.crn_vec.specs.Network.{Net}
-use Rattle.crn_cert.specs.declared.answer.Verdict.{Verdict}
-use Rattle.crn_cert.specs.declared.answer.Verdict.TheVariants.{Unknown}
-use Rattle.crn_cert.specs.Questions.{Earlier, Question, Q1, Q2, Q3, Q4, Q5, Q6, Q7, Q8, Q9, Q10, Q11, Q12, Q13, Q14, Q15}
-use Rattle.crn_cert.specs.Valid.{head_tests}
-use Rattle.crn_cert.specs.declared.head_kind.HeadKind.{HeadKind}
-use Rattle.crn_cert.specs.Data.{Datum}
-use Rattle.crn_cert.specs.Table.{sizes_of}
-use Rattle.crn_cert.specs.Blocks.{FitsHead, head_of}
-use Rattle.crn_cert.specs.Formed.{HeadMayBe}
-use Rattle.crn_cert.specs.Tests.{Test, AllHold, FailsFirst}
-use Rattle.crn_cert.specs.Heads.{bare, HeadsDependOnNoLists}
+use Rattle.crn_cert.proofs.Prelude.{◌≡◌, List, refl, sym, ap, subst, Net, Verdict, Unknown, Earlier, Question, Q1, Q2, Q3, Q4, Q5, Q6, Q7, Q8, Q9, Q10, Q11, Q12, Q13, Q14, Q15, head_tests, HeadKind, Datum, sizes_of, FitsHead, head_of, HeadMayBe, Test, AllHold, FailsFirst, bare, HeadsDependOnNoLists}
 
 pub tests_by_heads : (net : Net) (earlier : Earlier) (q : Question) (v : Verdict) → head_tests net earlier q v ≡ head_tests net earlier q (bare v)
 tests_by_heads net earlier Q1 v = refl

@@ -1,19 +1,5 @@
 -- The tests of confluence vectors and ties, against the definitions.
-use Rattle.std.proofs.Common.{◌≡◌, ◌≢◌, ℕ, zero, suc, ◌-◌, ◌<◌, List, [], ◌∷◌, length, get_or, map, refl, sym, ap, subst, ◌∙◌, inl, inr, arith}
-use Rattle.std.specs.Prelude.{ℤ, pos, ◌≤ℤ◌}
-use Rattle.std.specs.List.{AllByRecursion, range_with_len}
-use Rattle.crn_vec.specs.Network.{Net}
-use Rattle.crn_vec.specs.Linkage.{SameClass, IsLabelCount}
-use Rattle.crn_vec.specs.Vectors.{entry, dot, column}
-use Rattle.crn_vec.specs.Strong.{SameStrong, AreRightStrongLabels, AreExits}
-use Rattle.crn_vec.specs.Sums.{SumsTo, label_marks}
-use Rattle.crn_vec.specs.Deficiency.{IsLabelled}
-use Rattle.crn_vec.specs.Confluence.{InConfluenceSpace, HasConfluenceLine, HasNoConfluence, IsNonzero, IsConfluenceVector}
-use Rattle.crn_vec.specs.NetSystems.{confluence_system, by_species}
-use Rattle.crn_vec.proofs.CallerLemmas.{lt_or, past_end}
-use Rattle.crn_vec.proofs.CallerLemmas.{dot-comm, dots}
-use Rattle.crn_vec.proofs.CallerLemmas.{label_sum, label_sum_is, all_append, all_range}
-use Rattle.crn_cert.specs.ConfluenceTests.{IsInSpace, DoTerminalsGather, IsTie}
+use Rattle.crn_cert.proofs.Prelude.{◌≡◌, ◌≢◌, ℕ, zero, suc, ◌-◌, ◌<◌, List, [], ◌∷◌, length, get_or, map, refl, sym, ap, subst, ◌∙◌, inl, inr, arith, ℤ, pos, ◌≤ℤ◌, AllByRecursion, range_with_len, Net, SameClass, IsLabelCount, entry, dot, column, SameStrong, AreRightStrongLabels, AreExits, SumsTo, label_marks, IsLabelled, InConfluenceSpace, HasConfluenceLine, HasNoConfluence, IsNonzero, IsConfluenceVector, confluence_system, by_species, lt_or, past_end, dot-comm, dots, label_sum, label_sum_is, all_append, all_range, IsInSpace, DoTerminalsGather, IsTie}
 use Rattle.crn_cert.proofs.Ties.{IsKept, AreTied, zero_by_tie, one_line}
 
 -- ---- lists

@@ -1,20 +1,5 @@
 -- What true earlier verdicts give to later questions.
-use Rattle.std.proofs.Common.{ℕ, ◌-◌, ◌<◌, ◌≤◌, List, [], ◌∷◌, length, get_or, refl, sym, ap, subst, ◌∙◌, inl, inr, arith}
-use Rattle.std.specs.List.{range_with_len, count_by}
-use Rattle.crn_vec.specs.Network.{Net}
-use Rattle.crn_vec.specs.Linkage.{SameClass, IsLabelCount}
-use Rattle.crn_vec.specs.Walks.{IsNumberOf}
-use Rattle.crn_vec.specs.Strong.{SameStrong, IsTerminal, IsWeaklyReversible}
-use Rattle.crn_vec.specs.Deficiency.{IsComplex, HasTerminalClasses, HasOneTerminalEach, IsFirstSplitClass, IsPositivelyDependent}
-use Rattle.crn_vec.specs.Confluence.{IsRegular}
-use Rattle.crn_vec.proofs.CallerLemmas.{strong_then, strong_back, weakly_reversible_by_reactions}
-use Rattle.crn_vec.proofs.CallerLemmas.{reaction_in}
-use Rattle.crn_cert.specs.declared.answer.Verdict.{Verdict}
-use Rattle.crn_cert.specs.declared.answer.Verdict.TheVariants.{Classes, Strong, Yes, YesWeak, YesVec, NoReaction, NoVec, NoTerminal, NoDependence, NoCycle}
-use Rattle.crn_cert.specs.Questions.{Earlier, Q1, Q2, Q4, Q7, Q11, on, labels_of, count_of, exits_of, terminal_of, IsYes, IsNo}
-use Rattle.crn_cert.specs.Says.{IsTrueOf, AreLinkageClasses, AreStrongClasses}
-use Rattle.crn_cert.specs.Law.{IsTrueOrOpen}
-use Rattle.crn_cert.specs.Valid.{linkage, linkage_count, strong, exits, is_terminal_in, terminals_in, HaveOneEach, IsFirstSplit}
+use Rattle.crn_cert.proofs.Prelude.{ℕ, ◌-◌, ◌<◌, ◌≤◌, List, [], ◌∷◌, length, get_or, refl, sym, ap, subst, ◌∙◌, inl, inr, arith, range_with_len, count_by, Net, SameClass, IsLabelCount, IsNumberOf, SameStrong, IsTerminal, IsWeaklyReversible, IsComplex, HasTerminalClasses, HasOneTerminalEach, IsFirstSplitClass, IsPositivelyDependent, IsRegular, strong_then, strong_back, weakly_reversible_by_reactions, reaction_in, Verdict, Classes, Strong, Yes, YesWeak, YesVec, NoReaction, NoVec, NoTerminal, NoDependence, NoCycle, Earlier, Q1, Q2, Q4, Q7, Q11, on, labels_of, count_of, exits_of, terminal_of, IsYes, IsNo, IsTrueOf, AreLinkageClasses, AreStrongClasses, IsTrueOrOpen, linkage, linkage_count, strong, exits, is_terminal_in, terminals_in, HaveOneEach, IsFirstSplit}
 use Rattle.crn_cert.proofs.StrongRight.{class_terminals}
 
 -- ---- the classes

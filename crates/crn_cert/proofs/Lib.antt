@@ -42,3 +42,4 @@ mod BlockRows
 mod DatumShapes
 mod BlocksMade
 mod FormedFacts
+mod Prelude

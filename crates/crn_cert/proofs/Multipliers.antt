@@ -1,22 +1,6 @@
 -- Multipliers that rule out positive vectors, and duals that show independence.
-use Rattle.std.proofs.Common.{◌≡◌, ◌≢◌, ℕ, zero, suc, ◌<◌, ◌≤◌, List, [], ◌∷◌, length, get_or, refl, sym, ap, subst, ◌∙◌, inl, inr, arith}
-use Rattle.std.specs.Prelude.{ℤ, pos, negsuc, ◌*ℤ◌, ◌≤ℤ◌, neg_ℤ}
-use Rattle.std.specs.List.{AllByRecursion}
-use Rattle.std.proofs.lemmas.Int.{ints}
-use Rattle.std.proofs.lemmas.List.{length-map}
+use Rattle.crn_cert.proofs.Prelude.{◌≡◌, ◌≢◌, ℕ, zero, suc, ◌<◌, ◌≤◌, List, [], ◌∷◌, length, get_or, refl, sym, ap, subst, ◌∙◌, inl, inr, arith, ℤ, pos, negsuc, ◌*ℤ◌, ◌≤ℤ◌, neg_ℤ, AllByRecursion, ints, length-map, IsIn, Net, reaction_vector, entry, dot, column, IsIndependent, vectors, IsPositive, IsPositivelyDependent, IsConservative, mul-neg, pos_pos, no_zero, up_up, past_end, lt_or, listed, listed_zeros, across, dot-comm, dots, dot_zero, entry-dots, dot_single, RuleOutDependence, RuleOutConservation, IsDual}
 use lib.IntN.{*ℤ_comm, *ℤ-zero, zero-*ℤ}
-use Rattle.crn_vec.specs.Lists.{IsIn}
-use Rattle.crn_vec.specs.Network.{Net, reaction_vector}
-use Rattle.crn_vec.specs.Vectors.{entry, dot, column}
-use Rattle.crn_vec.specs.Rank.{IsIndependent}
-use Rattle.crn_vec.specs.Deficiency.{vectors, IsPositive, IsPositivelyDependent, IsConservative}
-use Rattle.crn_vec.proofs.CallerLemmas.{mul-neg, pos_pos, no_zero}
-use Rattle.crn_vec.proofs.CallerLemmas.{up_up}
-use Rattle.crn_vec.proofs.CallerLemmas.{past_end, lt_or}
-use Rattle.crn_vec.proofs.CallerLemmas.{listed, listed_zeros, across}
-use Rattle.crn_vec.proofs.CallerLemmas.{dot-comm, dots, dot_zero, entry-dots, dot_single}
-use Rattle.crn_cert.specs.Says.{RuleOutDependence, RuleOutConservation}
-use Rattle.crn_cert.specs.RankTests.{IsDual}
 
 falls : (a x : ℤ) → pos 1 ≤ℤ a → x ≤ℤ pos 0 → (a *ℤ x) ≤ℤ pos 0
 falls a x p q = let h : pos 0 ≤ℤ (a *ℤ neg_ℤ x) = up_up a (neg_ℤ x) (omega (arith, ints, p)) (omega (arith, ints, q)) in omega (arith, ints, h, mul-neg a x)

@@ -1,10 +1,5 @@
 -- Lists of small numbers are lists of numbers of a certificate.
-use Rattle.std.proofs.Common.{ℕ, suc, ◌<◌, List, [], ◌∷◌, length, arith}
-use Rattle.std.specs.Prelude.{ℤ, unsigned_abs}
-use Rattle.std.specs.List.{AllByRecursion}
-use Rattle.crn_vec.specs.declared.limits.TheConstants.{WIDE_ENTRY}
-use Rattle.crn_vec.specs.Vectors.{entry}
-use Rattle.crn_cert.specs.Ranges.{IsNarrow}
+use Rattle.crn_cert.proofs.Prelude.{ℕ, suc, ◌<◌, List, [], ◌∷◌, length, arith, ℤ, unsigned_abs, AllByRecursion, WIDE_ENTRY, entry, IsNarrow}
 
 pub narrow_all : (xs : List ℤ) → ((k : ℕ) → k < length xs → unsigned_abs (entry xs k) < WIDE_ENTRY) → AllByRecursion IsNarrow xs
 narrow_all [] h = tt

@@ -1,6 +1,6 @@
 -- Small networks that are worked by hand.
-use Rattle.std.specs.Prelude.{pos, [], ◌∷◌}
-use Rattle.crn_vec.specs.Network.{Net}
+use Rattle.crn_cert.proofs.Prelude.{pos, Net}
+use Rattle.std.specs.Prelude.{[], ◌∷◌}
 
 -- A <-> B
 abbrev pub both_ways : Net

@@ -1,12 +1,5 @@
 -- A regular network whose confluence vectors are multiples of one has no signal if that one has none, nor its negative in a weakly reversible network.
-use Rattle.std.proofs.Common.{◌∙◌, List, sym, inl, inr}
-use Rattle.std.specs.Prelude.{ℤ, negsuc}
-use Rattle.crn_vec.specs.Network.{Net, IsNetwork}
-use Rattle.crn_vec.specs.Strong.{IsWeaklyReversible}
-use Rattle.crn_vec.specs.Confluence.{IsRegular, HasConfluenceLine, IsConfluenceVector, negative}
-use Rattle.crn_vec.specs.NetSignals.{HasNoSignal}
-use Rattle.crn_vec.proofs.CallerLemmas.{confluence_vectors_are_one, length-scale, multiples_share_signals}
-use Rattle.crn_cert.specs.Says.{HasNoSignals}
+use Rattle.crn_cert.proofs.Prelude.{◌∙◌, List, sym, inl, inr, ℤ, negsuc, Net, IsNetwork, IsWeaklyReversible, IsRegular, HasConfluenceLine, IsConfluenceVector, negative, HasNoSignal, confluence_vectors_are_one, length-scale, multiples_share_signals, HasNoSignals}
 
 pub none_at_all : (net : Net) (g : List ℤ) → IsNetwork net → IsRegular net → HasConfluenceLine net → IsConfluenceVector net g → HasNoSignal net g → (IsWeaklyReversible net.reactions → HasNoSignal net (negative g)) → HasNoSignals net
 none_at_all net g n regular line c none second h d shelves mu level weights sg =

@@ -1,17 +1,5 @@
 -- The pairs that are computed from true strong classes are the linked pairs of terminal classes, each by its least reaction.
-use Rattle.std.proofs.Common.{◌≡◌, ℕ, ◌+◌, ◌-◌, ◌<◌, ◌≤◌, Bool, true, false, List, [], ◌∷◌, length, get_or, refl, sym, ap, subst, ◌∙◌, inl, inr, arith, ◌==◌, ◌&&◌, ◌||◌, not}
-use Rattle.std.specs.List.{range_with_len, list_any}
-use Rattle.std.proofs.lemmas.Bool.{cases_Bool, eq-eqb, eqb-true}
-use Rattle.crn_vec.specs.Lists.{IsIn, IsAscending}
-use Rattle.crn_vec.specs.Network.{Net, IsNetwork}
-use Rattle.crn_vec.specs.CutPairs.{IsBetween, IsFirstOfPair}
-use Rattle.crn_vec.proofs.CallerLemmas.{reaction_in, inside_at, in_range, filter_from, filter_has, range_above, range_bounds, filter_above, above_ascending, and_cases, and_true}
-use Rattle.crn_vec.proofs.CallerLemmas.{or_right, not_true, any_has}
-use Rattle.crn_cert.specs.Questions.{Earlier, Q2, on, count_of}
-use Rattle.crn_cert.specs.Says.{from_zero}
-use Rattle.crn_cert.specs.ClassTests.{of_class}
-use Rattle.crn_cert.specs.Valid.{strong, exits, ends_at, is_within_terminal, is_same_pair, is_least_of_pair, pair_places}
-use Rattle.crn_cert.specs.Law.{PairPlacesArePairs}
+use Rattle.crn_cert.proofs.Prelude.{◌≡◌, ℕ, ◌+◌, ◌-◌, ◌<◌, ◌≤◌, Bool, true, false, List, [], ◌∷◌, length, get_or, refl, sym, ap, subst, ◌∙◌, inl, inr, arith, ◌==◌, ◌&&◌, ◌||◌, not, range_with_len, list_any, cases_Bool, eq-eqb, eqb-true, IsIn, IsAscending, Net, IsNetwork, IsBetween, IsFirstOfPair, reaction_in, inside_at, in_range, filter_from, filter_has, range_above, range_bounds, filter_above, above_ascending, and_cases, and_true, or_right, not_true, any_has, Earlier, Q2, on, count_of, from_zero, of_class, strong, exits, ends_at, is_within_terminal, is_same_pair, is_least_of_pair, pair_places, PairPlacesArePairs}
 use Rattle.crn_cert.proofs.Filters.{some_place, or_either}
 use Rattle.crn_cert.proofs.Known.{StrongKnown, strong_known}
 use Rattle.crn_cert.proofs.RankLaws.{from_zero_ascending}

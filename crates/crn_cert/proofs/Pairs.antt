@@ -1,20 +1,8 @@
 -- Every linked pair of a terminal class has a least reaction, whose side is tested.
-use Rattle.std.proofs.Common.{◌≡◌, ◌⊎◌, ℕ, zero, suc, ◌+◌, ◌-◌, ◌<◌, ◌≤◌, Bool, true, false, List, [], ◌∷◌, length, get_or, refl, sym, ap, subst, ◌∙◌, inl, inr, arith, ◌==◌, ◌&&◌, not}
-use Rattle.std.specs.Prelude.{ℤ}
-use Rattle.std.specs.List.{AllByRecursion, range_with_len, list_any}
-use Rattle.std.proofs.lemmas.Bool.{eq-eqb, eqb-true}
-use Rattle.crn_vec.specs.Lists.{IsIn}
-use Rattle.crn_vec.specs.Network.{Net, IsNetwork}
-use Rattle.crn_vec.specs.CutPairs.{IsCutPair, IsTerminalPair}
-use Rattle.crn_vec.proofs.CallerLemmas.{place_of, inside_at, in_range, filter_has, cut_back, and_cases, and_true}
-use Rattle.crn_cert.specs.Tests.{AllHold}
-use Rattle.crn_cert.specs.ClassTests.{of_class, AreSideMarks}
-use Rattle.crn_cert.specs.Ranges.{AreBits}
-use Rattle.crn_cert.specs.Valid.{linkage, strong, exits, ends_at, is_within_terminal, is_same_pair, is_least_of_pair, pair_places, side_tests}
+use Rattle.crn_cert.proofs.Prelude.{◌≡◌, ◌⊎◌, ℕ, zero, suc, ◌+◌, ◌-◌, ◌<◌, ◌≤◌, Bool, true, false, List, [], ◌∷◌, length, get_or, refl, sym, ap, subst, ◌∙◌, inl, inr, arith, ◌==◌, ◌&&◌, not, ℤ, AllByRecursion, range_with_len, list_any, eq-eqb, eqb-true, IsIn, Net, IsNetwork, IsCutPair, IsTerminalPair, place_of, inside_at, in_range, filter_has, cut_back, and_cases, and_true, AllHold, of_class, AreSideMarks, AreBits, linkage, strong, exits, ends_at, is_within_terminal, is_same_pair, is_least_of_pair, pair_places, side_tests, Earlier}
 use Rattle.crn_cert.proofs.Filters.{some_place, or_either}
 use Rattle.crn_cert.proofs.Known.{ClassesKnown}
 use Rattle.crn_cert.proofs.Cycles.{cut_by_tests}
-use Rattle.crn_cert.specs.Questions.{Earlier}
 
 -- the reaction joins y and z, in one order or the other
 abbrev Joins : ℕ × ℕ → ℕ → ℕ → Type 0

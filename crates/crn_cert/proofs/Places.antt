@@ -1,6 +1,5 @@
 -- The number of each question.
-use Rattle.std.proofs.Common.{◌≡◌, ◌≤◌, ◌-◌, get_or, refl, arith}
-use Rattle.crn_cert.specs.Questions.{Question, Q1, Q2, Q3, Q4, Q5, Q6, Q7, Q8, Q9, Q10, Q11, Q12, Q13, Q14, Q15, number, questions}
+use Rattle.crn_cert.proofs.Prelude.{◌≡◌, ◌≤◌, ◌-◌, get_or, refl, arith, Question, Q1, Q2, Q3, Q4, Q5, Q6, Q7, Q8, Q9, Q10, Q11, Q12, Q13, Q14, Q15, number, questions}
 
 -- a question by its number
 pub numbered : (q : Question) → get_or questions (number q - 1) Q1 ≡ q

@@ -1,22 +1,7 @@
 -- Duals and combinations that pass the tests give the rank.
-use Rattle.std.proofs.Common.{◌≡◌, ◌⊎◌, ℕ, zero, suc, ◌+◌, ◌<◌, Bool, true, false, List, [], ◌∷◌, length, get_or, map, drop, refl, sym, ap, subst, ◌∙◌, inl, inr, arith, ◌==◌, ◌||◌, not, ne_eqb}
-use Rattle.std.specs.Prelude.{ℤ, pos}
-use Rattle.std.specs.List.{AllByRecursion, list_any}
-use Rattle.std.proofs.lemmas.Int.{ints}
-use Rattle.std.proofs.lemmas.Bool.{cases_eq, eq-eqb}
-use Rattle.std.proofs.lemmas.List.{get_or-map, length-map, length-drop}
-use Rattle.crn_vec.specs.Lists.{IsIn, IsAscending}
-use Rattle.crn_vec.specs.Network.{Net}
-use Rattle.crn_vec.specs.Vectors.{entry, dot, column}
-use Rattle.crn_vec.specs.Rank.{IsIndependent, DependsOn, IsRank, chosen}
-use Rattle.crn_vec.proofs.CallerLemmas.{listed, length-listed}
-use Rattle.crn_vec.proofs.CallerLemmas.{unit, dot_unit}
-use Rattle.crn_vec.proofs.CallerLemmas.{entry-column, length-column}
-use Rattle.crn_vec.proofs.CallerLemmas.{base_gives_rank, chosen-suc}
-use Rattle.crn_vec.proofs.CallerLemmas.{eq_or, filter_has, ascending_suc, above_zero, ascending_tail, above_in, below_suc}
-use Rattle.crn_cert.specs.Tests.{AllHold}
-use Rattle.crn_cert.specs.Ranges.{AreFree}
-use Rattle.crn_cert.specs.RankTests.{vector_of, vectors_of, IsDual, IsComb, outside, dual_tests, comb_tests, rank_tests}
+use Rattle.crn_cert.proofs.Prelude.{◌≡◌, ◌⊎◌, ℕ, zero, suc, ◌+◌, ◌<◌, Bool, true, false, List, [], ◌∷◌, length, get_or, map, drop, refl, sym, ap, subst, ◌∙◌, inl, inr, arith, ◌==◌, ◌||◌, not, ℤ, pos, AllByRecursion, list_any, ints, cases_eq, eq-eqb, get_or-map, length-map, IsIn, IsAscending, Net, entry, dot, column, IsIndependent, DependsOn, IsRank, chosen, listed, length-listed, unit, dot_unit, entry-column, length-column, base_gives_rank, chosen-suc, eq_or, filter_has, ascending_suc, above_zero, ascending_tail, above_in, below_suc, AllHold, AreFree, vector_of, vectors_of, IsDual, IsComb, outside, dual_tests, comb_tests, rank_tests}
+use Rattle.std.proofs.Common.{ne_eqb}
+use Rattle.std.proofs.lemmas.List.{length-drop}
 use Rattle.crn_cert.proofs.Multipliers.{duals_independent}
 use Rattle.crn_cert.proofs.TestLists.{hold_parts}
 

@@ -1,30 +1,7 @@
 -- A network whose strong classes are known has a shape for every vector over its complexes.
-use Rattle.std.proofs.Common.{◌≡◌, ℕ, suc, ◌-◌, ◌<◌, Bool, true, false, cond, List, [], ◌∷◌, length, refl, sym, ap, subst, ◌∙◌, inl, inr, arith}
-use Rattle.std.specs.Prelude.{ℤ, Option, Some, None}
-use Rattle.std.specs.List.{AllZip, AllByRecursion}
-use Rattle.std.proofs.lemmas.Bool.{cases_Bool, false≢true}
-use Rattle.std.proofs.lemmas.List.{length-map}
-use Rattle.crn_vec.specs.Lists.{IsIn}
-use Rattle.crn_vec.specs.Vectors.{dot, entry}
-use Rattle.crn_vec.specs.Network.{Net, IsNetwork, IsVector, JoinsTwo}
-use Rattle.crn_vec.specs.Linkage.{IsLinked}
-use Rattle.crn_vec.specs.Deficiency.{IsComplex}
-use Rattle.crn_vec.specs.Strong.{ReactsTo, Reaches, SameStrong, IsTerminal}
-use Rattle.crn_vec.specs.CutPairs.{IsBetween, IsFreeStep, IsOnSide, IsFirstOfPair, ArePairs}
-use Rattle.crn_vec.specs.Sums.{AreMarks, SumsTo}
-use Rattle.crn_vec.specs.Signals.{Pair, Shape}
-use Rattle.crn_vec.specs.NetSignals.{top_at, AreTops, IsPairOf, IsShapeOf}
-use Rattle.crn_vec.proofs.CallerLemmas.{lt_or}
-use Rattle.crn_vec.proofs.CallerLemmas.{sum_by, past_end, listed, length-listed, entry-listed}
-use Rattle.crn_vec.proofs.CallerLemmas.{leads_then, leads_here, leads_step, leads_keeps}
-use Rattle.crn_vec.proofs.CallerLemmas.{reached_marks, marks_for, reaction_in, inside_at}
-use Rattle.crn_vec.proofs.CallerLemmas.{number_is_one, strong_back, strong_then}
+use Rattle.crn_cert.proofs.Prelude.{◌≡◌, ℕ, suc, ◌-◌, ◌<◌, Bool, true, false, cond, List, [], ◌∷◌, length, refl, sym, ap, subst, ◌∙◌, inl, inr, arith, ℤ, Option, Some, None, AllZip, AllByRecursion, cases_Bool, false≢true, length-map, IsIn, dot, entry, Net, IsNetwork, IsVector, JoinsTwo, IsLinked, IsComplex, ReactsTo, Reaches, SameStrong, IsTerminal, IsBetween, IsFreeStep, IsOnSide, IsFirstOfPair, ArePairs, AreMarks, SumsTo, Pair, Shape, top_at, AreTops, IsPairOf, IsShapeOf, lt_or, sum_by, past_end, listed, length-listed, entry-listed, leads_then, leads_here, leads_step, leads_keeps, reached_marks, marks_for, reaction_in, inside_at, number_is_one, strong_back, strong_then, Earlier, Q2, on, count_of, terminal_of, IsTrueOf, from_zero, strong, exits, is_same_pair, pair_places, ShapesExist}
 use Rattle.crn_cert.proofs.TopsCounted.{tops_are_counted}
 use Rattle.crn_cert.proofs.TopsNumbered.{zeros_below, tops_of, tops_are}
-use Rattle.crn_cert.specs.Questions.{Earlier, Q2, on, count_of, terminal_of}
-use Rattle.crn_cert.specs.Says.{IsTrueOf, from_zero}
-use Rattle.crn_cert.specs.Valid.{strong, exits, is_same_pair, pair_places}
-use Rattle.crn_cert.specs.Law.{ShapesExist}
 use Rattle.crn_cert.proofs.Known.{strong_known, terminal_known}
 use Rattle.crn_cert.proofs.PairPlaces.{same_pair, pair_same, pair_places_are_pairs}
 

@@ -1,22 +1,7 @@
 -- The tables of shares: the first distinct lists, one cut after another, and the numbers of lists.
-use Rattle.std.proofs.Common.{Bor, ◌≡◌, ◌⊎◌, ◌≤◌, ◌<◌, inl, inr, ℕ, zero, suc, ◌+◌, ◌-◌, Bool, true, false, ◌||◌, if◌then◌else◌, List, [], ◌∷◌, ◌++◌, length, map, take, get_or, slice_get, Some, refl, sym, ap, ap₂, subst, ◌∙◌, take_all, append_assoc, add-one, arith}
-use Rattle.std.specs.Prelude.{ℤ}
-use Rattle.std.specs.List.{list_any, position, AllByRecursion, IsDistinct}
-use Rattle.std.proofs.lemmas.List.Quantifiers.{position-Some}
-use Rattle.std.specs.Ordering.{int_eq}
-use Rattle.std.specs.Cmp.Lexicographic.{pointwise}
-use Rattle.std.specs.Cmp.Rules.{signed_items}
-use Rattle.std.proofs.lemmas.Bool.{cases_Bool, cases_lt, true≢false}
-use Rattle.std.proofs.lemmas.List.{append-nil, map-append, length-append, length-take, take-append-le, take_more}
-use Rattle.indexmap.specs.IndexSet.{insert_key}
-use Rattle.crn_vec.specs.Lists.{IsIn, firsts}
-use Rattle.crn_vec.proofs.CallerLemmas.{firsts_known, firsts_new, firsts_from, firsts_has, any_true}
-use Rattle.crn_cert.specs.declared.answer.Answer.{Answer}
-use Rattle.crn_cert.specs.declared.tree_node.TreeNode.{TreeNode}
-use Rattle.crn_cert.specs.Trees.{Plan, Both, Three, RulesA, RulesB, Level}
-use Rattle.crn_cert.specs.Preorder.{Listed, ListedSplitTwo, ListedSplitThree, ListedCutA, ListedCutB, ListedFlat, listed, preorder}
-use Rattle.crn_cert.specs.Shares.{cuts_of, cuts_in, all_cuts, number_in}
-use Rattle.crn_cert.specs.Inner.Numbered.{cuts_listed}
+use Rattle.crn_cert.proofs.Prelude.{Bor, ◌≡◌, ◌⊎◌, ◌≤◌, ◌<◌, inl, inr, ℕ, zero, suc, ◌+◌, ◌-◌, Bool, true, false, ◌||◌, if◌then◌else◌, List, [], ◌∷◌, ◌++◌, length, map, take, get_or, slice_get, refl, sym, ap, ap₂, subst, ◌∙◌, take_all, append_assoc, add-one, arith, ℤ, list_any, position, AllByRecursion, IsDistinct, position-Some, int_eq, pointwise, signed_items, cases_Bool, cases_lt, true≢false, append-nil, map-append, length-append, length-take, take-append-le, take_more, insert_key, IsIn, firsts, firsts_known, firsts_new, firsts_from, firsts_has, any_true, Answer, TreeNode, Plan, Both, Three, RulesA, RulesB, Level, Listed, ListedSplitTwo, ListedSplitThree, ListedCutA, ListedCutB, ListedFlat, preorder, cuts_of, cuts_in, all_cuts, number_in, cuts_listed}
+use Rattle.std.proofs.Common.{Some}
+use Rattle.crn_cert.specs.Preorder.{listed}
 
 abbrev same : List ℤ → List ℤ → Bool
 same = pointwise int_eq

@@ -1,33 +1,7 @@
 -- A valid answer on signals is true.
-use Rattle.std.proofs.Common.{◌≡◌, ℕ, ◌+◌, inl, inr, List, [], ◌∷◌, ◌++◌, refl, sym, subst, ◌∙◌}
-use Rattle.std.specs.Prelude.{ℤ, pos, negsuc, map}
-use Rattle.std.specs.Option.{IsSome, IsSomeAnd}
-use Rattle.crn_vec.specs.declared.signs.Sign.{Sign}
-use Rattle.crn_vec.specs.Network.{Net, IsNetwork}
-use Rattle.crn_vec.specs.Strong.{IsWeaklyReversible}
-use Rattle.crn_vec.specs.Confluence.{IsRegular, HasConfluenceLine, IsConfluenceVector, IsNormalVector, negative}
-use Rattle.crn_vec.specs.NetSystems.{reaction_system}
-use Rattle.crn_vec.specs.Problems.{Signed}
-use Rattle.crn_vec.specs.Concordance.{sign}
-use Rattle.crn_vec.specs.Signals.{Shape, signals}
-use Rattle.crn_vec.specs.NetSignals.{IsSignalOf, IsShapeOf, HasNoSignal}
-use Rattle.crn_vec.proofs.CallerLemmas.{length-scale}
-use Rattle.crn_vec.proofs.CallerLemmas.{confluence_vectors_are_one}
-use Rattle.crn_vec.proofs.CallerLemmas.{signals_are_steady}
-use Rattle.crn_vec.proofs.CallerLemmas.{shapes_are_one, multiples_share_signals, signals_feasible}
-use Rattle.crn_cert.specs.declared.answer.Verdict.{Verdict}
-use Rattle.crn_cert.specs.declared.answer.Verdict.TheVariants.{YesVec, YesSignal, No, NotRegular, OnlyZero, Plane, NotApplicable, Unknown}
-use Rattle.crn_cert.specs.declared.answer.Proof.{Proof}
-use Rattle.crn_cert.specs.declared.answer.Proof.TheVariants.{One, Two}
-use Rattle.crn_cert.specs.Questions.{Earlier, Q4, Q12, Q13, on, vector_given, IsOpen}
-use Rattle.crn_cert.specs.Says.{IsTrueOf, IsTurn, by_turn}
-use Rattle.crn_cert.specs.Tests.{AllHold}
-use Rattle.crn_cert.specs.Trees.{Plan, Both, Three, RulesA, RulesB, Level, node_count, IsValid, IsFormedTree}
-use Rattle.crn_cert.specs.Nodes.{Said, Fits}
-use Rattle.crn_cert.specs.TreeTests.{tree_tests}
-use Rattle.crn_cert.specs.Formed.{IsFormedOf}
-use Rattle.crn_cert.specs.Valid.{IsSignalNode, OfVector, signal_head, signal_rows}
-use Rattle.crn_cert.specs.Law.{IsTrueOrOpen, ValidIsTrue}
+use Rattle.crn_cert.proofs.Prelude.{◌≡◌, ℕ, ◌+◌, inl, inr, List, [], ◌∷◌, ◌++◌, refl, sym, subst, ◌∙◌, ℤ, pos, negsuc, IsSome, IsSomeAnd, Sign, Net, IsNetwork, IsWeaklyReversible, IsRegular, HasConfluenceLine, IsConfluenceVector, IsNormalVector, negative, reaction_system, Signed, sign, Shape, signals, IsSignalOf, IsShapeOf, HasNoSignal, length-scale, confluence_vectors_are_one, signals_are_steady, shapes_are_one, multiples_share_signals, signals_feasible, Verdict, YesVec, YesSignal, NotRegular, OnlyZero, Plane, NotApplicable, Unknown, Proof, One, Two, Earlier, Q4, Q12, Q13, on, vector_given, IsOpen, IsTrueOf, IsTurn, by_turn, AllHold, Plan, Both, Three, RulesA, RulesB, Level, node_count, IsValid, IsFormedTree, Said, Fits, tree_tests, IsFormedOf, IsSignalNode, OfVector, signal_head, signal_rows, IsTrueOrOpen, ValidIsTrue}
+use Rattle.std.specs.Prelude.{map}
+use Rattle.crn_cert.specs.declared.answer.Verdict.TheVariants.{No}
 use Rattle.crn_cert.proofs.FormedFacts.{bare_formed, signal_trees_formed}
 use Rattle.crn_cert.proofs.Known.{weak_yes, weak_no}
 use Rattle.crn_cert.proofs.TreeLaws.{leaves_nothing}

@@ -1,18 +1,6 @@
 -- Strong classes that pass the tests are right, with the numbers of terminal ones.
-use Rattle.std.proofs.Common.{◌≡◌, ℕ, ◌-◌, ◌<◌, Bool, true, List, length, get_or, refl, sym, ap, subst, ◌∙◌, arith, ◌==◌, ◌&&◌}
-use Rattle.std.specs.List.{range_with_len, count_by, list_any}
-use Rattle.std.proofs.lemmas.Bool.{eq-eqb, eqb-true}
-use Rattle.std.proofs.lemmas.List.Folds.{list_any_at}
-use Rattle.std.proofs.lemmas.List.FromFn.{length-range_with_len, get_or-range_with_len}
-use Rattle.crn_vec.specs.Network.{Net}
-use Rattle.crn_vec.specs.Linkage.{SameClass, IsLabelCount}
-use Rattle.crn_vec.specs.Walks.{IsNumberOf}
-use Rattle.crn_vec.specs.Strong.{SameStrong, IsTerminal, AreRightStrongLabels, AreExits}
-use Rattle.crn_vec.specs.Deficiency.{IsComplex, IsLabelled, HasTerminalClasses}
-use Rattle.crn_vec.proofs.CallerLemmas.{strong_class, class_then, and_cases, and_true}
-use Rattle.crn_cert.specs.Says.{AreStrongClasses}
-use Rattle.crn_cert.specs.ClassTests.{AreNumbered, AreFromTrees, AreToTrees, DoLevelsFall, AreAllExits, zeros_in}
-use Rattle.crn_cert.specs.Valid.{is_terminal_in}
+use Rattle.crn_cert.proofs.Prelude.{◌≡◌, ℕ, ◌-◌, ◌<◌, Bool, true, List, length, get_or, refl, sym, ap, subst, ◌∙◌, arith, ◌==◌, ◌&&◌, range_with_len, count_by, list_any, eq-eqb, eqb-true, list_any_at, length-range_with_len, get_or-range_with_len, Net, SameClass, IsLabelCount, IsNumberOf, SameStrong, IsTerminal, AreRightStrongLabels, AreExits, IsComplex, IsLabelled, HasTerminalClasses, strong_class, class_then, and_cases, and_true, AreStrongClasses, AreFromTrees, AreToTrees, DoLevelsFall, AreAllExits, zeros_in, is_terminal_in}
+use Rattle.crn_cert.specs.ClassTests.{AreNumbered}
 use Rattle.crn_cert.proofs.Filters.{some_place}
 use Rattle.crn_cert.proofs.ClassesRight.{strong_labels_right, exits_right}
 use Rattle.crn_cert.proofs.Counts.{classes_counted, zeros_by_places}

@@ -1,12 +1,6 @@
 -- The terminal strong classes of a linkage class are counted one strong class after another.
-use Rattle.std.proofs.Common.{◌≡◌, ◌≢◌, ℕ, ◌+◌, ◌-◌, ◌≤◌, ◌==◌, true, false, List, length, get_or, sym, ap, ◌∙◌, arith}
+use Rattle.crn_cert.proofs.Prelude.{◌≡◌, ◌≢◌, ℕ, ◌+◌, ◌-◌, ◌≤◌, ◌==◌, true, false, List, length, get_or, sym, ap, ◌∙◌, arith, list_any, range_with_len, eqb-true, eq-eqb, false≢true, count_by-le-length, length-range_with_len, range_more, and_true, and_no, count_yes, count_no, is_in_both, is_terminal_in, terminals_of}
 use Rattle.std.specs.Prelude.{count_by}
-use Rattle.std.specs.List.{list_any, range_with_len}
-use Rattle.std.proofs.lemmas.Bool.{eqb-true, eq-eqb, false≢true}
-use Rattle.std.proofs.lemmas.List.Sums.{count_by-le-length}
-use Rattle.std.proofs.lemmas.List.FromFn.{length-range_with_len}
-use Rattle.crn_vec.proofs.CallerLemmas.{range_more, and_true, and_no, count_yes, count_no}
-use Rattle.crn_cert.specs.Valid.{is_in_both, is_terminal_in, terminals_of}
 
 pub passes_at : (labels exits links : List ℕ) (k m : ℕ) → get_or exits m 0 ≡ 0 → list_any (is_in_both labels links (m + 1) k) (range_with_len 0 (length labels)) ≡ true → is_terminal_in labels exits links k (m + 1) ≡ true
 passes_at labels exits links k m e h =

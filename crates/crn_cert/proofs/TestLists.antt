@@ -1,6 +1,5 @@
 -- Tests that hold, one list after another.
-use Rattle.std.proofs.Common.{List, [], ◌∷◌, ◌++◌}
-use Rattle.crn_cert.specs.Tests.{Test, AllHold}
+use Rattle.crn_cert.proofs.Prelude.{List, [], ◌∷◌, ◌++◌, Test, AllHold}
 
 pub hold_append : (ss ts : List Test) → AllHold ss → AllHold ts → AllHold (ss ++ ts)
 hold_append [] ts h g = g

@@ -1,17 +1,6 @@
 -- Ties show that the confluence space is a line, or holds only zero.
-use Rattle.std.proofs.Common.{◌≡◌, ◌≢◌, ℕ, ◌<◌, ◌≤◌, List, length, sym, ap, subst, ◌∙◌, inl, inr, arith}
-use Rattle.std.specs.Prelude.{ℤ, pos, ◌+ℤ◌, ◌-ℤ◌, ◌*ℤ◌}
-use Rattle.std.proofs.lemmas.Int.{ints}
+use Rattle.crn_cert.proofs.Prelude.{◌≡◌, ◌≢◌, ℕ, ◌<◌, ◌≤◌, List, length, sym, ap, subst, ◌∙◌, inl, inr, arith, ℤ, pos, ◌+ℤ◌, ◌-ℤ◌, ◌*ℤ◌, ints, Net, entry, dot, AreProportional, confluence_system, no_zero, assoc, left-comm, mul-sub, eq_or, past_end, lt_or, listed, length-listed, entry-listed, across, dots, dot_zero, ratios_cross, dot_single, zero_times, dot_two, IsTie, tie_at}
 use lib.IntN.{*ℤ_comm, *ℤ-zero}
-use Rattle.crn_vec.specs.Network.{Net}
-use Rattle.crn_vec.specs.Vectors.{entry, dot}
-use Rattle.crn_vec.specs.Elementary.{AreProportional}
-use Rattle.crn_vec.specs.NetSystems.{confluence_system}
-use Rattle.crn_vec.proofs.CallerLemmas.{no_zero, assoc, left-comm, mul-sub}
-use Rattle.crn_vec.proofs.CallerLemmas.{eq_or, past_end, lt_or}
-use Rattle.crn_vec.proofs.CallerLemmas.{listed, length-listed, entry-listed, across}
-use Rattle.crn_vec.proofs.CallerLemmas.{dots, dot_zero, ratios_cross, dot_single, zero_times, dot_two}
-use Rattle.crn_cert.specs.ConfluenceTests.{IsTie, tie_at}
 
 -- ---- sums with one or two places
 

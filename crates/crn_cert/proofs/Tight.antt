@@ -1,14 +1,5 @@
 -- A verdict says the same without the spares of its lists.
-use Rattle.std.proofs.Common.{◌≡◌, ◌++◌, [], ◌∷◌, refl, ap}
-use Rattle.crn_vec.specs.Network.{Net}
-use Rattle.crn_cert.specs.declared.answer.Gap.{Gap}
-use Rattle.crn_cert.specs.declared.answer.Gap.TheVariants.{Wide, Budget, Rests}
-use Rattle.crn_cert.specs.declared.answer.Verdict.{Verdict}
-use Rattle.crn_cert.specs.declared.answer.Verdict.TheVariants.{Unknown}
-use Rattle.crn_cert.specs.Questions.{Earlier, Question, Q1, Q2, Q3, Q4, Q5, Q6, Q7, Q8, Q9, Q10, Q11, Q12, Q13, Q14, Q15, labels_of, count_of, exits_of, rank_of, deficiencies_of, vector_given, IsOpen, IsYes, IsNo}
-use Rattle.crn_cert.specs.Verdicts.{tight, all_tight}
-use Rattle.crn_cert.specs.Says.{IsTrueOf}
-use Rattle.crn_cert.specs.Law.{IsTrueOrOpen}
+use Rattle.crn_cert.proofs.Prelude.{◌≡◌, ◌++◌, [], ◌∷◌, refl, ap, Net, Gap, Wide, Budget, Rests, Verdict, Unknown, Earlier, Question, Q1, Q2, Q3, Q4, Q5, Q6, Q7, Q8, Q9, Q10, Q11, Q12, Q13, Q14, Q15, labels_of, count_of, exits_of, rank_of, deficiencies_of, vector_given, IsOpen, IsYes, IsNo, tight, all_tight, IsTrueOf, IsTrueOrOpen}
 
 pub labels_tight : (v : Verdict) → labels_of (tight v) ≡ labels_of v
 labels_tight (Unknown gap) = refl

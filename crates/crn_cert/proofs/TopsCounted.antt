@@ -1,13 +1,5 @@
 -- The count of the tops is the number of terminal strong classes.
-use Rattle.std.proofs.Common.{◌≡◌, ◌≤◌, ◌<◌, inl, inr, ℕ, zero, suc, List, [], ◌∷◌, length, refl, sym, ap, subst, arith}
-use Rattle.std.specs.Prelude.{Option, Some}
-use Rattle.crn_vec.specs.Lists.{IsIn}
-use Rattle.crn_vec.specs.Network.{Net}
-use Rattle.crn_vec.specs.Walks.{AreApart, AreRepresentatives, IsNumberOf}
-use Rattle.crn_vec.specs.Strong.{SameStrong, IsTerminal}
-use Rattle.crn_vec.specs.Deficiency.{IsComplex}
-use Rattle.crn_vec.specs.NetSignals.{AreTops, top_at}
-use Rattle.crn_vec.proofs.CallerLemmas.{top_inside, option_or, below_or}
+use Rattle.crn_cert.proofs.Prelude.{◌≡◌, ◌≤◌, ◌<◌, inl, inr, ℕ, zero, suc, List, [], ◌∷◌, length, refl, sym, ap, subst, arith, Option, Some, IsIn, Net, AreApart, AreRepresentatives, IsNumberOf, SameStrong, IsTerminal, IsComplex, AreTops, top_at, top_inside, option_or, below_or}
 
 -- one complex of each of the first classes
 record Chosen (net : Net) (tops : List (Option ℕ)) (n : ℕ) : Type 0 where

@@ -1,13 +1,5 @@
 -- The terminal strong classes are numbered by labels and exits.
-use Rattle.std.proofs.Common.{◌≡◌, ℕ, zero, suc, ◌+◌, ◌-◌, ◌<◌, ◌≤◌, Bool, false, cond, List, length, get_or, map, sym, ap, subst, ◌∙◌, inl, inr, arith, ◌==◌}
-use Rattle.std.specs.Prelude.{Option, Some, None}
-use Rattle.std.proofs.lemmas.Bool.{cases_Bool, eq-eqb, eqb-true}
-use Rattle.std.proofs.lemmas.List.{get_or-map, length-map}
-use Rattle.crn_vec.specs.Network.{Net}
-use Rattle.crn_vec.specs.Linkage.{IsLabelCount}
-use Rattle.crn_vec.specs.NetSignals.{top_at, AreTops}
-use Rattle.crn_vec.proofs.CallerLemmas.{lt_or, eq_or, top_inside, some_is, none_some}
-use Rattle.crn_cert.specs.Says.{AreStrongClasses}
+use Rattle.crn_cert.proofs.Prelude.{◌≡◌, ℕ, zero, suc, ◌+◌, ◌-◌, ◌<◌, ◌≤◌, Bool, false, cond, List, length, get_or, map, sym, ap, subst, ◌∙◌, inl, inr, arith, ◌==◌, Option, Some, None, cases_Bool, eq-eqb, eqb-true, get_or-map, length-map, Net, IsLabelCount, top_at, AreTops, lt_or, eq_or, top_inside, some_is, none_some, AreStrongClasses}
 
 -- ---- numbers of terminal classes
 

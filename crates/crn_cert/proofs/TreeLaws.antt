@@ -1,13 +1,6 @@
 -- Where the root of a tree is valid, no full prefix is feasible.
-use Rattle.std.proofs.Common.{◌≡◌, List, [], ◌∷◌, ◌++◌, length, sym, ap, subst, ◌∙◌, arith}
-use Rattle.std.proofs.lemmas.List.{append_assoc, length-append}
-use Rattle.std.proofs.lemmas.Bool.{false≢true}
-use Rattle.crn_vec.specs.declared.signs.Sign.{Sign}
-use Rattle.crn_vec.specs.declared.signs.Sign.TheVariants.{Zero, Plus, Minus}
-use Rattle.crn_vec.proofs.CallerLemmas.{cuts_exclude_solutions}
-use Rattle.crn_vec.specs.Problems.{Signed, IsPrefix, IsFull, IsFeasible, IsSteady, mirror}
-use Rattle.crn_cert.specs.Trees.{Plan, Both, Three, RulesA, RulesB, Level, IsValid}
-use Rattle.crn_vec.proofs.CallerLemmas.{mirror-append, mirror-zero, mirror_feasible, length-mirror}
+use Rattle.crn_cert.proofs.Prelude.{◌≡◌, List, [], ◌∷◌, ◌++◌, length, sym, ap, subst, ◌∙◌, arith, length-append, false≢true, Sign, Zero, Plus, Minus, cuts_exclude_solutions, Signed, IsPrefix, IsFull, IsFeasible, IsSteady, mirror, Plan, Both, Three, RulesA, RulesB, Level, IsValid, mirror-append, mirror-zero, mirror_feasible, length-mirror}
+use Rattle.std.proofs.lemmas.List.{append_assoc}
 
 step : (p : List Sign) (s : Sign) (rest : List Sign) → p ++ (s ∷ rest) ≡ (p ++ s ∷ []) ++ rest
 step p s rest = sym (append_assoc p (s ∷ []) rest)

@@ -1,10 +1,6 @@
 -- Trees by their prefixes: as many nodes as prefixes, and a valid tree of narrow numbers is formed.
-use Rattle.std.proofs.Common.{◌≡◌, List, [], ◌∷◌, ◌++◌, length, refl, arith, length-append}
-use Rattle.crn_vec.specs.declared.signs.Sign.{Sign}
-use Rattle.crn_vec.specs.declared.signs.Sign.TheVariants.{Zero, Plus, Minus}
-use Rattle.crn_vec.specs.Problems.{Signed}
-use Rattle.crn_vec.proofs.CallerLemmas.{cut_long}
-use Rattle.crn_cert.specs.Trees.{Plan, Both, Three, RulesA, RulesB, Level, places, node_count, IsValid, AreNarrow, IsFormedTree}
+use Rattle.crn_cert.proofs.Prelude.{◌≡◌, List, [], ◌∷◌, ◌++◌, length, refl, arith, Sign, Zero, Plus, Minus, Signed, cut_long, Plan, Both, Three, RulesA, RulesB, Level, places, node_count, IsValid, AreNarrow, IsFormedTree}
+use Rattle.std.proofs.Common.{length-append}
 
 -- a tree has as many nodes as prefixes
 pub count_places : (p : List Sign) (t : Plan) → length (places p t) ≡ node_count t

@@ -1,17 +1,7 @@
 -- Formed answers to questions 1 to 12 have no trees, and trees that are few enough for one bound are so for a greater one.
-use Rattle.std.proofs.Common.{◌≡◌, ◌≤◌, ℕ, List, [], ◌∷◌, subst, arith}
-use Rattle.std.specs.List.{AllZip}
-use Rattle.crn_vec.specs.Network.{Net}
-use Rattle.crn_cert.specs.Table.{TreeRow, trees}
-use Rattle.crn_cert.specs.Blocks.{FitsTree, trees_of, head_of}
-use Rattle.crn_cert.specs.Formed.{IsFormedOf}
-use Rattle.crn_cert.specs.declared.head_kind.HeadKind.{HeadKind}
-use Rattle.crn_cert.specs.Questions.{Earlier, Question}
-use Rattle.crn_cert.specs.TreeSizes.{HasFewNodes, HaveFewNodes}
-use Rattle.crn_cert.specs.declared.answer.Verdict.{Verdict}
-use Rattle.crn_cert.specs.declared.answer.Proof.{Proof}
+use Rattle.crn_cert.proofs.Prelude.{◌≡◌, ◌≤◌, ℕ, List, [], ◌∷◌, subst, arith, AllZip, Net, TreeRow, trees, FitsTree, head_of, IsFormedOf, HeadKind, Earlier, Question, HasFewNodes, HaveFewNodes, Verdict, Proof, Answer}
+use Rattle.crn_cert.specs.Blocks.{trees_of}
 use Rattle.crn_cert.specs.declared.answer.Proof.TheVariants as proof
-use Rattle.crn_cert.specs.declared.answer.Answer.{Answer}
 
 -- the proof has no trees
 abbrev pub IsTreeless : Proof → Type 0

@@ -1,13 +1,5 @@
 -- The tests of a formed tree hold if and only if the tree is valid.
-use Rattle.std.proofs.Common.{ℕ, ◌+◌, List, [], ◌∷◌, ◌++◌}
-use Rattle.crn_vec.specs.declared.signs.Sign.{Sign}
-use Rattle.crn_vec.specs.declared.signs.Sign.TheVariants.{Zero, Plus, Minus}
-use Rattle.crn_vec.specs.Problems.{Signed}
-use Rattle.crn_cert.specs.Tests.{AllHold}
-use Rattle.crn_cert.specs.Trees.{Plan, Both, Three, RulesA, RulesB, Level, node_count, IsFormedTree, IsValid}
-use Rattle.crn_cert.specs.Nodes.{Fits}
-use Rattle.crn_cert.specs.TreeTests.{tree_tests}
-use Rattle.crn_cert.specs.TreeLaw.{TestsDecideValidTrees}
+use Rattle.crn_cert.proofs.Prelude.{ℕ, ◌+◌, List, [], ◌∷◌, ◌++◌, Sign, Zero, Plus, Minus, Signed, AllHold, Plan, Both, Three, RulesA, RulesB, Level, node_count, IsFormedTree, IsValid, Fits, tree_tests, TestsDecideValidTrees}
 use Rattle.crn_cert.proofs.TestLists.{hold_append, hold_parts}
 
 valid_tests : (w : Signed) (part : ℕ) (p : List Sign) (t : Plan) → IsValid w p t → AllHold (tree_tests (Fits w) part p t)

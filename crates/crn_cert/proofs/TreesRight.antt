@@ -1,27 +1,5 @@
 -- A formed tree whose nodes pass their tests is valid, and what valid trees show of networks.
-use Rattle.std.proofs.Common.{ℕ, ◌+◌, List, [], ◌∷◌, ◌++◌}
-use Rattle.crn_vec.specs.declared.signs.Sign.{Sign}
-use Rattle.crn_vec.specs.declared.signs.Sign.TheVariants.{Zero, Plus, Minus}
-use Rattle.crn_vec.specs.Network.{Net, IsNetwork}
-use Rattle.crn_vec.specs.NetSystems.{reaction_system}
-use Rattle.crn_vec.specs.Problems.{Signed}
-use Rattle.crn_vec.specs.Concordance.{IsTable, IsConcordant, concordance}
-use Rattle.crn_vec.specs.Influence.{plain_table, strong_table}
-use Rattle.crn_vec.proofs.CallerLemmas.{tables_are_steady}
-use Rattle.crn_vec.proofs.CallerLemmas.{tables_feasible}
-use Rattle.crn_vec.proofs.CallerLemmas.{networks_have_tables}
-use Rattle.crn_cert.specs.declared.answer.Verdict.{Verdict}
-use Rattle.crn_cert.specs.declared.answer.Verdict.TheVariants.{Yes, NoPair, Unknown}
-use Rattle.crn_cert.specs.declared.answer.Proof.{Proof}
-use Rattle.crn_cert.specs.declared.answer.Proof.TheVariants.{One, Two}
-use Rattle.crn_cert.specs.Questions.{Earlier, Q14, Q15}
-use Rattle.crn_cert.specs.Tests.{AllHold}
-use Rattle.crn_cert.specs.Trees.{Plan, Both, Three, RulesA, RulesB, Level, node_count, IsValid, IsFormedTree}
-use Rattle.crn_cert.specs.Nodes.{Said, Fits}
-use Rattle.crn_cert.specs.TreeTests.{tree_tests}
-use Rattle.crn_cert.specs.Formed.{IsFormedOf}
-use Rattle.crn_cert.specs.Valid.{table_rows}
-use Rattle.crn_cert.specs.Law.{IsTrueOrOpen, ValidIsTrue}
+use Rattle.crn_cert.proofs.Prelude.{ℕ, ◌+◌, List, [], ◌∷◌, ◌++◌, Sign, Zero, Plus, Minus, Net, IsNetwork, reaction_system, Signed, IsTable, IsConcordant, concordance, plain_table, strong_table, tables_are_steady, tables_feasible, networks_have_tables, Verdict, Yes, NoPair, Unknown, Proof, One, Two, Earlier, Q14, Q15, AllHold, Plan, Both, Three, RulesA, RulesB, Level, node_count, IsValid, IsFormedTree, Said, Fits, tree_tests, IsFormedOf, table_rows, IsTrueOrOpen, ValidIsTrue}
 use Rattle.crn_cert.proofs.TreeLaws.{leaves_nothing}
 use Rattle.crn_cert.proofs.TestLists.{hold_parts}
 

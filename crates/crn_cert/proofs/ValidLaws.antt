@@ -1,36 +1,8 @@
 -- Valid answers are true, question by question.
-use Rattle.std.proofs.Common.{◌≡◌, ◌≢◌, ℕ, zero, suc, ◌+◌, ◌-◌, ◌<◌, ◌≤◌, true, List, [], ◌∷◌, ◌++◌, length, get_or, map, refl, sym, ap, subst, ◌∙◌, inl, inr, arith, ◌==◌, not}
-use Rattle.std.specs.Prelude.{ℤ, pos, negsuc, ◌*ℤ◌, sum}
+use Rattle.crn_cert.proofs.Prelude.{◌≡◌, ◌≢◌, ℕ, zero, suc, ◌+◌, ◌-◌, ◌<◌, ◌≤◌, true, List, [], ◌∷◌, ◌++◌, length, get_or, map, refl, sym, ap, subst, ◌∙◌, inl, inr, arith, ◌==◌, not, ℤ, pos, negsuc, ◌*ℤ◌, sum, AllByRecursion, range_with_len, ints, ne_eqb, eqb-true, length-range_with_len, IsIn, Net, IsNetwork, IsVector, JoinsTwo, minus, reaction_vector, SameClass, IsLabelCount, entry, IsNumberOf, ReactsTo, IsComplex, IsDeficiency, AreDeficiencies, AreAtMostOne, InConfluenceSpace, no_zero, place_of, inside_at, vector_long, in_range, filter_has, and_cases, Verdict, Classes, Strong, Rank, Deficiency, Yes, YesWeak, YesVec, NoReaction, NoVec, NoNumber, NoTerminal, NoClass, NoSum, NoDependence, NoCycle, NotRegular, OnlyZero, Plane, Unknown, Proof, Forest, StrongTrees, Back, Sides, Ties, Earlier, Q1, Q2, Q3, Q4, Q5, Q6, Q7, Q8, Q9, Q10, Q11, Q12, on, count_of, rank_of, deficiencies_of, IsTrueOf, AllHold, IsTie, least_from, others_than, tie_tests, IsFormedOf, is_within_terminal, linkage, linkage_count, strong, exits, linkage_rows, strong_rows, reversible_head, reversible_rows, weak_head, dependence_rows, conservation_rows, zero_head, one_head, regular_head, regular_rows, confluence_head, confluence_rows, IsLeft, IsFirstLarge, WithDeficiencies, IsTrueOrOpen, ValidIsTrue, of_class}
 use lib.IntN.{zero-*ℤ}
-use Rattle.std.specs.List.{AllByRecursion, range_with_len}
-use Rattle.std.proofs.lemmas.Int.{ints}
-use Rattle.std.proofs.lemmas.Bool.{ne_eqb, eqb-true}
-use Rattle.std.proofs.lemmas.List.FromFn.{length-range_with_len}
-use Rattle.crn_vec.specs.Lists.{IsIn}
-use Rattle.crn_vec.specs.Network.{Net, IsNetwork, IsVector, JoinsTwo, minus, reaction_vector}
-use Rattle.crn_vec.specs.Linkage.{SameClass, IsLabelCount}
-use Rattle.crn_vec.specs.Vectors.{entry}
-use Rattle.crn_vec.specs.Walks.{IsNumberOf}
-use Rattle.crn_vec.specs.Strong.{ReactsTo}
-use Rattle.crn_vec.specs.Deficiency.{IsComplex, IsDeficiency, AreDeficiencies, AreAtMostOne}
-use Rattle.crn_vec.specs.Confluence.{InConfluenceSpace}
-use Rattle.crn_vec.proofs.CallerLemmas.{no_zero}
-use Rattle.crn_vec.proofs.CallerLemmas.{place_of, inside_at}
-use Rattle.crn_vec.proofs.CallerLemmas.{vector_long, in_range, filter_has, and_cases}
-use Rattle.crn_cert.specs.declared.answer.Verdict.{Verdict}
-use Rattle.crn_cert.specs.declared.answer.Verdict.TheVariants.{Classes, Strong, Rank, Deficiency, Yes, YesWeak, YesVec, NoReaction, NoVec, NoNumber, NoTerminal, NoClass, NoSum, NoDependence, NoCycle, NotRegular, OnlyZero, Plane, Unknown}
-use Rattle.crn_cert.specs.declared.answer.Proof.{Proof}
-use Rattle.crn_cert.specs.declared.answer.Proof.TheVariants.{Forest, Strong as StrongTrees, Back, Sides, Ties}
-use Rattle.crn_cert.specs.Questions.{Earlier, Q1, Q2, Q3, Q4, Q5, Q6, Q7, Q8, Q9, Q10, Q11, Q12, on, count_of, rank_of, deficiencies_of}
-use Rattle.crn_cert.specs.Says.{IsTrueOf}
-use Rattle.crn_cert.specs.Tests.{AllHold}
-use Rattle.crn_cert.specs.ConfluenceTests.{IsTie, least_from, others_than, tie_tests}
-use Rattle.crn_cert.specs.Formed.{IsFormedOf}
-use Rattle.crn_cert.specs.Valid.{is_within_terminal, linkage, linkage_count, strong, exits, linkage_rows, strong_rows, reversible_head, reversible_rows, weak_head, dependence_rows, conservation_rows, zero_head, one_head, regular_head, regular_rows, confluence_head, confluence_rows, IsLeft, IsFirstLarge, WithDeficiencies}
-use Rattle.crn_cert.specs.Law.{IsTrueOrOpen, ValidIsTrue}
 use Rattle.crn_cert.proofs.FormedFacts.{bare_formed, sides_formed}
 use Rattle.crn_cert.proofs.ClassesRight.{linkage_right, named_in, named_inside}
-use Rattle.crn_cert.specs.ClassTests.{of_class}
 use Rattle.crn_cert.proofs.StrongRight.{strong_right}
 use Rattle.crn_cert.proofs.Multipliers.{no_dependence, no_conservation}
 use Rattle.crn_cert.proofs.Cycles.{cycle_by_tests}

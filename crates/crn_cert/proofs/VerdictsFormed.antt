@@ -1,14 +1,6 @@
 -- The verdict of a formed answer is formed.
-use Rattle.crn_vec.specs.Network.{Net}
-use Rattle.crn_cert.specs.declared.answer.Verdict.{Verdict}
-use Rattle.crn_cert.specs.declared.answer.Verdict.TheVariants.{Classes, Strong, Rank, YesVec, YesSignal, NoVec, NoCycle, NoPair, Plane}
-use Rattle.crn_cert.specs.declared.answer.Proof.{Proof}
-use Rattle.crn_cert.specs.declared.answer.Proof.TheVariants.{Forest, Strong as StrongTrees, Rank as RankRows, Ties}
-use Rattle.crn_cert.specs.Questions.{Earlier, Question, Q1, Q2, Q3, Q4, Q5, Q6, Q7, Q8, Q9, Q10, Q11, Q12, Q13, Q14, Q15}
-use Rattle.crn_cert.specs.Formed.{IsFormedOf}
-use Rattle.crn_cert.specs.FormedVerdicts.{ListsMayBe, FormedAnswersHaveFormedVerdicts}
+use Rattle.crn_cert.proofs.Prelude.{Net, Verdict, Classes, Strong, Rank, YesVec, YesSignal, NoVec, NoCycle, NoPair, Plane, Proof, Forest, StrongTrees, RankRows, Ties, Earlier, Question, Q1, Q2, Q3, Q4, Q5, Q6, Q7, Q8, Q9, Q10, Q11, Q12, Q13, Q14, Q15, IsFormedOf, ListsMayBe, FormedAnswersHaveFormedVerdicts, ◌≡◌, sym, subst, List, ℕ, length}
 use Rattle.crn_cert.proofs.FormedFacts.{bare_formed, same_base, rank_formed}
-use Rattle.std.proofs.Common.{◌≡◌, sym, subst, List, ℕ, length}
 
 lists_1 : (net : Net) (e : Earlier) (v : Verdict) (p : Proof) → IsFormedOf net e Q1 v p → ListsMayBe net e Q1 v
 lists_1 net e (Classes count label) (Forest up depth) f = f.0.rows.0

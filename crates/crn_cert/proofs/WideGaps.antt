@@ -1,12 +1,5 @@
 -- A basis and an index that name a wide vector have the form that an open answer requires.
-use Rattle.std.proofs.Common.{◌≡◌, ℕ, suc, ◌+◌, ◌-◌, ◌<◌, ◌≤◌, inl, inr, List, length, map, sym, subst, ◌∙◌, arith}
-use Rattle.std.proofs.lemmas.List.{length-map}
-use Rattle.crn_vec.specs.Lists.{IsAscending}
-use Rattle.crn_vec.specs.Vectors.{Mat}
-use Rattle.crn_vec.specs.Elementary.{NamesWide, width}
-use Rattle.crn_vec.proofs.CallerLemmas.{all_map, ascending_suc}
-use Rattle.crn_cert.specs.Ranges.{AreFrom}
-use Rattle.crn_cert.specs.Data.{IsBasisOf}
+use Rattle.crn_cert.proofs.Prelude.{◌≡◌, ℕ, suc, ◌+◌, ◌-◌, ◌<◌, ◌≤◌, inl, inr, List, length, map, sym, subst, ◌∙◌, arith, length-map, IsAscending, Mat, NamesWide, width, all_map, ascending_suc, AreFrom, IsBasisOf}
 
 names_basis : (a : Mat) (index : ℕ) (basis : List ℕ) → NamesWide a index basis → IsBasisOf a.cols (length a.rows) index basis
 names_basis a index basis h =

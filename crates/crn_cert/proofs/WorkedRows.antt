@@ -1,12 +1,5 @@
 -- Small networks worked by hand: discordances, shelves and signals over a shape, with values that do not come from the program.
-use Rattle.std.proofs.Common.{[], ◌∷◌, refl, inl, inr, arith}
-use Rattle.std.specs.Prelude.{pos, negsuc, Some}
-use Rattle.std.proofs.lemmas.Int.{ints}
-use Rattle.crn_vec.specs.declared.signs.Sign.TheVariants.{Plus, Minus}
-use Rattle.crn_vec.specs.NetSystems.{reaction_system}
-use Rattle.crn_vec.specs.Concordance.{IsDiscordant}
-use Rattle.crn_vec.specs.Signals.{Shape, IsSignal}
-use Rattle.crn_vec.specs.Influence.{plain_table}
+use Rattle.crn_cert.proofs.Prelude.{[], ◌∷◌, refl, inl, inr, arith, pos, negsuc, Some, ints, Plus, Minus, reaction_system, IsDiscordant, Shape, IsSignal, plain_table}
 use Rattle.crn_cert.proofs.Networks.{branching, chain, edelstein}
 
 -- both reactions at once keep A, and A grows with them

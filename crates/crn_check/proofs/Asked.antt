@@ -1,12 +1,5 @@
 -- Facts on the built questions before one hold the verdicts that its checks look at, and none on a later question.
-use Rattle.std.proofs.Common.{◌≡◌, ◌<◌, inl, inr, ℕ, zero, suc, List, [], ◌∷◌, map, take, length, get_or, refl, sym, ap, subst, arith}
-use Rattle.std.specs.List.{AllByRecursion}
-use Rattle.crn_vec.specs.Lists.{IsIn}
-use Rattle.crn_cert.specs.declared.answer.Verdict.{Verdict}
-use Rattle.crn_cert.specs.Built.{built}
-use Rattle.crn_cert.specs.Questions.{Earlier, Question, Q1, Q2, Q4, Q5, Q6, Q7, Q11, Q12, number}
-use Rattle.crn_check.specs.Facts.{HoldsOn, HoldsNoneFrom}
-use Rattle.crn_check.specs.Check.{HoldsNeeds}
+use Rattle.crn_check.proofs.Prelude.{◌≡◌, ◌<◌, inl, inr, ℕ, zero, suc, List, [], ◌∷◌, map, take, length, get_or, refl, sym, ap, subst, arith, AllByRecursion, IsIn, Verdict, built, Earlier, Question, Q1, Q2, Q4, Q5, Q6, Q7, Q11, Q12, number, HoldsOn, HoldsNoneFrom, HoldsNeeds}
 
 -- the questions of verdicts
 abbrev asks : Earlier → List Question

@@ -1,20 +1,5 @@
 -- What the form of a proof of a rank gives for its tests.
-use Rattle.std.proofs.Common.{◌≡◌, true, ℕ, ◌+◌, ◌≤◌, List, [], ◌∷◌, length, refl, ap, arith}
-use Rattle.std.specs.Prelude.{filter}
-use Rattle.std.specs.List.{range_with_len}
-use Rattle.std.proofs.lemmas.List.FromFn.{length-range_with_len}
-use Rattle.crn_vec.specs.declared.limits.TheConstants.{MAX_REACTIONS}
-use Rattle.crn_vec.specs.Lists.{IsIn, IsAscending}
-use Rattle.crn_vec.specs.Network.{Net, IsNetwork}
-use Rattle.crn_vec.proofs.CallerLemmas.{all_from, filter_few, filter_from, filter_has, filter_ascending, in_range}
-use Rattle.crn_cert.specs.declared.answer.RankProof.{RankProof}
-use Rattle.crn_cert.specs.Ranges.{IsFrom}
-use Rattle.crn_cert.specs.Parts.{IsRankProof}
-use Rattle.crn_cert.specs.RankTests.{outside}
-use Rattle.crn_cert.proofs.CallerLemmas.{range_ascending, range_bounds}
-use Rattle.crn_check.specs.declared.members.Members.{Members}
-use Rattle.crn_check.specs.declared.members.Members.TheVariants.{All}
-use Rattle.crn_check.specs.Inner.Bases.{IsBase, is_member, members_of}
+use Rattle.crn_check.proofs.Prelude.{◌≡◌, true, ℕ, ◌+◌, ◌≤◌, List, [], ◌∷◌, length, refl, ap, arith, filter, range_with_len, length-range_with_len, MAX_REACTIONS, IsIn, IsAscending, Net, IsNetwork, all_from, filter_few, filter_from, filter_has, filter_ascending, in_range, RankProof, IsFrom, IsRankProof, outside, range_ascending, range_bounds, Members, All, IsBase, is_member, members_of}
 use Rattle.crn_check.proofs.Outside.{outside_long}
 
 members_few : (net : Net) (m : Members) → length (members_of net m) ≤ length net.reactions

@@ -1,19 +1,5 @@
 -- The tests of the ranks of the linkage classes, one after another.
-use Rattle.std.proofs.Common.{◌≡◌, ℕ, zero, suc, ◌+◌, ◌*◌, ◌≤◌, List, [], ◌∷◌, ◌++◌, length, drop, Result, Ok, Err, refl, sym, ap, subst, ◌∙◌, arith}
-use Rattle.std.specs.Prelude.{slice_get, Some}
-use Rattle.std.proofs.lemmas.List.{drop_more}
-use Rattle.std.proofs.lemmas.Option.{get_or_from_slice_get, slice_get_within}
-use Rattle.crn_vec.specs.declared.limits.TheConstants.{MAX_REACTIONS}
-use Rattle.crn_vec.specs.Network.{Net}
-use Rattle.crn_cert.specs.declared.answer.RankProof.{RankProof}
-use Rattle.crn_cert.specs.Questions.{Earlier}
-use Rattle.crn_cert.specs.Tests.{AllHold, FailsFirst}
-use Rattle.crn_cert.specs.RankTests.{rank_tests}
-use Rattle.crn_cert.specs.Parts.{IsRankProof, AreClassProofs}
-use Rattle.crn_cert.specs.Valid.{class_places, class_rank_tests}
-use Rattle.crn_check.specs.declared.fault.CheckFault.{CheckFault}
-use Rattle.crn_check.specs.Check.{Judges}
-use Rattle.crn_check.specs.Inner.Bases.{AreRankProofs}
+use Rattle.crn_check.proofs.Prelude.{◌≡◌, ℕ, zero, suc, ◌+◌, ◌*◌, ◌≤◌, List, [], ◌∷◌, ◌++◌, length, drop, Result, Ok, Err, refl, sym, ap, subst, ◌∙◌, arith, slice_get, Some, drop_more, get_or_from_slice_get, slice_get_within, MAX_REACTIONS, Net, RankProof, Earlier, AllHold, FailsFirst, rank_tests, IsRankProof, AreClassProofs, class_places, class_rank_tests, CheckFault, Judges, AreRankProofs}
 use Rattle.crn_check.proofs.Judging.{judges_go, judges_stop}
 
 -- if the ranks of the classes from place k on, which counts from 0, are judged so, all are; the base of the first of

@@ -1,12 +1,5 @@
 -- The exits that earlier verdicts give.
-use Rattle.std.proofs.Common.{◌≡◌, [], length}
-use Rattle.crn_vec.specs.Network.{Net}
-use Rattle.crn_cert.specs.declared.answer.Gap.TheVariants.{Wide, Budget, Rests}
-use Rattle.crn_cert.specs.declared.answer.Verdict.{Verdict}
-use Rattle.crn_cert.specs.declared.answer.Verdict.TheVariants.{Strong, Unknown}
-use Rattle.crn_cert.specs.Questions.{Earlier, Q2, on, count_of, exits_of}
-use Rattle.crn_cert.specs.FormedVerdicts.{IsFormedVerdict}
-use Rattle.crn_check.specs.Facts.{KeptFacts, AreFactsOf, HoldsOn}
+use Rattle.crn_check.proofs.Prelude.{◌≡◌, [], length, Net, Wide, Budget, Rests, Verdict, Strong, Unknown, Earlier, Q2, on, count_of, exits_of, IsFormedVerdict, KeptFacts, AreFactsOf, HoldsOn}
 use Rattle.crn_check.proofs.Forms.{formed_on}
 
 -- a verdict on strong classes has an exit for each

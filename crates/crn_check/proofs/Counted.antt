@@ -1,13 +1,5 @@
 -- Reactions by their numbers.
-use Rattle.std.proofs.Common.{◌≡◌, inl, inr, ℕ, ◌+◌, ◌-◌, ◌<◌, ◌≤◌, List, length, get_or, refl, sym, subst, ◌∙◌, arith}
-use Rattle.std.proofs.lemmas.Grind.{common_steps}
-use Rattle.crn_vec.specs.Lists.{IsIn}
-use Rattle.crn_vec.specs.Network.{Net}
-use Rattle.crn_vec.specs.Strong.{ReactsTo, IsReaction}
-use Rattle.crn_vec.proofs.CallerLemmas.{in_at, at_in, lt_or}
-use Rattle.crn_cert.specs.Ranges.{AreFrom}
-use Rattle.crn_cert.specs.Says.{HasNoReverse}
-use Rattle.crn_cert.specs.ClassTests.{IsReverse}
+use Rattle.crn_check.proofs.Prelude.{◌≡◌, inl, inr, ℕ, ◌+◌, ◌-◌, ◌<◌, ◌≤◌, List, length, get_or, refl, sym, subst, ◌∙◌, arith, common_steps, IsIn, Net, ReactsTo, IsReaction, in_at, at_in, lt_or, AreFrom, HasNoReverse, IsReverse}
 
 -- a reaction between two complexes has a place
 pub place_between : (net : Net) (y z : ℕ) → ReactsTo net.reactions y z → (r : ℕ) × IsReaction net.reactions r y z

@@ -1,5 +1,5 @@
 -- Tests that are met.
-use Rattle.std.proofs.Common.{◌↔◌, IsTrue, true, refl}
+use Rattle.crn_check.proofs.Prelude.{◌↔◌, IsTrue, true, refl}
 
 -- a test that holds
 pub granted : {P : Type 0} → P → (IsTrue true ↔ P)

@@ -1,18 +1,5 @@
 -- The verdict of a formed answer fits in the memory that is reserved for it.
-use Rattle.std.proofs.Common.{◌≤◌, inl, inr, ℕ, length, subst, arith}
-use Rattle.crn_vec.specs.Network.{Net, IsNetwork}
-use Rattle.crn_cert.specs.declared.answer.Answer.{Answer}
-use Rattle.crn_cert.specs.declared.answer.Gap.TheVariants.{Wide, Budget, Rests}
-use Rattle.crn_cert.specs.declared.answer.Verdict.{Verdict}
-use Rattle.crn_cert.specs.declared.answer.Verdict.TheVariants.{Classes, Strong, Rank, Deficiency, Yes, YesWeak, YesVec, YesSignal, No, NoReaction, NoVec, NoNumber, NoTerminal, NoClass, NoSum, NoDependence, NoCycle, NoPair, NotRegular, OnlyZero, Plane, NotApplicable, Unknown}
-use Rattle.crn_cert.specs.Questions.{Earlier, Q1, Q2, Q3, Q4, Q5, Q6, Q7, Q8, Q9, Q10, Q11, Q12, Q13, Q14, Q15, on, terminal_of}
-use Rattle.crn_cert.specs.Valid.{linkage_count}
-use Rattle.crn_cert.specs.Formed.{IsFormed}
-use Rattle.crn_cert.specs.FormedVerdicts.{IsFormedVerdict}
-use Rattle.crn_cert.proofs.CallerLemmas.{formed_answers_have_formed_verdicts}
-use Rattle.crn_check.specs.Facts.{KeptFacts, AreFactsOf, asked}
-use Rattle.crn_check.specs.Check.{AsksForTree, IsBuilt, HoldsNeeds, shown_by_tree}
-use Rattle.crn_check.specs.Inner.Facts.{DoesFit}
+use Rattle.crn_check.proofs.Prelude.{◌≤◌, inl, inr, ℕ, length, subst, arith, Net, IsNetwork, Answer, Wide, Budget, Rests, Verdict, Classes, Strong, Rank, Deficiency, Yes, YesWeak, YesVec, YesSignal, No, NoReaction, NoVec, NoNumber, NoTerminal, NoClass, NoSum, NoDependence, NoCycle, NoPair, NotRegular, OnlyZero, Plane, NotApplicable, Unknown, Earlier, Q1, Q2, Q3, Q4, Q5, Q6, Q7, Q8, Q9, Q10, Q11, Q12, Q13, Q14, Q15, on, terminal_of, linkage_count, IsFormed, IsFormedVerdict, formed_answers_have_formed_verdicts, KeptFacts, AreFactsOf, asked, AsksForTree, IsBuilt, HoldsNeeds, shown_by_tree, DoesFit}
 use Rattle.crn_check.proofs.Forms.{linkage_labelled, strong_few}
 
 fits_1 : (net : Net) (e : Earlier) (v : Verdict) → IsNetwork net → IsFormedVerdict net e Q1 v → DoesFit v

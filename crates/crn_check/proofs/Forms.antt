@@ -1,26 +1,5 @@
 -- What the form of an answer gives for the tests of its question, and for what is kept of it.
-use Rattle.std.proofs.Common.{◌≡◌, ◌≤◌, ◌⊎◌, inl, inr, ◌==◌, true, false, ℕ, List, [], ◌∷◌, ◌++◌, length, map, refl, sym, ap, ap₂, subst, ◌∙◌, arith}
-use Rattle.std.specs.List.{AllByRecursion}
-use Rattle.std.proofs.lemmas.Bool.{cases_eq, eq-eqb, ne_eqb}
-use Rattle.std.proofs.lemmas.List.{append-nil, append_assoc}
-use Rattle.crn_vec.specs.Network.{Net}
-use Rattle.crn_vec.specs.Kept.{KeptNums}
-use Rattle.crn_cert.specs.declared.answer.Answer.{Answer}
-use Rattle.crn_cert.specs.declared.answer.Gap.TheVariants.{Wide, Budget, Rests}
-use Rattle.crn_cert.specs.declared.answer.Verdict.{Verdict}
-use Rattle.crn_cert.specs.declared.answer.Verdict.TheVariants.{Classes, Strong, Unknown}
-use Rattle.crn_cert.specs.declared.answer.Proof.{Proof}
-use Rattle.crn_cert.specs.Questions.{Earlier, Question, Q1, Q2, Q3, Q4, Q5, Q6, Q7, Q8, Q9, Q10, Q11, Q12, Q13, Q14, Q15, number, on, labels_of, count_of, exits_of, terminal_of, IsOpen}
-use Rattle.crn_cert.specs.Ranges.{AreFrom}
-use Rattle.crn_cert.specs.Valid.{strong, exits, linkage, linkage_count}
-use Rattle.crn_cert.specs.Formed.{IsFormed}
-use Rattle.crn_cert.specs.FormedVerdicts.{IsFormedVerdict, AreFormedVerdicts}
-use Rattle.crn_cert.specs.Says.{IsTrueOf}
-use Rattle.crn_cert.specs.Law.{IsTrueOrOpen}
-use Rattle.crn_cert.proofs.CallerLemmas.{formed_answers_have_formed_verdicts, same_question, all_tight_then, tight_twice, true_tight}
-use Rattle.crn_cert.specs.Verdicts.{tight, all_tight}
-use Rattle.crn_check.specs.Check.{AsksForTree, shown_by_tree}
-use Rattle.crn_check.specs.Facts.{KeptFacts, AreFactsOf, asked, HoldsOn}
+use Rattle.crn_check.proofs.Prelude.{◌≡◌, ◌≤◌, ◌⊎◌, inl, inr, ◌==◌, true, false, ℕ, List, [], ◌∷◌, ◌++◌, length, map, refl, sym, ap, ap₂, subst, ◌∙◌, arith, AllByRecursion, cases_eq, eq-eqb, ne_eqb, append-nil, append_assoc, Net, KeptNums, Answer, Wide, Budget, Rests, Verdict, Classes, Strong, Unknown, Proof, Earlier, Question, Q1, Q2, Q3, Q4, Q5, Q6, Q7, Q8, Q9, Q10, Q11, Q12, Q13, Q14, Q15, number, on, labels_of, count_of, exits_of, terminal_of, IsOpen, AreFrom, strong, exits, linkage, linkage_count, IsFormed, IsFormedVerdict, AreFormedVerdicts, IsTrueOf, IsTrueOrOpen, formed_answers_have_formed_verdicts, same_question, all_tight_then, tight_twice, true_tight, tight, all_tight, AsksForTree, shown_by_tree, KeptFacts, AreFactsOf, asked, HoldsOn}
 
 -- ---- what is kept
 

@@ -1,13 +1,5 @@
 -- The tests of rows, one for each member of a range that has a property, met one after another.
-use Rattle.std.proofs.Common.{◌≡◌, inl, Bool, true, false, ℕ, suc, ◌+◌, ◌-◌, ◌<◌, ◌≤◌, List, [], ◌∷◌, length, get_or, drop, Result, Ok, Err, refl, sym, ap, ap₂, subst, ◌∙◌, arith}
-use Rattle.std.specs.Prelude.{ℤ, filter}
-use Rattle.std.specs.List.{range_with_len}
-use Rattle.std.proofs.lemmas.List.{drop_more}
-use Rattle.crn_cert.specs.Tests.{test}
-use Rattle.crn_cert.specs.Faults.{BadVector}
-use Rattle.crn_check.specs.declared.fault.CheckFault.{CheckFault}
-use Rattle.crn_check.specs.Check.{Judges}
-use Rattle.crn_check.specs.Inner.Ordered.{ordered_tests}
+use Rattle.crn_check.proofs.Prelude.{◌≡◌, inl, Bool, true, false, ℕ, suc, ◌+◌, ◌-◌, ◌<◌, ◌≤◌, List, [], ◌∷◌, length, get_or, drop, Result, Ok, Err, refl, sym, ap, ap₂, subst, ◌∙◌, arith, ℤ, filter, range_with_len, drop_more, test, BadVector, CheckFault, Judges, ordered_tests}
 use Rattle.crn_check.proofs.Judging.{judges_pass}
 use Rattle.crn_check.proofs.Outside.{filter_yes, filter_no}
 

@@ -1,8 +1,5 @@
 -- Tests in two parts: the first that fails, and all of them.
-use Rattle.std.proofs.Common.{◌≡◌, inl, inr, List, [], ◌∷◌, ◌++◌, Result, Ok, Err, sym, subst}
-use Rattle.crn_cert.specs.Tests.{Test, AllHold, FailsFirst}
-use Rattle.crn_check.specs.declared.fault.CheckFault.{CheckFault}
-use Rattle.crn_check.specs.Check.{Judges}
+use Rattle.crn_check.proofs.Prelude.{◌≡◌, inl, inr, List, [], ◌∷◌, ◌++◌, Result, Ok, Err, sym, subst, Test, AllHold, FailsFirst, CheckFault, Judges}
 
 -- a test of the first part fails
 fails_before : (ts us : List Test) (f : CheckFault) → FailsFirst ts f.part f.code → FailsFirst (ts ++ us) f.part f.code

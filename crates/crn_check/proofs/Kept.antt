@@ -1,13 +1,5 @@
 -- The verdicts that facts hold, by their questions.
-use Rattle.std.proofs.Common.{◌≡◌, ◌≢◌, inl, inr, ◌==◌, true, false, ℕ, zero, suc, ◌+◌, ◌-◌, ◌<◌, ◌≤◌, List, [], ◌∷◌, ◌++◌, length, map, get_or, drop, refl, sym, ap, subst, ◌∙◌, arith}
-use Rattle.std.proofs.lemmas.Bool.{eq-eqb, ne_eqb}
-use Rattle.std.proofs.lemmas.List.{append-nil, drop_more, length-map}
-use Rattle.crn_cert.specs.declared.answer.Verdict.{Verdict}
-use Rattle.crn_cert.specs.Questions.{Earlier, Question, Q15, questions, number, on}
-use Rattle.crn_cert.proofs.CallerLemmas.{some_number, few_numbers}
-use Rattle.crn_check.specs.declared.facts.Fact.{Fact}
-use Rattle.crn_check.specs.Facts.{asked, HoldsOn, HoldsNoneFrom}
-use Rattle.crn_check.specs.Facts.{AreInOrder}
+use Rattle.crn_check.proofs.Prelude.{◌≡◌, ◌≢◌, inl, inr, ◌==◌, true, false, ℕ, zero, suc, ◌+◌, ◌-◌, ◌<◌, ◌≤◌, List, [], ◌∷◌, ◌++◌, length, map, get_or, drop, refl, sym, ap, subst, ◌∙◌, arith, eq-eqb, ne_eqb, append-nil, drop_more, length-map, Verdict, Earlier, Question, Q15, questions, number, on, some_number, few_numbers, Fact, asked, HoldsOn, HoldsNoneFrom, AreInOrder}
 
 number_at : (k : ℕ) → k < 15 → number (get_or questions k Q15) ≡ k + 1
 number_at zero lt = refl

@@ -1,15 +1,5 @@
 -- The first number of a list that is not zero, and the greatest common divisor of a list.
-use Rattle.std.proofs.Common.{◌≡◌, ◌≢◌, inl, inr, ℕ, zero, suc, ◌<◌, ◌≤◌, List, [], ◌∷◌, length, refl, sym, ap, subst, ◌∙◌, arith}
-use Rattle.std.specs.Prelude.{ℤ, pos, negsuc, ◌≤ℤ◌}
-use Rattle.std.specs.Int.{◌∣◌}
-use Rattle.std.proofs.lemmas.Int.{ints}
-use Rattle.std.proofs.Math.Nat.{eq-one_of_dvd-one}
-use Rattle.crn_vec.specs.Vectors.{entry}
-use Rattle.crn_vec.specs.Elementary.{IsPrimitive}
-use Rattle.crn_vec.specs.Confluence.{IsNonzero, LeadsPositive}
-use Rattle.crn_vec.proofs.CallerLemmas.{lt_or, past_end}
-use Rattle.crn_cert.specs.ConfluenceTests.{least_from}
-use Rattle.crn_check.specs.Inner.Spaces.{IsDivisor}
+use Rattle.crn_check.proofs.Prelude.{◌≡◌, ◌≢◌, inl, inr, ℕ, zero, suc, ◌<◌, ◌≤◌, List, [], ◌∷◌, length, refl, sym, ap, subst, ◌∙◌, arith, ℤ, pos, negsuc, ◌≤ℤ◌, ◌∣◌, ints, eq-one_of_dvd-one, entry, IsPrimitive, IsNonzero, LeadsPositive, lt_or, past_end, least_from, IsDivisor}
 
 least_on : (k : ℕ) (g : List ℤ) → least_from (suc k) g ≡ suc (least_from k g)
 least_on k [] = refl

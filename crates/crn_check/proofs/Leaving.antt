@@ -1,11 +1,5 @@
 -- Exits of classes: a class whose exit is 0 is left by no reaction, and any other by its exit.
-use Rattle.std.proofs.Common.{◌≡◌, ◌≢◌, inl, inr, ℕ, ◌+◌, ◌-◌, ◌≤◌, List, length, get_or, sym, subst, ◌∙◌, arith}
-use Rattle.std.proofs.Math.Numerals.{add-one}
-use Rattle.std.proofs.lemmas.Bool.{cases_eq}
-use Rattle.crn_vec.specs.Network.{Net}
-use Rattle.crn_vec.specs.Strong.{IsReaction}
-use Rattle.crn_cert.specs.ClassTests.{GoesOut, AreAllExits}
-use Rattle.crn_check.specs.Inner.Tests.{DoFinalsHold, DoExitsLeave}
+use Rattle.crn_check.proofs.Prelude.{◌≡◌, ◌≢◌, inl, inr, ℕ, ◌+◌, ◌-◌, ◌≤◌, List, length, get_or, sym, subst, ◌∙◌, arith, add-one, cases_eq, Net, IsReaction, GoesOut, AreAllExits, DoFinalsHold, DoExitsLeave}
 
 -- a reaction that leaves a class whose exit is 0
 pub leaves_final : (net : Net) (labels exits : List ℕ) (r y z : ℕ) → IsReaction net.reactions r y z → get_or labels y 0 ≢ get_or labels z 0 → 1 ≤ get_or labels y 0 → get_or labels y 0 ≤ length exits → get_or exits (get_or labels y 0 - 1) 0 ≡ 0 → DoFinalsHold net labels exits → ⊥

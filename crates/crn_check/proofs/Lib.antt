@@ -25,3 +25,4 @@ mod NoTrees
 mod SignalRows
 mod SidesAccepted
 mod VectorKnown
+mod Prelude

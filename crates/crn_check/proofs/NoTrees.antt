@@ -1,18 +1,5 @@
 -- A formed answer to a question that trees answer holds no tree, if its verdict is not the one that trees show.
-use Rattle.std.proofs.Common.{◌≡◌, [], inl, inr, ℕ, refl, sym, subst}
-use Rattle.std.specs.List.{AllZip}
-use Rattle.crn_vec.specs.Network.{Net}
-use Rattle.crn_cert.specs.declared.answer.Answer.{Answer}
-use Rattle.crn_cert.specs.declared.answer.Gap.TheVariants.{Wide, Budget, Rests}
-use Rattle.crn_cert.specs.declared.answer.Proof.{Proof}
-use Rattle.crn_cert.specs.declared.answer.Proof.TheVariants.{One, Two}
-use Rattle.crn_cert.specs.declared.answer.Verdict.{Verdict}
-use Rattle.crn_cert.specs.declared.answer.Verdict.TheVariants.{Yes, No, Unknown}
-use Rattle.crn_cert.specs.Formed.{IsFormed, IsFormedOf}
-use Rattle.crn_cert.specs.Blocks.{FitsTree, trees_of}
-use Rattle.crn_cert.specs.Questions.{Earlier, Q13, Q14, Q15}
-use Rattle.crn_check.specs.Facts.{asked}
-use Rattle.crn_check.specs.Check.{AsksForTree, HoldsNoTree, shown_by_tree}
+use Rattle.crn_check.proofs.Prelude.{◌≡◌, [], inl, inr, ℕ, refl, sym, subst, AllZip, Net, Answer, Wide, Budget, Rests, Proof, One, Two, Verdict, Yes, No, Unknown, IsFormed, IsFormedOf, FitsTree, trees_of, Earlier, Q13, Q14, Q15, asked, AsksForTree, HoldsNoTree, shown_by_tree}
 
 no_trees : (p : Proof) → AllZip FitsTree [] (trees_of p) → HoldsNoTree p
 no_trees (One tree) f = absurd f

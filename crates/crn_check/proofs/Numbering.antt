@@ -1,7 +1,5 @@
 -- Labels that are numbered by first appearance, read from left to right.
-use Rattle.std.proofs.Common.{◌≡◌, ◌↔◌, inl, inr, ℕ, ◌+◌, ◌<◌, ◌≤◌, List, length, get_or, IsTrue, nat_lt, sym, subst, arith}
-use Rattle.std.proofs.lemmas.Bool.{cases_lt, lt-ltb, ltb-true}
-use Rattle.crn_cert.specs.ClassTests.{AreNumbered, IsFirst}
+use Rattle.crn_check.proofs.Prelude.{◌≡◌, ◌↔◌, inl, inr, ℕ, ◌+◌, ◌<◌, ◌≤◌, List, length, get_or, IsTrue, nat_lt, sym, subst, arith, cases_lt, lt-ltb, ltb-true, AreNumbered, IsFirst}
 
 -- the labels of the complexes before i are numbered by first appearance, up to `most`
 pub record IsNumberedTo (labels : List ℕ) (i most : ℕ) : Type 0 where

@@ -1,20 +1,5 @@
 -- The members outside an ascending base, met one after another.
-use Rattle.std.proofs.Common.{◌≡◌, inl, inr, ◌==◌, Bool, true, false, ℕ, suc, ◌+◌, ◌-◌, ◌<◌, ◌≤◌, List, [], ◌∷◌, length, get_or, drop, Result, Ok, Err, refl, sym, ap, subst, ◌∙◌, arith}
-use Rattle.std.specs.Prelude.{ℤ, filter}
-use Rattle.std.specs.List.{list_any, range_with_len}
-use Rattle.std.proofs.lemmas.Bool.{cases_Bool, eq-eqb, ne_eqb}
-use Rattle.std.proofs.lemmas.Bool.Decides.{Decides-eqb}
-use Rattle.std.proofs.lemmas.List.{drop_more}
-use Rattle.crn_vec.specs.Lists.{IsIn, IsAbove, IsAscending}
-use Rattle.crn_vec.specs.Network.{Net}
-use Rattle.crn_vec.proofs.CallerLemmas.{any_is, above_ascending, above_lower, above_in}
-use Rattle.crn_cert.specs.RankTests.{IsComb, comb_tests, outside, vector_of}
-use Rattle.crn_cert.specs.Tests.{test}
-use Rattle.crn_cert.specs.Faults.{NotSpanned}
-use Rattle.crn_check.specs.declared.fault.CheckFault.{CheckFault}
-use Rattle.crn_check.specs.declared.members.Members.{Members}
-use Rattle.crn_check.specs.Check.{Judges}
-use Rattle.crn_check.specs.Inner.Bases.{is_member, members_of}
+use Rattle.crn_check.proofs.Prelude.{◌≡◌, inl, inr, ◌==◌, Bool, true, false, ℕ, suc, ◌+◌, ◌-◌, ◌<◌, ◌≤◌, List, [], ◌∷◌, length, get_or, drop, Result, Ok, Err, refl, sym, ap, subst, ◌∙◌, arith, ℤ, filter, list_any, range_with_len, cases_Bool, eq-eqb, ne_eqb, Decides-eqb, drop_more, IsIn, IsAbove, IsAscending, Net, any_is, above_ascending, above_lower, above_in, IsComb, comb_tests, outside, vector_of, test, NotSpanned, CheckFault, Members, Judges, is_member, members_of}
 use Rattle.crn_check.proofs.Judging.{judges_pass}
 
 has_not : (base : List ℕ) (r : ℕ) → (IsIn r base → ⊥) → list_any (λ b. b == r) base ≡ false

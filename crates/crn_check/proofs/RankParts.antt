@@ -1,18 +1,6 @@
 -- Numbers of certificates, the vectors of a base, and the tests of duals, one after another.
-use Rattle.std.proofs.Common.{◌≡◌, ◌≢◌, inl, inr, ℕ, zero, suc, ◌+◌, ◌-◌, ◌<◌, List, [], ◌∷◌, length, get_or, drop, Result, Ok, Err, refl, sym, ap, subst, ◌∙◌, arith}
-use Rattle.std.specs.Prelude.{ℤ, pos}
-use Rattle.crn_vec.specs.Vectors.{dot}
-use Rattle.crn_vec.specs.Network.{Net}
-use Rattle.crn_cert.specs.Ranges.{IsFrom}
-use Rattle.crn_vec.proofs.CallerLemmas.{all_at, lt_or}
-use Rattle.crn_check.specs.Inner.Bases.{IsBase}
+use Rattle.crn_check.proofs.Prelude.{◌≡◌, ◌≢◌, inl, inr, ℕ, zero, suc, ◌+◌, ◌-◌, ◌<◌, List, [], ◌∷◌, length, get_or, drop, Result, Ok, Err, refl, sym, ap, subst, ◌∙◌, arith, ℤ, pos, dot, Net, IsFrom, all_at, lt_or, IsBase, drop_more, IsDual, dual_tests, vector_of, vectors_of, test, NotIndependent, CheckFault, Judges}
 use Rattle.crn_check.proofs.Widths.{vector_width}
-use Rattle.std.proofs.lemmas.List.{drop_more}
-use Rattle.crn_cert.specs.RankTests.{IsDual, dual_tests, vector_of, vectors_of}
-use Rattle.crn_cert.specs.Tests.{test}
-use Rattle.crn_cert.specs.Faults.{NotIndependent}
-use Rattle.crn_check.specs.declared.fault.CheckFault.{CheckFault}
-use Rattle.crn_check.specs.Check.{Judges}
 use Rattle.crn_check.proofs.Judging.{judges_pass}
 
 -- the vector of a member of the base

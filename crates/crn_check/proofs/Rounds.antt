@@ -1,16 +1,5 @@
 -- Walks round linked pairs, step by step, and links by their reactions.
-use Rattle.std.proofs.Common.{◌≡◌, inl, inr, ℕ, zero, suc, ◌+◌, ◌-◌, ◌<◌, ◌≤◌, List, [], ◌∷◌, length, get_or, drop, refl, sym, ap, subst, ◌∙◌, arith}
-use Rattle.std.specs.List.{AllByRecursion}
-use Rattle.std.proofs.lemmas.List.{drop_more}
-use Rattle.crn_vec.specs.Network.{Net}
-use Rattle.crn_vec.specs.Linkage.{IsLinked}
-use Rattle.crn_vec.specs.Strong.{IsReaction}
-use Rattle.crn_vec.specs.Walks.{IsAlong}
-use Rattle.crn_vec.specs.CutPairs.{IsBetween, IsFreeStep}
-use Rattle.crn_cert.proofs.CallerLemmas.{least_one}
-use Rattle.crn_cert.specs.Ranges.{IsFrom}
-use Rattle.crn_cert.specs.Says.{from_zero, WalkLeads}
-use Rattle.crn_cert.specs.ClassTests.{IsWayRound}
+use Rattle.crn_check.proofs.Prelude.{◌≡◌, inl, inr, ℕ, zero, suc, ◌+◌, ◌-◌, ◌<◌, ◌≤◌, List, [], ◌∷◌, length, get_or, drop, refl, sym, ap, subst, ◌∙◌, arith, AllByRecursion, drop_more, Net, IsLinked, IsReaction, IsAlong, IsBetween, IsFreeStep, least_one, IsFrom, from_zero, WalkLeads, IsWayRound}
 use Rattle.crn_check.proofs.Counted.{place_between, between_place}
 
 -- a reaction between two complexes, in either direction, links them

@@ -1,16 +1,5 @@
 -- The marks of the side of a pair, by its reaction, and the tests of sides and ties in order.
-use Rattle.std.proofs.Common.{◌≡◌, ℕ, suc, ◌+◌, ◌-◌, List, [], ◌∷◌, length, get_or, refl, sym, ap, subst, ◌∙◌, arith}
-use Rattle.std.specs.Prelude.{ℤ, pos}
-use Rattle.crn_vec.specs.Network.{Net}
-use Rattle.crn_vec.specs.Vectors.{entry}
-use Rattle.crn_vec.specs.Strong.{IsReaction}
-use Rattle.crn_cert.specs.Questions.{Earlier}
-use Rattle.crn_cert.specs.Tests.{Test, test}
-use Rattle.crn_cert.specs.ClassTests.{AreSideMarks}
-use Rattle.crn_cert.specs.ConfluenceTests.{IsTie, tie_tests}
-use Rattle.crn_cert.specs.Valid.{linkage, side_tests}
-use Rattle.crn_check.specs.Inner.Ordered.{AreEqualBut, AreZeroOutside, ordered_tests}
-use Rattle.crn_cert.specs.Faults.{BadVector}
+use Rattle.crn_check.proofs.Prelude.{◌≡◌, ℕ, suc, ◌+◌, ◌-◌, List, [], ◌∷◌, length, get_or, refl, sym, ap, subst, ◌∙◌, arith, ℤ, pos, Net, entry, IsReaction, Earlier, Test, test, AreSideMarks, IsTie, tie_tests, linkage, side_tests, AreEqualBut, AreZeroOutside, ordered_tests, BadVector}
 
 pub side_marks : (net : Net) (labels : List ℕ) (r y z : ℕ) (marks : List ℤ) → length labels ≡ length net.complexes → IsReaction net.reactions r y z → entry marks y ≡ pos 0 → entry marks z ≡ pos 1 → AreZeroOutside labels (get_or labels y 0) marks → AreEqualBut net y z marks → AreSideMarks net labels (r + 1) marks
 side_marks net labels r y z marks long goes from to outside equal =

@@ -1,23 +1,5 @@
 -- The sides of a valid yes to question 11 are those of the linked pairs within terminal classes.
-use Rattle.std.proofs.Common.{◌≡◌, List, subst}
-use Rattle.std.specs.Prelude.{ℤ}
-use Rattle.crn_vec.specs.Network.{Net, IsNetwork}
-use Rattle.crn_vec.specs.Deficiency.{IsLabelled}
-use Rattle.crn_cert.specs.declared.answer.Answer.{Answer}
-use Rattle.crn_cert.specs.declared.answer.Proof.{Proof}
-use Rattle.crn_cert.specs.declared.answer.Proof.TheVariants.{Sides}
-use Rattle.crn_cert.specs.declared.answer.Verdict.{Verdict}
-use Rattle.crn_cert.specs.declared.answer.Verdict.TheVariants.{Classes, Yes}
-use Rattle.crn_cert.specs.Formed.{IsFormed, IsFormedOf}
-use Rattle.crn_cert.specs.Questions.{Q1, Q11, on, labels_of}
-use Rattle.crn_cert.specs.Says.{IsTrueOf}
-use Rattle.crn_cert.specs.Tests.{AllHold}
-use Rattle.crn_cert.specs.Valid.{head_tests, row_tests, tests_of}
-use Rattle.crn_cert.proofs.CallerLemmas.{hold_parts, sides_formed}
-use Rattle.crn_shape.specs.Sides.{AreSides}
-use Rattle.crn_shape.proofs.CallerLemmas.{tested_sides}
-use Rattle.crn_check.specs.Check.{HoldsNeeds}
-use Rattle.crn_check.specs.Facts.{KeptFacts, AreFactsOf}
+use Rattle.crn_check.proofs.Prelude.{◌≡◌, List, subst, ℤ, Net, IsNetwork, IsLabelled, Answer, Proof, Sides, Verdict, Classes, Yes, IsFormed, IsFormedOf, Q1, Q11, on, labels_of, IsTrueOf, AllHold, head_tests, row_tests, tests_of, hold_parts, sides_formed, AreSides, tested_sides, HoldsNeeds, KeptFacts, AreFactsOf}
 use Rattle.crn_check.proofs.Truths.{linkage_true, strong_true}
 
 -- true labels of the linkage classes

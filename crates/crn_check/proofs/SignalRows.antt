@@ -1,28 +1,6 @@
 -- The test of a signal is that of its lists over the shape of the network and of the vector of question 12 with its turn.
-use Rattle.std.proofs.Common.{◌≡◌, ◌∙◌, inl, inr, List, Result, Ok, Err, map, refl, ap, sym, subst}
-use Rattle.std.specs.Prelude.{ℤ, pos, negsuc, ◌↔◌, Option, Some}
-use Rattle.std.specs.Option.{IsSomeAnd}
-use Rattle.crn_vec.specs.Network.{Net, IsNetwork}
-use Rattle.crn_vec.specs.Confluence.{IsRegular, InConfluenceSpace}
-use Rattle.crn_vec.specs.Concordance.{sign}
-use Rattle.crn_vec.specs.NetSystems.{reaction_system}
-use Rattle.crn_vec.specs.Signals.{Shape, IsSignal}
-use Rattle.crn_vec.specs.NetSignals.{IsShapeOf, IsSignalOf}
-use Rattle.crn_vec.proofs.CallerLemmas.{signals_are_of_shape, negative_space}
-use Rattle.crn_cert.specs.declared.answer.Answer.{Answer}
-use Rattle.crn_cert.specs.declared.answer.Verdict.{Verdict}
-use Rattle.crn_cert.specs.declared.answer.Verdict.TheVariants.{YesVec, YesSignal}
-use Rattle.crn_cert.specs.declared.answer.Proof.{Proof}
-use Rattle.crn_cert.specs.Questions.{Earlier, Q2, Q12, Q13, on, vector_given}
-use Rattle.crn_cert.specs.Says.{IsTrueOf, by_turn}
-use Rattle.crn_cert.specs.FormedVerdicts.{IsFormedVerdict}
-use Rattle.crn_cert.specs.Tests.{AllHold, FailsFirst}
-use Rattle.crn_cert.specs.Law.{IsTrueOrOpen}
-use Rattle.crn_cert.specs.Valid.{head_tests, row_tests, tests_of}
-use Rattle.crn_cert.proofs.CallerLemmas.{shape_count}
-use Rattle.crn_check.specs.declared.fault.CheckFault.{CheckFault}
-use Rattle.crn_check.specs.Check.{IsShapeFor, Judges}
-use Rattle.crn_check.specs.Inner.Tests.{DoListsFit, shape_tests}
+use Rattle.crn_check.proofs.Prelude.{◌≡◌, ◌∙◌, inl, inr, List, Result, Ok, Err, map, refl, ap, sym, subst, ℤ, pos, negsuc, Option, Some, IsSomeAnd, Net, IsNetwork, IsRegular, InConfluenceSpace, sign, reaction_system, Shape, IsSignal, IsShapeOf, IsSignalOf, signals_are_of_shape, negative_space, Answer, Verdict, YesVec, YesSignal, Proof, Earlier, Q2, Q12, Q13, on, vector_given, IsTrueOf, by_turn, IsFormedVerdict, AllHold, FailsFirst, IsTrueOrOpen, head_tests, row_tests, tests_of, shape_count, CheckFault, IsShapeFor, Judges, DoListsFit, shape_tests}
+use Rattle.std.specs.Prelude.{◌↔◌}
 use Rattle.crn_check.proofs.Judging.{judges_go}
 
 -- ---- the vector of question 12 with a turn

@@ -1,10 +1,5 @@
 -- Numbers over the complexes: the combination of the complexes with them, and their sums over classes.
-use Rattle.std.proofs.Common.{◌≡◌, inl, inr, ℕ, ◌<◌, List, length}
-use Rattle.std.specs.Prelude.{ℤ, pos}
-use Rattle.crn_vec.specs.Network.{Net, IsNetwork}
-use Rattle.crn_vec.specs.Rank.{combination_at}
-use Rattle.crn_vec.proofs.CallerLemmas.{lt_or, vector_long}
-use Rattle.crn_check.specs.Inner.Spaces.{IsBalanced}
+use Rattle.crn_check.proofs.Prelude.{◌≡◌, inl, inr, ℕ, ◌<◌, List, length, ℤ, pos, Net, IsNetwork, combination_at, lt_or, vector_long, IsBalanced}
 use Rattle.crn_check.proofs.Widths.{combination_past}
 
 -- complexes have no amounts past the species

@@ -1,20 +1,6 @@
 -- The product of multipliers and the rows of the confluence system, at a complex: that with its amounts, and the
 -- multiplier of its linkage class.
-use Rattle.std.proofs.Common.{◌≡◌, ◌≢◌, inl, inr, ◌==◌, Bool, false, not, ℕ, zero, suc, ◌+◌, ◌-◌, ◌*◌, ◌<◌, ◌≤◌, List, [], ◌∷◌, ◌++◌, length, get_or, map, take, drop, refl, sym, ap, ap₂, ◌∙◌, arith}
-use Rattle.std.specs.Prelude.{ℤ, pos, ◌+ℤ◌, ◌*ℤ◌, if◌then◌else◌, filter, Some, None}
-use Rattle.std.specs.List.{range_with_len}
-use Rattle.std.proofs.lemmas.Int.{ints}
-use Rattle.std.proofs.lemmas.Bool.{cases_eq, eq-eqb, ne_eqb}
-use Rattle.std.proofs.lemmas.List.{ext_get_or, length-map}
-use Rattle.std.proofs.lemmas.List.FromFn.{length-range_with_len, get_or-map-range_with_len}
-use Rattle.std.proofs.Math.Seq.{take-append_seam, drop-append_seam}
-use Rattle.crn_vec.specs.Network.{Net}
-use Rattle.crn_vec.specs.Vectors.{dot, column, entry}
-use Rattle.crn_vec.specs.Sums.{label_marks}
-use Rattle.crn_vec.specs.NetSystems.{by_species}
-use Rattle.crn_vec.proofs.CallerLemmas.{dot_split, dot_none, entry-column, length-column, label_mark}
-use Rattle.crn_cert.specs.ConfluenceTests.{tie_at}
-use Rattle.crn_check.specs.Inner.Ordered.{is_tied, tied}
+use Rattle.crn_check.proofs.Prelude.{◌≡◌, ◌≢◌, inl, inr, ◌==◌, Bool, false, not, ℕ, zero, suc, ◌+◌, ◌-◌, ◌*◌, ◌<◌, ◌≤◌, List, [], ◌∷◌, ◌++◌, length, get_or, map, take, drop, refl, sym, ap, ap₂, ◌∙◌, arith, ℤ, pos, ◌+ℤ◌, ◌*ℤ◌, if◌then◌else◌, filter, Some, None, range_with_len, ints, cases_eq, eq-eqb, ne_eqb, ext_get_or, length-map, length-range_with_len, get_or-map-range_with_len, take-append_seam, drop-append_seam, Net, dot, column, entry, label_marks, by_species, dot_split, dot_none, entry-column, length-column, label_mark, tie_at, is_tied, tied}
 
 column-append : (xs ys : List (List ℤ)) (c : ℕ) → column (xs ++ ys) c ≡ column xs c ++ column ys c
 column-append [] ys c = refl

@@ -1,22 +1,5 @@
 -- The verdict of a valid answer is true or open, if the facts are.
-use Rattle.std.proofs.Common.{◌≡◌, ◌==◌, true, false, inl, inr, ℕ, [], ◌∷◌, Ok, sym, subst}
-use Rattle.std.specs.List.{AllByRecursion}
-use Rattle.std.proofs.lemmas.Bool.{cases_eq, eq-eqb, ne_eqb}
-use Rattle.crn_vec.specs.Network.{Net, IsNetwork}
-use Rattle.crn_cert.specs.declared.answer.Answer.{Answer}
-use Rattle.crn_cert.specs.declared.answer.Gap.TheVariants.{Wide, Budget, Rests}
-use Rattle.crn_cert.specs.declared.answer.Verdict.{Verdict}
-use Rattle.crn_cert.specs.declared.answer.Verdict.TheVariants.{Unknown}
-use Rattle.crn_cert.specs.Questions.{Earlier, Question, Q1, Q2, Q4, Q5, Q6, Q7, Q11, Q12, number, on}
-use Rattle.crn_cert.specs.Says.{IsTrueOf}
-use Rattle.crn_cert.specs.Formed.{IsFormed}
-use Rattle.crn_cert.specs.FormedVerdicts.{IsFormedVerdict}
-use Rattle.crn_cert.specs.Valid.{head_tests, row_tests, tests_of}
-use Rattle.crn_cert.specs.Tests.{AllHold}
-use Rattle.crn_cert.specs.Law.{IsTrueOrOpen, AreTrue, AreTrueOrOpen, known_for, rests_for}
-use Rattle.crn_cert.proofs.CallerLemmas.{valid_answers_are_true, same_question}
-use Rattle.crn_check.specs.Check.{IsBuilt, HoldsNeeds}
-use Rattle.crn_check.specs.Facts.{KeptFacts, AreFactsOf, asked, HoldsOn}
+use Rattle.crn_check.proofs.Prelude.{◌≡◌, ◌==◌, true, false, inl, inr, ℕ, [], ◌∷◌, Ok, sym, subst, AllByRecursion, cases_eq, eq-eqb, ne_eqb, Net, IsNetwork, Answer, Wide, Budget, Rests, Verdict, Unknown, Earlier, Question, Q1, Q2, Q4, Q5, Q6, Q7, Q11, Q12, number, on, IsTrueOf, IsFormed, IsFormedVerdict, head_tests, row_tests, tests_of, AllHold, IsTrueOrOpen, AreTrue, AreTrueOrOpen, known_for, rests_for, valid_answers_are_true, same_question, IsBuilt, HoldsNeeds, KeptFacts, AreFactsOf, asked, HoldsOn}
 use Rattle.crn_check.proofs.Judging.{judges_go}
 use Rattle.crn_check.proofs.Forms.{formed_on}
 

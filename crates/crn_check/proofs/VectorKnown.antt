@@ -1,22 +1,5 @@
 -- What the facts hold on the strong classes and on the vector of question 12, for the shape of the network and of that vector with a turn.
-use Rattle.std.proofs.Common.{◌≡◌, List, [], length, sym, subst}
-use Rattle.std.specs.Prelude.{ℤ, Option, Some}
-use Rattle.std.specs.Option.{IsSomeAnd}
-use Rattle.std.specs.List.{AllByRecursion}
-use Rattle.crn_vec.specs.Network.{Net}
-use Rattle.crn_vec.specs.Confluence.{IsRegular}
-use Rattle.crn_vec.specs.Signals.{Shape}
-use Rattle.crn_vec.specs.NetSignals.{IsShapeOf}
-use Rattle.crn_cert.specs.declared.answer.Verdict.{Verdict}
-use Rattle.crn_cert.specs.declared.answer.Verdict.TheVariants.{Strong, YesVec}
-use Rattle.crn_cert.specs.FormedVerdicts.{IsFormedVerdict}
-use Rattle.crn_cert.specs.Law.{IsTrueOrOpen}
-use Rattle.crn_cert.specs.Questions.{Earlier, Q2, Q12, on, labels_of, exits_of, vector_given}
-use Rattle.crn_cert.specs.Ranges.{IsNarrow}
-use Rattle.crn_cert.specs.Says.{IsTrueOf, by_turn}
-use Rattle.crn_cert.specs.Valid.{OfVector, strong, exits}
-use Rattle.crn_shape.specs.Sides.{AreClassesBy}
-use Rattle.crn_check.specs.Facts.{KeptFacts, AreFactsOf, HoldsOn}
+use Rattle.crn_check.proofs.Prelude.{◌≡◌, List, [], length, sym, subst, ℤ, Option, Some, IsSomeAnd, AllByRecursion, Net, IsRegular, Shape, IsShapeOf, Verdict, Strong, YesVec, IsFormedVerdict, IsTrueOrOpen, Earlier, Q2, Q12, on, labels_of, exits_of, vector_given, IsNarrow, IsTrueOf, by_turn, OfVector, strong, exits, AreClassesBy, KeptFacts, AreFactsOf, HoldsOn}
 use Rattle.crn_check.proofs.Forms.{formed_on}
 use Rattle.crn_check.proofs.Truths.{sound_on, strong_true}
 

@@ -1,14 +1,5 @@
 -- The vectors of reactions have an entry for each species, and combinations of them are zero past these.
-use Rattle.std.proofs.Common.{◌≡◌, inl, inr, ℕ, zero, suc, ◌<◌, ◌≤◌, List, [], ◌∷◌, length, get_or, map, refl, ap, ◌∙◌, arith}
-use Rattle.std.specs.Prelude.{ℤ, pos, ◌*ℤ◌}
-use Rattle.std.specs.List.{AllByRecursion}
-use Rattle.std.proofs.Math.IntN.{*ℤ-zero}
-use Rattle.crn_vec.specs.Lists.{IsIn}
-use Rattle.crn_vec.specs.Network.{Net, IsNetwork, reaction_vector}
-use Rattle.crn_vec.specs.Vectors.{entry, column}
-use Rattle.crn_vec.specs.Rank.{combination_at}
-use Rattle.crn_vec.specs.Deficiency.{vectors}
-use Rattle.crn_vec.proofs.CallerLemmas.{at_in, dot_zero, reaction_long, vectors_count, vector_width as width_at, column_past}
+use Rattle.crn_check.proofs.Prelude.{◌≡◌, inl, inr, ℕ, zero, suc, ◌<◌, ◌≤◌, List, [], ◌∷◌, length, get_or, map, refl, ap, ◌∙◌, arith, ℤ, pos, ◌*ℤ◌, AllByRecursion, *ℤ-zero, IsIn, Net, IsNetwork, reaction_vector, entry, column, combination_at, vectors, at_in, dot_zero, reaction_long, vectors_count, width_at, column_past}
 
 pub vector_width : (net : Net) → IsNetwork net → (r : ℕ) → r < length net.reactions → length (reaction_vector net (get_or net.reactions r (0, 0))) ≡ length net.names
 vector_width net n r lt = reaction_long net n (get_or net.reactions r (0, 0)) (at_in net.reactions r (0, 0) lt)

@@ -1,13 +1,5 @@
 -- The last sign of a row that is not zero, and products with zero.
-use Rattle.std.proofs.Common.{◌≡◌, ◌≢◌, ℕ, zero, suc, ◌+◌, ◌<◌, ◌≤◌, ◌⊎◌, inl, inr, List, [], ◌∷◌, length, drop, true, false, refl, sym, ap, subst, ◌∙◌, arith}
-use Rattle.std.proofs.lemmas.List.{get_or_past}
-use Rattle.crn_vec.specs.declared.signs.Sign.{Sign}
-use Rattle.crn_vec.specs.declared.signs.Sign.TheVariants.{Zero, Plus, Minus}
-use Rattle.crn_vec.specs.Problems.{all_zero}
-use Rattle.crn_vec.specs.Concordance.{product}
-use Rattle.crn_vec.proofs.CallerLemmas.{eq_or, lt_or}
-use Rattle.crn_sign.specs.Options.{sign_at}
-use Rattle.crn_conc.specs.Inner.Rows.{IsLast}
+use Rattle.crn_conc.proofs.Prelude.{◌≡◌, ◌≢◌, ℕ, zero, suc, ◌+◌, ◌<◌, ◌≤◌, ◌⊎◌, inl, inr, List, [], ◌∷◌, length, drop, true, false, refl, sym, ap, subst, ◌∙◌, arith, get_or_past, Sign, Zero, Plus, Minus, all_zero, product, eq_or, lt_or, sign_at, IsLast}
 
 pub product_zero : (x : Sign) → product x Zero ≡ Zero
 product_zero Zero = refl

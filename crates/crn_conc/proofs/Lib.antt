@@ -4,3 +4,4 @@ mod SettledLaws
 mod SumLaws
 mod Starts
 mod Ended
+mod Prelude

@@ -1,16 +1,5 @@
 -- Which kinds one choice more leaves as they are.
-use Rattle.std.proofs.Common.{◌≡◌, ◌≢◌, ℕ, zero, suc, ◌+◌, ◌-◌, ◌<◌, inl, inr, List, [], ◌∷◌, ◌++◌, length, get_or, refl, sym, ap, subst, ◌∙◌, arith}
-use Rattle.std.specs.List.{range_with_len}
-use Rattle.std.proofs.lemmas.List.FromFn.{get_or-range_with_len, length-range_with_len}
-use Rattle.crn_vec.specs.declared.signs.Sign.{Sign}
-use Rattle.crn_vec.specs.declared.signs.Kind.{Kind}
-use Rattle.crn_vec.specs.Vectors.{Mat}
-use Rattle.crn_vec.specs.Lists.{IsIn}
-use Rattle.crn_vec.specs.Elementary.{width}
-use Rattle.crn_vec.specs.Systems.{kind_at}
-use Rattle.crn_vec.specs.Concordance.{kinds_b_of, row_kinds}
-use Rattle.crn_vec.proofs.CallerLemmas.{in_range, lt_or, column_in_b, row_in_b}
-use Rattle.crn_sign.specs.Settled.{SettlesOnly}
+use Rattle.crn_conc.proofs.Prelude.{◌≡◌, ◌≢◌, ℕ, zero, suc, ◌+◌, ◌-◌, ◌<◌, inl, inr, List, [], ◌∷◌, ◌++◌, length, get_or, refl, sym, ap, subst, ◌∙◌, arith, range_with_len, get_or-range_with_len, length-range_with_len, Sign, Kind, Mat, IsIn, width, kind_at, kinds_b_of, row_kinds, in_range, lt_or, column_in_b, row_in_b, SettlesOnly}
 
 -- all coordinates may be settled
 pub all_settle : (kinds : List Sign → List Kind) (n choices : ℕ) (list : List ℕ) → list ≡ range_with_len 0 n → SettlesOnly kinds n choices list

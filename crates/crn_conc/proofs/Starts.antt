@@ -1,20 +1,5 @@
 -- The visits with which each search over a table begins: no kind excludes 0 at a prefix of zeros.
-use Rattle.std.proofs.Common.{◌≡◌, ℕ, zero, suc, ◌+◌, ◌-◌, ◌<◌, ◌≤◌, ◌==◌, ◌&&◌, List, [], ◌∷◌, ◌++◌, length, map, get_or, drop, take, replicate, Bool, true, false, refl, sym, ap, subst, ◌∙◌, arith}
-use Rattle.std.specs.Prelude.{ℤ, pos, if◌then◌else◌}
-use Rattle.std.specs.List.{AllByRecursion, AllZip}
-use Rattle.std.proofs.lemmas.Bool.{eq-eqb, false≢true, ne_eqb}
-use Rattle.std.proofs.lemmas.List.{length-append, length-map, length-replicate}
-use Rattle.crn_vec.specs.declared.signs.Sign.{Sign}
-use Rattle.crn_vec.specs.declared.signs.Sign.TheVariants.{Zero, Plus, Minus}
-use Rattle.crn_vec.specs.declared.signs.Kind.{Kind}
-use Rattle.crn_vec.specs.declared.signs.Kind.TheVariants.{Free, Zero as ZeroKind}
-use Rattle.crn_vec.specs.Vectors.{Mat, dot}
-use Rattle.crn_vec.specs.Elementary.{width}
-use Rattle.crn_vec.specs.Systems.{HasKind, IsSolution}
-use Rattle.crn_vec.specs.Problems.{IsFeasible, all_zero, options_below}
-use Rattle.crn_vec.specs.Concordance.{IsTable, column_kind, concordance, is_minus, is_plus, kind_of_sum, kinds_a_of, kinds_b_of, products, row_kinds, some_sign}
-use Rattle.crn_vec.specs.Visits.{Passes, PassesBudget, begun, past, below}
-use Rattle.crn_vec.proofs.CallerLemmas.{all_append, dot-zeros, entry-zeros, length-rows, length-zeros, take-zeros, zeros}
+use Rattle.crn_conc.proofs.Prelude.{◌≡◌, ℕ, zero, suc, ◌+◌, ◌-◌, ◌<◌, ◌≤◌, ◌==◌, ◌&&◌, List, [], ◌∷◌, ◌++◌, length, map, get_or, drop, take, replicate, Bool, true, false, refl, sym, ap, subst, ◌∙◌, arith, ℤ, pos, if◌then◌else◌, AllByRecursion, AllZip, eq-eqb, false≢true, ne_eqb, length-append, length-map, length-replicate, Sign, Zero, Plus, Minus, Kind, Free, ZeroKind, Mat, dot, width, HasKind, IsSolution, IsFeasible, all_zero, options_below, IsTable, column_kind, concordance, is_minus, is_plus, kind_of_sum, kinds_a_of, kinds_b_of, products, row_kinds, some_sign, Passes, PassesBudget, begun, past, below, all_append, dot-zeros, entry-zeros, length-rows, length-zeros, take-zeros, zeros}
 use Rattle.crn_conc.proofs.LastSigns.{product_zero}
 
 -- 0 is of the kind

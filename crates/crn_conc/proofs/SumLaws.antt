@@ -1,23 +1,5 @@
 -- What a prefix requires of part A of a table's problem, by words that the prefix with one option less gives.
-use Rattle.std.proofs.Common.{◌≡◌, ℕ, zero, suc, ◌+◌, ◌-◌, ◌/◌, ◌%◌, ◌<◌, ◌≤◌, max, inl, inr, List, [], ◌∷◌, ◌++◌, length, get_or, drop, set, Bool, true, false, refl, sym, ap, ap₂, subst, ◌∙◌, arith}
-use Rattle.std.specs.Prelude.{if◌then◌else◌, bit_or, bit_xor}
-use Rattle.std.specs.Int.{bit_at}
-use Rattle.std.proofs.lemmas.List.{get_or_append_left, get_or-append_right, get_or_past, get_or-set_same, get_or-set_other, length-append, length-set}
-use Rattle.std.proofs.lemmas.Nat.Bits.{bit_at-zero, bit_at_or, bit_at_xor}
-use Rattle.crn_vec.specs.declared.signs.Sign.{Sign}
-use Rattle.crn_vec.specs.declared.signs.Sign.TheVariants.{Zero, Plus, Minus}
-use Rattle.crn_vec.specs.declared.signs.Kind.TheVariants.{Free, Zero as ZeroKind}
-use Rattle.crn_vec.specs.Vectors.{Mat}
-use Rattle.crn_vec.specs.Elementary.{width}
-use Rattle.crn_vec.specs.Systems.{kind_at, one_if}
-use Rattle.crn_vec.specs.Problems.{all_zero}
-use Rattle.crn_vec.specs.Concordance.{column_kind, is_minus, is_plus, kind_of_sum, kinds_a_of, product, products, some_sign}
-use Rattle.crn_vec.proofs.CallerLemmas.{eq_or, lt_or, products_none, column_in_a, row_in_a}
-use Rattle.crn_sign.specs.declared.bits.Bits.{Bits}
-use Rattle.crn_sign.specs.declared.problem.Asked.{Asked}
-use Rattle.crn_sign.specs.Options.{AskKinds, IsPut, kind_of_bits, minus_at, none, plus_at, sign_at, word_at, word_count}
-use Rattle.crn_conc.specs.declared.chosen.Chosen.{Chosen}
-use Rattle.crn_conc.specs.Inner.Columns.{AreMade, AreSettled, AreSignsOf, AreSums, IsAskedOf, IsChosen, IsExtended, signs_at}
+use Rattle.crn_conc.proofs.Prelude.{◌≡◌, ℕ, zero, suc, ◌+◌, ◌-◌, ◌/◌, ◌%◌, ◌<◌, ◌≤◌, max, inl, inr, List, [], ◌∷◌, ◌++◌, length, get_or, drop, set, Bool, true, false, refl, sym, ap, ap₂, subst, ◌∙◌, arith, if◌then◌else◌, bit_or, bit_xor, bit_at, get_or_append_left, get_or-append_right, get_or_past, get_or-set_same, get_or-set_other, length-append, length-set, bit_at-zero, bit_at_or, bit_at_xor, Sign, Zero, Plus, Minus, Free, ZeroKind, Mat, width, kind_at, one_if, all_zero, column_kind, is_minus, is_plus, kind_of_sum, kinds_a_of, product, products, some_sign, eq_or, lt_or, products_none, column_in_a, row_in_a, Bits, Asked, AskKinds, IsPut, kind_of_bits, minus_at, none, plus_at, sign_at, word_at, word_count, Chosen, AreMade, AreSettled, AreSignsOf, AreSums, IsAskedOf, IsChosen, IsExtended, signs_at}
 
 -- ---- one option more
 

@@ -1,22 +1,8 @@
 -- The records of formed answers to the built questions are formed, and their tests are those of the answers.
-use Rattle.std.proofs.Common.{◌≡◌, ◌++◌, ◌∙◌, Bool, false, List, [], ◌∷◌, refl, sym, ap, ap₂, subst}
-use Rattle.std.proofs.lemmas.List.{append_cancel_left}
-use Rattle.crn_vec.specs.Network.{Net}
-use Rattle.crn_cert.specs.declared.answer.Verdict.{Verdict}
-use Rattle.crn_cert.specs.declared.answer.Proof.{Proof}
-use Rattle.crn_cert.specs.declared.answer.Answer.{Answer}
-use Rattle.crn_cert.specs.Questions.{Earlier, Question, Q1, Q2}
-use Rattle.crn_cert.specs.Formed.{IsFormedOf, AreFormed}
+use Rattle.crn_ctext.proofs.Prelude.{◌≡◌, ◌++◌, ◌∙◌, Bool, false, List, [], ◌∷◌, refl, sym, ap, ap₂, subst, append_cancel_left, Net, Verdict, Proof, Answer, Earlier, Question, Q1, Q2, IsFormedOf, tight, tight_proof, built, Record, head_of, records_below, proof_nodes, records, all_records, Known, shapes_of, sizes_of, verdict_of, meaning, AreFormedOf, records_of, AreSame}
+use Rattle.crn_cert.specs.Formed.{AreFormed}
 use Rattle.crn_cert.specs.Valid.{AreValid}
-use Rattle.crn_cert.specs.Verdicts.{tight, tight_proof}
-use Rattle.crn_cert.specs.Built.{built}
-use Rattle.crn_ctext.specs.Records.{Record}
 use Rattle.crn_ctext.specs.Documents as documents
-use Rattle.crn_ctext.specs.Answers.{head_of, records_below, proof_nodes, records, all_records}
-use Rattle.crn_ctext.specs.Meaning.{Known, shapes_of, sizes_of, verdict_of, meaning}
-use Rattle.crn_ctext.specs.Judged.{AreFormedOf}
-use Rattle.crn_ctext.specs.Linked.{records_of}
-use Rattle.crn_ctext.specs.Same.{AreSame}
 use Rattle.crn_ctext.proofs.AnswersApart.{block_apart, first_same}
 use Rattle.crn_ctext.proofs.Shown.{shown_tight}
 use Rattle.crn_ctext.proofs.Joined.{parts, IsJoinedAt, same_valid}

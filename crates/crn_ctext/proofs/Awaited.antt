@@ -1,9 +1,5 @@
 -- What awaits a line: one course before or after another, and a shorter text.
-use Rattle.std.proofs.Common.{◌≡◌, ◌⊎◌, ◌++◌, ℕ, List, [], ◌∷◌, refl, sym, ap, subst, ◌∙◌, inl, inr}
-use Rattle.crn_io.specs.Lines.{Place, IsLineAt, IsBegun}
-use Rattle.crn_io.proofs.CallerLemmas.{line_begun, begun_or_more}
-use Rattle.crn_ctext.specs.Course.{Course, Give, Line, Test, End, ◌>>=◌, Gives}
-use Rattle.crn_ctext.specs.Steps.{Awaits, cut}
+use Rattle.crn_ctext.proofs.Prelude.{◌≡◌, ◌⊎◌, ◌++◌, ℕ, List, [], ◌∷◌, refl, sym, ap, subst, ◌∙◌, inl, inr, Place, IsLineAt, IsBegun, line_begun, begun_or_more, Course, Give, Line, Test, End, ◌>>=◌, Gives, Awaits, cut}
 
 -- what awaits a line in the first of two courses awaits it in both
 pub awaits_before : {A B : Type 0} (c : Course A) (f : A → Course B) (at : Place) → Awaits c at → Awaits (c >>= f) at

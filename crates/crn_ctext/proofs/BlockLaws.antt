@@ -1,22 +1,8 @@
 -- What the forms and the records of documents have to do with blocks.
+use Rattle.crn_ctext.proofs.Prelude.{AllZip, Verdict, Proof, Question, Q11, Q13, pair_places, Datum, FitsHead, FitsRow, block_of, IsFormedOf, HeadKind, Record, head_of, records_below, heads, below, IsOneOf, Known, pairs_of, sizes_of, shapes_of}
 use Rattle.std.specs.Prelude.{◌≡◌, List, ◌∷◌, map}
-use Rattle.std.specs.List.{AllZip}
-use Rattle.crn_cert.specs.declared.answer.Verdict.{Verdict}
-use Rattle.crn_cert.specs.declared.answer.Proof.{Proof}
-use Rattle.crn_cert.specs.Questions.{Question, Q11, Q13}
-use Rattle.crn_cert.specs.Valid.{pair_places}
-use Rattle.crn_cert.specs.Data.{Datum}
 use Rattle.crn_cert.specs.Table as table
-use Rattle.crn_cert.specs.Blocks.{FitsHead, FitsRow, block_of}
-use Rattle.crn_cert.specs.Formed.{IsFormedOf}
-use Rattle.crn_cert.specs.declared.head_kind.HeadKind.{HeadKind}
 use Rattle.crn_ctext.specs.Records as records
-use Rattle.crn_ctext.specs.Records.{Record}
-use Rattle.crn_ctext.specs.Answers.{head_of, records_below}
-use Rattle.crn_ctext.specs.Questions.{heads}
-use Rattle.crn_ctext.specs.Blocks.{below}
-use Rattle.crn_ctext.specs.Documents.{IsOneOf}
-use Rattle.crn_ctext.specs.Meaning.{Known, pairs_of, sizes_of, shapes_of}
 use Rattle.crn_ctext.proofs.Forms.{forms, row_form, head_record, row_records}
 
 -- the linked pairs are known where the forms of a question rest on them

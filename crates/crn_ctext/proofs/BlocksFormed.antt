@@ -1,38 +1,16 @@
 -- Blocks with their trees: the records of one that fits are formed, and formed records are of one that fits.
-use Rattle.std.proofs.Common.{◌≡◌, ◌+◌, ◌++◌, ◌∙◌, ℕ, suc, Bool, true, false, List, [], ◌∷◌, length, map, refl, sym, ap, ap₂, subst}
+use Rattle.crn_ctext.proofs.Prelude.{◌≡◌, ◌+◌, ◌++◌, ◌∙◌, ℕ, suc, Bool, true, false, List, [], ◌∷◌, length, map, refl, sym, ap, ap₂, subst, AllZip, flat_map, append-nil, Sign, Question, Q1, Q2, Q3, Q4, Q5, Q6, Q7, Q8, Q9, Q10, Q11, Q12, Q13, Q14, Q15, on, pair_places, Plan, IsFormedTree, Proof, Gap, RankProof, KeptNums, tight, tight_proof, tight_nums, tight_gap, tight_rank, Record, Problem, nodes, proof_nodes, records, IsOneOf, IsTree, AreTrees, Parts, leaf_forms, Known, has_vector, pairs_of, is_yes, sizes_of, problems_by, meaning, signal_problems, HeadKind, Classes, Strong, Rank, Deficiency, Yes, YesWeak, YesVec, YesSignal, No, NoReaction, NoVec, NoNumber, NoTerminal, NoClass, NoSum, NoDependence, NoCycle, NoPair, NotRegular, OnlyZero, Plane, NotApplicable, Rests, Datum, Nums, Led, Basis, TreeRow, fields, trees, one_or_two, signal_tree, others, rank_in, IsFormedOf, Block, FitsBlock, FitsHead, FitsTree, SaysAnswer, trees_of, proof_of, proof_by, rank_proof, class_proofs, class_length, at, nat_in, second_in, nums_in, list_in, gap_in, head_back, blocks_are_of_answers}
 use Rattle.std.specs.Prelude.{take, drop}
-use Rattle.std.specs.List.{AllZip, flat_map}
-use Rattle.std.proofs.lemmas.List.{append-nil}
-use Rattle.crn_vec.specs.declared.signs.Sign.{Sign}
-use Rattle.crn_cert.specs.Questions.{Question, Q1, Q2, Q3, Q4, Q5, Q6, Q7, Q8, Q9, Q10, Q11, Q12, Q13, Q14, Q15, on}
-use Rattle.crn_cert.specs.Valid.{pair_places}
-use Rattle.crn_cert.specs.Trees.{Plan, IsFormedTree}
-use Rattle.crn_cert.specs.declared.answer.Proof.{Proof}
 use Rattle.crn_cert.specs.declared.answer.Proof.TheVariants as proof
 use Rattle.crn_cert.specs.declared.answer.Verdict.TheVariants as verdict
-use Rattle.crn_cert.specs.declared.answer.Gap.{Gap}
-use Rattle.crn_cert.specs.declared.answer.RankProof.{RankProof}
-use Rattle.crn_vec.specs.Kept.{KeptNums}
-use Rattle.crn_cert.specs.Verdicts.{tight, tight_proof, tight_nums, tight_gap, tight_rank}
-use Rattle.crn_ctext.specs.Records.{Record}
-use Rattle.crn_ctext.specs.Blocks.{Problem}
-use Rattle.crn_ctext.specs.Answers.{nodes, proof_nodes, records}
 use Rattle.crn_ctext.specs.Documents as documents
-use Rattle.crn_ctext.specs.Documents.{IsOneOf, IsTree, AreTrees, Parts, leaf_forms}
-use Rattle.crn_ctext.specs.Meaning.{Known, has_vector, pairs_of, is_yes, sizes_of, problems_by, meaning, signal_problems}
-use Rattle.crn_cert.specs.declared.head_kind.HeadKind.{HeadKind}
-use Rattle.crn_cert.specs.declared.head_kind.HeadKind.TheVariants.{Classes, Strong, Rank, Deficiency, Yes, YesWeak, YesVec, YesSignal, No, NoReaction, NoVec, NoNumber, NoTerminal, NoClass, NoSum, NoDependence, NoCycle, NoPair, NotRegular, OnlyZero, Plane, NotApplicable, Wide, Budget, Rests}
-use Rattle.crn_cert.specs.Data.{Datum, Nums, Led, Basis}
+use Rattle.crn_cert.specs.declared.head_kind.HeadKind.TheVariants.{Wide, Budget}
 use Rattle.crn_cert.specs.Table as table
-use Rattle.crn_cert.specs.Table.{TreeRow, fields, trees, one_or_two, signal_tree, others, rank_in}
-use Rattle.crn_cert.specs.Formed.{IsFormedOf}
-use Rattle.crn_cert.specs.Blocks.{Block, FitsBlock, FitsHead, FitsTree, SaysAnswer, trees_of, verdict_of, proof_of, proof_by, rank_proof, class_proofs, class_length, at, nat_in, second_in, nums_in, list_in, gap_in}
+use Rattle.crn_cert.specs.Blocks.{verdict_of}
 use Rattle.crn_ctext.proofs.Forms.{head_record, row_records, spent_place, rests_place}
 use Rattle.crn_ctext.proofs.RowsDerived.{HeadOf, head_by}
 use Rattle.crn_ctext.proofs.RecordsTyped.{records_are_blocks}
 use Rattle.crn_ctext.proofs.RowsSaid.{blocks_are_records}
-use Rattle.crn_cert.proofs.CallerLemmas.{head_back}
-use Rattle.crn_cert.proofs.CallerLemmas.{blocks_are_of_answers}
 use Rattle.crn_ctext.proofs.BlockLaws.{PairsFor}
 
 -- ---- the trees that are due

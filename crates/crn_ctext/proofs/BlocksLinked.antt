@@ -1,36 +1,11 @@
 -- A formed answer and the records of its block: what is required of the one is required of the other.
-use Rattle.std.proofs.Common.{◌≡◌, ◌⊎◌, ◌+◌, ◌∙◌, ℕ, Bool, true, false, List, [], ◌∷◌, length, refl, sym, ap, ap₂, subst, inl, inr}
-use Rattle.std.specs.Prelude.{Option, ℤ, pos}
-use Rattle.std.specs.Option.{IsSome, IsSomeAnd}
-use Rattle.std.specs.List.{AllZip}
-use Rattle.crn_vec.specs.Network.{Net}
-use Rattle.crn_vec.specs.declared.signs.Sign.{Sign}
-use Rattle.crn_vec.specs.Influence.{plain_table, strong_table}
-use Rattle.crn_vec.proofs.CallerLemmas.{head_is, tail_is, abs_back}
-use Rattle.crn_cert.specs.declared.answer.Gap.TheVariants.{Wide, Budget, Rests}
-use Rattle.crn_cert.specs.declared.answer.Verdict.{Verdict}
-use Rattle.crn_cert.specs.declared.answer.Verdict.TheVariants.{Classes, Strong, Rank, Deficiency, Yes, YesWeak, YesVec, YesSignal, No, NoReaction, NoNumber, NoTerminal, NoClass, NoSum, NoDependence, NoCycle, NotRegular, OnlyZero, Plane, NotApplicable, Unknown}
-use Rattle.crn_cert.specs.declared.answer.Proof.{Proof}
-use Rattle.crn_cert.specs.declared.answer.RankProof.{RankProof}
-use Rattle.crn_cert.specs.declared.answer.Proof.TheVariants.{Forest, Strong as StrongTrees, Back, Rank as RankRows, Ranks, Sides, Ties, One, Two}
-use Rattle.crn_cert.specs.declared.head_kind.HeadKind.{HeadKind}
-use Rattle.crn_cert.specs.Questions.{Earlier, Question, Q1, Q2, Q3, Q4, Q5, Q6, Q7, Q8, Q9, Q10, Q11, Q12, Q13, Q14, Q15, on, rank_of}
+use Rattle.crn_ctext.proofs.Prelude.{◌≡◌, ◌⊎◌, ◌+◌, ◌∙◌, ℕ, Bool, true, false, List, [], ◌∷◌, length, refl, sym, ap, ap₂, subst, inl, inr, Option, ℤ, pos, IsSome, IsSomeAnd, AllZip, Net, Sign, plain_table, strong_table, head_is, tail_is, abs_back, Wide, Budget, Verdict, Unknown, Proof, RankProof, Forest, StrongTrees, Back, RankRows, Ranks, Sides, Ties, One, Two, HeadKind, Earlier, Question, Q1, Q2, Q3, Q4, Q5, Q6, Q7, Q8, Q9, Q10, Q11, Q12, Q13, Q14, Q15, on, rank_of, WrongNumber, WrongVerdict, Plan, linkage_count, head_tests, row_tests, signal_head, AreClassNumbers, IsValid, tight, tight_proof, TreeRow, trees, Block, FitsTree, block_of, trees_of, proof_of, HeadMayBe, IsFormedOf, Record, Fits, Problem, below, IsFormed, IsOneOf, AreTrees, leaf_forms, heads, kind_at, head_of, records, records_below, proof_nodes, Known, has_vector, shapes_of, sizes_of, verdict_by, said_verdict, said_proof, meaning}
+use Rattle.crn_cert.specs.declared.answer.Gap.TheVariants.{Rests}
+use Rattle.crn_cert.specs.declared.answer.Verdict.TheVariants.{Classes, Strong, Rank, Deficiency, Yes, YesWeak, YesVec, YesSignal, No, NoReaction, NoNumber, NoTerminal, NoClass, NoSum, NoDependence, NoCycle, NotRegular, OnlyZero, Plane, NotApplicable}
 use Rattle.crn_cert.specs.Tests.{Test, test}
-use Rattle.crn_cert.specs.Faults.{WrongNumber, WrongVerdict}
-use Rattle.crn_cert.specs.Trees.{Plan}
-use Rattle.crn_cert.specs.Valid.{linkage_count, head_tests, row_tests, signal_head, AreClassNumbers, IsValid}
-use Rattle.crn_cert.specs.Verdicts.{tight, tight_proof}
 use Rattle.crn_cert.specs.Table as table
-use Rattle.crn_cert.specs.Table.{TreeRow, trees}
-use Rattle.crn_cert.specs.Blocks.{Block, FitsTree, block_of, head_of as kind_of, trees_of, proof_of}
-use Rattle.crn_cert.specs.Formed.{HeadMayBe, IsFormedOf}
-use Rattle.crn_ctext.specs.Records.{Record, Fits}
-use Rattle.crn_ctext.specs.Blocks.{Problem, below}
-use Rattle.crn_ctext.specs.Documents.{IsFormed, IsOneOf, AreTrees, leaf_forms}
+use Rattle.crn_cert.specs.Blocks.{head_of as kind_of}
 use Rattle.crn_ctext.specs.Documents as documents
-use Rattle.crn_ctext.specs.Questions.{heads, kind_at}
-use Rattle.crn_ctext.specs.Answers.{head_of, records, records_below, proof_nodes}
-use Rattle.crn_ctext.specs.Meaning.{Known, has_vector, shapes_of, sizes_of, verdict_by, verdict_of as said_verdict, proof_of as said_proof, meaning}
 use Rattle.crn_ctext.proofs.Forms.{head_record, row_records, spent_place, rests_place}
 use Rattle.crn_ctext.proofs.BlockLaws.{PairsFor}
 use Rattle.crn_ctext.proofs.Shown.{shown}

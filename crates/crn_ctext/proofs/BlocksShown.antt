@@ -1,26 +1,11 @@
 -- The proof that the records below a head show is that of the block, but for its trees.
-use Rattle.std.proofs.Common.{◌≡◌, ◌∙◌, ◌-◌, ◌+◌, ◌++◌, ℕ, zero, suc, List, [], ◌∷◌, length, map, take, drop, refl, sym, ap, ap₂, subst}
-use Rattle.std.specs.Prelude.{ℤ, pos, replicate, codes}
-use Rattle.std.specs.List.{AllByRecursion, AllZip, flat_map, range_with_len}
-use Rattle.std.proofs.lemmas.List.{append-nil, take-map, drop-map}
-use Rattle.crn_vec.proofs.CallerLemmas.{abs_back, all_append}
-use Rattle.crn_vec.specs.Kept.{KeptNums}
+use Rattle.crn_ctext.proofs.Prelude.{◌≡◌, ◌∙◌, ◌-◌, ◌+◌, ◌++◌, ℕ, zero, suc, List, [], ◌∷◌, length, map, take, drop, refl, sym, ap, ap₂, subst, ℤ, pos, replicate, codes, AllByRecursion, AllZip, flat_map, range_with_len, append-nil, take-map, drop-map, abs_back, all_append, KeptNums, RankProof, Question, Q1, Q2, Q3, Q4, Q5, Q6, Q7, Q8, Q9, Q10, Q11, Q12, Q13, Q14, Q15, on, linkage_count, pair_places, HeadKind, Classes, Strong, Rank, Deficiency, Yes, YesWeak, YesVec, YesSignal, No, NoReaction, NoVec, NoNumber, NoTerminal, NoClass, NoSum, NoDependence, NoCycle, NoPair, NotRegular, OnlyZero, Plane, NotApplicable, Rests, Datum, Num, Nums, Ints, Marks, Led, FreeSeveral, Side, AreClassProofs, tight_rank, Row, row, rank_rows, class_rows, fields, Block, FitsBlock, FitsRow, FitsHead, proof_of, rank_proof, class_proofs, rank_data, list_in, AllOf, given, fields_in, head_back, rows_back, classes_formed, blocks_are_of_answers, kind_at, later_numbers, Record, rank_records, Known, has_vector, nums, lists, shapes_of, said_sizes, ranks_of, said_proof, said_rank, said_classes}
 use Rattle.crn_cert.specs.declared.answer.Proof.TheVariants as proof
-use Rattle.crn_cert.specs.declared.answer.RankProof.{RankProof}
-use Rattle.crn_cert.specs.Questions.{Question, Q1, Q2, Q3, Q4, Q5, Q6, Q7, Q8, Q9, Q10, Q11, Q12, Q13, Q14, Q15, on}
-use Rattle.crn_cert.specs.Valid.{linkage_count, pair_places}
-use Rattle.crn_cert.specs.declared.head_kind.HeadKind.{HeadKind}
-use Rattle.crn_cert.specs.declared.head_kind.HeadKind.TheVariants.{Classes, Strong, Rank, Deficiency, Yes, YesWeak, YesVec, YesSignal, No, NoReaction, NoVec, NoNumber, NoTerminal, NoClass, NoSum, NoDependence, NoCycle, NoPair, NotRegular, OnlyZero, Plane, NotApplicable, Wide, Budget, Rests}
-use Rattle.crn_cert.specs.Data.{Datum, Num, Nums, Ints, Marks, Led, Field, FreeSeveral, Side, Fits}
-use Rattle.crn_cert.specs.Parts.{AreClassProofs}
-use Rattle.crn_cert.specs.Verdicts.{tight_rank}
-use Rattle.crn_cert.specs.Table.{Row, row, rows, rank_rows, class_rows, fields, sizes_of}
-use Rattle.crn_cert.specs.Blocks.{Block, FitsBlock, FitsRow, FitsHead, proof_of, rank_proof, class_proofs, rank_data, list_in}
-use Rattle.crn_cert.proofs.CallerLemmas.{AllOf, given, fields_in, fields_of, head_back, rows_back, classes_formed, blocks_are_of_answers}
-use Rattle.crn_ctext.specs.Questions.{kind_at, later_numbers}
-use Rattle.crn_ctext.specs.Records.{Record}
-use Rattle.crn_ctext.specs.Answers.{rank_records}
-use Rattle.crn_ctext.specs.Meaning.{Known, has_vector, nums, lists, shapes_of, sizes_of as said_sizes, ranks_of, proof_by, proof_of as said_proof, rank_proof as said_rank, class_proofs as said_classes}
+use Rattle.crn_cert.specs.declared.head_kind.HeadKind.TheVariants.{Wide, Budget}
+use Rattle.crn_cert.specs.Data.{Field, Fits}
+use Rattle.crn_cert.specs.Table.{rows, sizes_of}
+use Rattle.crn_cert.proofs.CallerLemmas.{fields_of}
+use Rattle.crn_ctext.specs.Meaning.{proof_by}
 use Rattle.crn_ctext.proofs.RanksLinked.{places_from, sizes_from, classes_said as ranks_said}
 use Rattle.crn_ctext.proofs.RecordsDerived.{classes_said}
 use Rattle.crn_ctext.proofs.BlocksFormed.{answers_formed, classes_tight}

@@ -1,25 +1,7 @@
 -- The tests of regularity and of confluence vectors are decided, whatever the records and the earlier verdicts say.
-use Rattle.std.proofs.Common.{◌≡◌, ◌≤◌, ◌<◌, ◌-◌, ℕ, suc, true, List, [], ◌∷◌, length, sym, subst, inl, inr, arith}
-use Rattle.std.specs.Prelude.{◌≢◌, ◌⊎◌, ℤ, pos, ◌≤ℤ◌, unsigned_abs, slice_index}
-use Rattle.std.specs.Int.{◌∣◌}
-use Rattle.std.proofs.lemmas.Nat.Gcd.{dvd-zero, le_of_dvd, dvd_of_mod-eq-zero, mod-eq-zero_of_dvd}
-use Rattle.crn_vec.specs.Network.{Net}
-use Rattle.crn_vec.specs.Vectors.{entry, dot}
-use Rattle.crn_vec.specs.Rank.{combination_at}
-use Rattle.crn_vec.specs.Strong.{ReactsTo}
-use Rattle.crn_vec.specs.Walks.{IsAlong}
-use Rattle.crn_vec.specs.CutPairs.{IsBetween, IsFreeStep}
-use Rattle.crn_vec.specs.Elementary.{IsPrimitive}
-use Rattle.crn_vec.specs.Confluence.{IsNonzero, LeadsPositive}
-use Rattle.crn_vec.specs.Sums.{label_marks}
-use Rattle.crn_vec.proofs.CallerLemmas.{past_end, positive_some, abs_some}
-use Rattle.crn_cert.specs.declared.answer.Verdict.{Verdict}
-use Rattle.crn_cert.specs.declared.answer.Verdict.TheVariants.{NoVec, NoTerminal, NoDependence, NoCycle, Unknown}
-use Rattle.crn_cert.specs.Questions.{Earlier, Q4, on, IsNo, IsOpen}
-use Rattle.crn_cert.specs.Says.{WalkLeads, from_zero}
-use Rattle.crn_cert.specs.ClassTests.{AreSideMarks, IsWayRound}
-use Rattle.crn_cert.specs.ConfluenceTests.{IsInSpace, DoTerminalsGather, tie_at, IsTie, tie_tests}
-use Rattle.crn_cert.specs.Valid.{linkage, linkage_count, strong, exits, ends_at, is_within_terminal, IsWithinTerminal, side_tests, IsNormal, IsApartAt}
+use Rattle.crn_ctext.proofs.Prelude.{◌≡◌, ◌≤◌, ◌<◌, ◌-◌, ℕ, suc, true, List, [], ◌∷◌, length, sym, subst, inl, inr, arith, ◌≢◌, ℤ, pos, ◌≤ℤ◌, unsigned_abs, slice_index, ◌∣◌, dvd-zero, le_of_dvd, dvd_of_mod-eq-zero, mod-eq-zero_of_dvd, Net, entry, dot, combination_at, ReactsTo, IsAlong, IsBetween, IsFreeStep, IsPrimitive, IsNonzero, LeadsPositive, label_marks, past_end, positive_some, abs_some, Verdict, Unknown, Earlier, Q4, on, IsNo, IsOpen, WalkLeads, from_zero, AreSideMarks, IsWayRound, IsInSpace, DoTerminalsGather, tie_at, IsTie, tie_tests, linkage, linkage_count, strong, exits, ends_at, is_within_terminal, IsWithinTerminal, side_tests, IsNormal, IsApartAt}
+use Rattle.std.specs.Prelude.{◌⊎◌}
+use Rattle.crn_cert.specs.declared.answer.Verdict.TheVariants.{NoVec, NoTerminal, NoDependence, NoCycle}
 use Rattle.crn_ctext.proofs.Decided.{IsDecided, both_decided, one_decided, not_decided, if_decided, moved, nat_decided, le_decided, bool_decided, int_decided, int_le_decided, all_decided}
 use Rattle.crn_ctext.proofs.TestsDecided.{each_below, each_reaction, reacts_decided, named_decided}
 use Rattle.crn_ctext.proofs.RanksDecided.{places, past_places, each_number, some_number}

@@ -1,9 +1,5 @@
 -- What a sink that counts says of a text that was written to it.
-use Rattle.std.proofs.Common.{◌≡◌, ◌<◌, ◌≤◌, ◌^◌, ◌-◌, ℕ, List, length, Result, Ok, Err, arith}
-use Rattle.crn_io.specs.Write.{Wrote}
-use Rattle.crn_io.specs.declared.lines.TheConstants.{MAX_DOCUMENT}
-use Rattle.crn_ctext.specs.Inner.Written.{counter_seen}
-use Rattle.crn_vec.proofs.CallerLemmas.{some_is}
+use Rattle.crn_ctext.proofs.Prelude.{◌≡◌, ◌<◌, ◌≤◌, ◌^◌, ◌-◌, ℕ, List, length, Result, Ok, Err, arith, Wrote, MAX_DOCUMENT, counter_seen, some_is}
 
 -- the count is the length of a text that is short, whatever the call answered
 pub counted : {T E : Type 0} (text : List ℕ) (count faults : ℕ) (r : Result T E) → count < 2 ^ 64 → length text < MAX_DOCUMENT → Wrote text (counter_seen 0 0) (counter_seen count faults) r → count ≡ length text

@@ -1,11 +1,5 @@
 -- Of a settled course a text gives one thing or has one first fault, and never both; and what one course after another does.
-use Rattle.std.proofs.Common.{◌≡◌, ◌⊎◌, ℕ, Bool, true, false, ◌<◌, List, [], ◌∷◌, length, refl, sym, ap, subst, ◌∙◌, inl, inr, arith}
-use Rattle.crn_io.specs.declared.lines.TheConstants.{MAX_DOCUMENT}
-use Rattle.crn_io.specs.Lines.{Place, IsLineAt, BreaksLine, document_too_long, line_too_long, otherwise, LacksLine, HasMore, early}
-use Rattle.crn_ctext.specs.Course.{Course, Code, Kind, Own, Give, Line, Test, End, IsCode, IsReported, number_of, ◌>>=◌, Gives, FailsFirst}
-use Rattle.crn_ctext.specs.Courses.{IsSettled}
-use Rattle.crn_io.proofs.CallerLemmas.{line_or_not, breaks_or_not, line_is_there, line_breaks_none, line_is_one, break_is_one}
-use Rattle.crn_cert.specs.Faults.{DocumentTooLong, LineTooLong, EndsEarly, AfterEnd, TreeEndsEarly}
+use Rattle.crn_ctext.proofs.Prelude.{◌≡◌, ◌⊎◌, ℕ, Bool, true, false, ◌<◌, List, [], ◌∷◌, length, refl, sym, ap, subst, ◌∙◌, inl, inr, arith, MAX_DOCUMENT, Place, IsLineAt, BreaksLine, document_too_long, line_too_long, otherwise, LacksLine, HasMore, early, Course, Code, Kind, Own, Give, Line, Test, End, IsCode, IsReported, number_of, ◌>>=◌, Gives, FailsFirst, IsSettled, line_or_not, breaks_or_not, line_is_there, line_breaks_none, line_is_one, break_is_one, DocumentTooLong, LineTooLong, EndsEarly, AfterEnd, TreeEndsEarly}
 
 -- whether something is left is decided
 more_or_not : (at : Place) → HasMore at ⊎ (HasMore at → ⊥)

@@ -1,19 +1,8 @@
 -- The lists of the cuts of formed answers may be shared.
-use Rattle.std.proofs.Common.{◌≤◌, ◌+◌, ◌++◌, ℕ, ℤ, List, [], ◌∷◌, length, refl, sym, subst, inl, inr, arith}
-use Rattle.std.specs.Prelude.{◌&&◌, slice_index_or}
-use Rattle.std.specs.List.{AllByRecursion, range_with_len}
-use Rattle.std.proofs.lemmas.List.FromFn.{length-range_with_len}
-use Rattle.crn_vec.specs.Network.{Net, IsNetwork}
-use Rattle.crn_vec.specs.declared.signs.Sign.{Sign}
-use Rattle.crn_vec.specs.declared.signs.Sign.TheVariants.{Zero, Plus, Minus}
-use Rattle.crn_vec.proofs.CallerLemmas.{all_append, some_species, inside_at, reaction_in, filter_few}
-use Rattle.crn_io.specs.declared.lines.TheConstants.{MAX_NUMBERS}
-use Rattle.crn_cert.specs.declared.answer.Proof.{Proof}
-use Rattle.crn_cert.specs.Ranges.{AreFree}
-use Rattle.crn_cert.specs.Trees.{Plan, Both, Three, RulesA, RulesB, Level, IsFormedTree}
-use Rattle.crn_cert.specs.Shares.{IsShareable, cuts_of, cuts_in}
-use Rattle.crn_cert.specs.Questions.{Earlier, Q2, on, terminal_of}
-use Rattle.crn_cert.specs.Valid.{ends_at, is_within_terminal, is_least_of_pair, pair_places}
+use Rattle.crn_ctext.proofs.Prelude.{◌≤◌, ◌+◌, ◌++◌, ℕ, List, [], ◌∷◌, length, refl, sym, subst, inl, inr, arith, slice_index_or, AllByRecursion, range_with_len, length-range_with_len, Net, IsNetwork, Sign, Zero, Plus, Minus, all_append, some_species, inside_at, reaction_in, filter_few, MAX_NUMBERS, Proof, AreFree, Plan, Both, Three, RulesA, RulesB, Level, IsFormedTree, cuts_of, cuts_in, Earlier, Q2, on, terminal_of, ends_at, is_within_terminal, is_least_of_pair, pair_places}
+use Rattle.std.proofs.Common.{ℤ}
+use Rattle.std.specs.Prelude.{◌&&◌}
+use Rattle.crn_cert.specs.Shares.{IsShareable}
 use Rattle.crn_ctext.proofs.TablesLinked.{IsTreeOrNone}
 use Rattle.crn_ctext.proofs.SignalLinked.{HasSignalTrees}
 

@@ -1,8 +1,5 @@
 -- Eight digits at once: their value, and the value of all digits so far.
-use Rattle.std.proofs.Common.{◌≡◌, ◌≤◌, ◌<◌, ◌+◌, ◌-◌, ◌*◌, ℕ, zero, suc, List, [], ◌∷◌, length, take, drop, get_or, refl, ◌∙◌, arith}
-use Rattle.std.specs.Char.{digit_value}
-use Rattle.std.specs.Str.Parse.{AllDigits, digits_value, digits_value_after}
-use Rattle.std.proofs.lemmas.List.{drop-drop}
+use Rattle.crn_ctext.proofs.Prelude.{◌≡◌, ◌≤◌, ◌<◌, ◌+◌, ◌-◌, ◌*◌, ℕ, zero, suc, List, [], ◌∷◌, length, take, drop, get_or, refl, ◌∙◌, arith, digit_value, AllDigits, digits_value, digits_value_after, drop-drop}
 use Rattle.crn_ctext.proofs.LineNumbers.{all_digits_more, digits_value_next}
 
 -- the byte at a place is a digit

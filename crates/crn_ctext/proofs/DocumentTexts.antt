@@ -1,15 +1,5 @@
 -- The records of a document by its version: sections and shared lists change neither the cut leaves nor, in version 1, the records.
-use Rattle.std.proofs.Common.{◌≡◌, ◌≤◌, ◌==◌, ◌++◌, ◌∙◌, ℕ, suc, Bool, true, false, cond, if◌then◌else◌, List, [], ◌∷◌, length, map, refl, sym, ap, ap₂, subst, inl, inr, arith, append_assoc}
-use Rattle.std.specs.Prelude.{ℤ, codes}
-use Rattle.std.specs.List.{AllByRecursion, AllZip, filter}
-use Rattle.std.specs.Str.{bytes_eq}
-use Rattle.std.proofs.lemmas.Bool.{cases_Bool}
-use Rattle.crn_cert.specs.Questions.{Question, Q1, Q2, Q3, Q4, Q5, Q6, Q7, Q8, Q9, Q10, Q11, Q12, Q13, Q14, Q15}
-use Rattle.crn_io.specs.declared.lines.TheConstants.{MAX_SHARED}
-use Rattle.crn_ctext.specs.Records.{Record}
-use Rattle.crn_ctext.specs.Questions.{opens}
-use Rattle.crn_ctext.specs.Blocks.{Meaning, sections, word_of}
-use Rattle.crn_ctext.specs.Documents.{one_word, section, is_cut_leaf, cut_lists, table_records, in_sections, IsNamed, IsShareable, AreFormed}
+use Rattle.crn_ctext.proofs.Prelude.{◌≡◌, ◌≤◌, ◌==◌, ◌++◌, ◌∙◌, ℕ, suc, Bool, true, false, cond, if◌then◌else◌, List, [], ◌∷◌, length, map, refl, sym, ap, ap₂, subst, inl, inr, arith, append_assoc, ℤ, codes, AllByRecursion, AllZip, filter, bytes_eq, cases_Bool, Question, Q1, Q2, Q3, Q4, Q5, Q6, Q7, Q8, Q9, Q10, Q11, Q12, Q13, Q14, Q15, MAX_SHARED, Record, opens, Meaning, sections, word_of, one_word, section, is_cut_leaf, cut_lists, table_records, in_sections, IsNamed, IsShareable, AreFormed}
 use Rattle.crn_ctext.proofs.Bounded.{IsPlain, words_fit, all_narrow}
 use Rattle.crn_ctext.proofs.ShortAnswers.{AllPlain, short_both}
 use Rattle.crn_ctext.proofs.Shared.{IsWrittenFor, named_at}

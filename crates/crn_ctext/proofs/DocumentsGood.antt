@@ -1,22 +1,6 @@
 -- A document is good if and only if it is read to its end: the built questions, both versions.
-use Rattle.std.proofs.Common.{◌≡◌, ◌<◌, ◌≤◌, ◌++◌, ℕ, List, [], ◌∷◌, length, refl, sym, ap, ap₂, subst, inl, inr, ◌∙◌, arith}
-use Rattle.std.specs.Prelude.{ℤ, slice_index}
-use Rattle.std.specs.List.{AllByRecursion, AllZip}
-use Rattle.std.specs.Fmt.{digits}
-use Rattle.crn_vec.specs.Lists.{IsIn}
-use Rattle.crn_vec.specs.Network.{Net, IsNetwork}
-use Rattle.crn_io.specs.declared.lines.TheConstants.{MAX_DOCUMENT, MAX_SHARED}
-use Rattle.crn_io.specs.Lines.{beginning}
-use Rattle.crn_ctext.specs.Records.{Record}
-use Rattle.crn_ctext.specs.Course.{Gives}
-use Rattle.crn_ctext.specs.Courses.{IsSettled, none_own}
-use Rattle.crn_ctext.specs.Blocks.{ReadOf, title, course}
-use Rattle.crn_ctext.specs.Documents.{Share, FitsShare, cut_lists, IsNamed, written, IsShareable, AreFormed, AreValid, IsGoodLeaf, IsDocumentOf, document, document2}
-use Rattle.crn_cert.specs.declared.answer.Verdict.{Verdict}
-use Rattle.crn_ctext.specs.Meaning.{Known, sizes_of, verdict_of, learn_of, verdicts_said, meaning, versions}
-use Rattle.crn_cert.specs.Built.{built}
-use Rattle.crn_cert.specs.Questions.{Question}
-use Rattle.crn_ctext.specs.Judged.{IsReadOf, IsGood, IsPrefixOf, ReadDocumentsAreGood, records_of}
+use Rattle.crn_ctext.proofs.Prelude.{◌≡◌, ◌<◌, ◌≤◌, ◌++◌, ℕ, List, [], ◌∷◌, length, refl, sym, ap, ap₂, subst, inl, inr, ◌∙◌, arith, ℤ, slice_index, AllByRecursion, AllZip, digits, IsIn, Net, IsNetwork, MAX_DOCUMENT, MAX_SHARED, beginning, Record, Gives, IsSettled, none_own, ReadOf, title, course, Share, FitsShare, cut_lists, IsNamed, written, IsShareable, AreFormed, AreValid, IsGoodLeaf, IsDocumentOf, document, document2, Verdict, Known, sizes_of, verdict_of, learn_of, verdicts_said, meaning, versions, built, Question, IsReadOf, IsGood, IsPrefixOf, ReadDocumentsAreGood}
+use Rattle.crn_ctext.specs.Judged.{records_of}
 use Rattle.crn_ctext.proofs.Settled.{HaveTitles, course_settled}
 use Rattle.crn_ctext.proofs.MeaningDecided.{OfNetwork, meaning_decided}
 use Rattle.crn_ctext.proofs.MeaningShort.{IsSmall, networks_are_small, meaning_short}

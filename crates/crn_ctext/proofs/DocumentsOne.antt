@@ -1,23 +1,6 @@
 -- If two documents are equal, so are their networks, formed answers and shares, and they are of one version.
-use Rattle.std.proofs.Common.{◌≡◌, ◌+◌, ◌≤◌, ◌==◌, ◌++◌, ◌∙◌, ℕ, if◌then◌else◌, List, [], ◌∷◌, length, map, refl, sym, ap, ap₂, subst, inl, inr, arith}
-use Rattle.std.specs.Prelude.{ℤ, pos, Bool, true, false, codes, decimal, slice_index}
-use Rattle.std.specs.List.{AllByRecursion, AllZip}
-use Rattle.std.specs.Str.{bytes_eq}
-use Rattle.crn_ctext.specs.Questions.{first_number}
-use Rattle.std.specs.Fmt.{digits}
-use Rattle.std.proofs.lemmas.List.{append_cancel_left, length-map, append_cancel_right}
-use Rattle.std.proofs.lemmas.Fmt.{decimal_injective}
-use Rattle.crn_vec.specs.Network.{Net, IsNetwork}
-use Rattle.crn_text.specs.Canonical.{canonical}
-use Rattle.crn_text.proofs.CallerLemmas.{spells_its_network}
-use Rattle.crn_text.proofs.CallerLemmas.{spelling_unique}
-use Rattle.crn_text.specs.Spells.{Spells}
-use Rattle.crn_ctext.specs.Records.{Record, record_text}
-use Rattle.crn_ctext.specs.Blocks.{word_of, title, network_line, ended}
-use Rattle.crn_ctext.specs.Documents.{one_word, AreFormed, Share, FitsShare, IsNamed, cut_lists, written, table_records, document, document2}
-use Rattle.crn_ctext.specs.Meaning.{meaning}
-use Rattle.crn_cert.specs.Built.{built}
-use Rattle.crn_ctext.specs.Judged.{AreFormedOf}
+use Rattle.crn_ctext.proofs.Prelude.{◌≡◌, ◌+◌, ◌≤◌, ◌==◌, ◌++◌, ◌∙◌, ℕ, if◌then◌else◌, List, [], ◌∷◌, length, map, refl, sym, ap, ap₂, subst, inl, inr, arith, ℤ, pos, codes, decimal, slice_index, AllByRecursion, AllZip, bytes_eq, first_number, digits, append_cancel_left, length-map, append_cancel_right, decimal_injective, Net, IsNetwork, canonical, spells_its_network, spelling_unique, Spells, Record, record_text, word_of, title, network_line, ended, one_word, AreFormed, Share, FitsShare, IsNamed, cut_lists, written, table_records, document, document2, meaning, built, AreFormedOf}
+use Rattle.std.specs.Prelude.{Bool, true, false}
 use Rattle.crn_ctext.proofs.Texts.{text_is_one}
 use Rattle.crn_ctext.proofs.Image.{AllShort}
 use Rattle.crn_ctext.proofs.BlocksWritten.{all_of, parted, lists_back}

@@ -1,24 +1,5 @@
 -- Documents of formed answers to the built questions have few lines, and so they are shorter than the bound.
-use Rattle.std.proofs.Common.{◌≡◌, ◌+◌, ◌-◌, ◌*◌, ◌<◌, ◌≤◌, ◌==◌, ◌++◌, ◌∙◌, ℕ, zero, suc, Bool, true, false, if◌then◌else◌, List, [], ◌∷◌, length, map, refl, sym, ap, ap₂, subst, inl, inr, arith}
-use Rattle.std.specs.Prelude.{ℤ, codes, replicate}
-use Rattle.std.specs.List.{AllByRecursion, AllZip, range_with_len}
-use Rattle.std.proofs.lemmas.List.{append-nil, length-append, length-map, length-replicate, map-append}
-use Rattle.std.proofs.lemmas.List.FromFn.{length-range_with_len}
-use Rattle.crn_vec.specs.Network.{Net, IsNetwork}
-use Rattle.crn_vec.specs.declared.limits.TheConstants.{MAX_BUDGET}
-use Rattle.crn_io.specs.declared.lines.TheConstants.{MAX_DOCUMENT}
-use Rattle.crn_cert.specs.Questions.{Question, Q1, Q2, Q3, Q4, Q5, Q6, Q7, Q8, Q9, Q10, Q11, Q12, Q13, Q14, Q15}
-use Rattle.crn_cert.specs.Built.{built}
-use Rattle.crn_vec.specs.declared.signs.Sign.{Sign}
-use Rattle.crn_vec.specs.declared.signs.Sign.TheVariants.{Zero, Plus, Minus}
-use Rattle.crn_vec.specs.Influence.{plain_table, strong_table}
-use Rattle.crn_ctext.specs.Records.{Record, Form, Fits, record_text}
-use Rattle.crn_ctext.specs.Kinds.{record_form, free_form}
-use Rattle.crn_ctext.specs.Questions.{Sizes, Shapes, heads, rows, opens, rank_forms, class_forms, class_rank, side_form, classes as classes_of, first_number, later_numbers}
-use Rattle.crn_ctext.specs.Blocks.{Problem, sections, below, place_of, ended, title, network_line}
-use Rattle.crn_ctext.specs.Documents.{section, written, table_records, Share, FitsShare, one_word, IsNamed, IsOneOf, IsTree, AreTrees, leaf_forms, document, document2, Parts, IsFormed, AreFormed}
-use Rattle.crn_ctext.specs.Meaning.{Known, pairs_of, sizes_of, shapes_of, problem_over, table_problem, problems_by, meaning}
-use Rattle.crn_ctext.specs.Judged.{AreFormedOf}
+use Rattle.crn_ctext.proofs.Prelude.{◌≡◌, ◌+◌, ◌-◌, ◌*◌, ◌<◌, ◌≤◌, ◌==◌, ◌++◌, ◌∙◌, ℕ, zero, suc, Bool, true, false, if◌then◌else◌, List, [], ◌∷◌, length, map, refl, sym, ap, ap₂, subst, inl, inr, arith, ℤ, codes, replicate, AllByRecursion, AllZip, range_with_len, append-nil, length-append, length-map, length-replicate, map-append, length-range_with_len, Net, IsNetwork, MAX_BUDGET, MAX_DOCUMENT, Question, Q1, Q2, Q3, Q4, Q5, Q6, Q7, Q8, Q9, Q10, Q11, Q12, Q13, Q14, Q15, built, Sign, Zero, Plus, Minus, plain_table, strong_table, Record, Form, Fits, record_text, record_form, free_form, Sizes, Shapes, heads, rows, opens, rank_forms, class_forms, class_rank, side_form, classes_of, first_number, later_numbers, Problem, sections, below, place_of, ended, title, network_line, section, written, table_records, Share, FitsShare, one_word, IsNamed, IsOneOf, IsTree, AreTrees, leaf_forms, document, document2, Parts, IsFormed, AreFormed, Known, pairs_of, sizes_of, shapes_of, problem_over, table_problem, problems_by, meaning, AreFormedOf}
 use Rattle.crn_ctext.proofs.Written.{IsShortLine, first_ended}
 use Rattle.crn_ctext.proofs.AnswersApart.{zip_long}
 use Rattle.crn_ctext.proofs.Shared.{IsWrittenFor, shared_written}

@@ -1,20 +1,5 @@
 -- The document of valid answers, written in one of the versions, is read by the course of documents to its end.
-use Rattle.std.proofs.Common.{◌≡◌, ◌+◌, ◌<◌, ◌≤◌, ◌++◌, ℕ, zero, suc, false, List, [], ◌∷◌, length, map, refl, sym, ap, subst, ◌∙◌, inl, inr, arith, append_assoc, ap₂}
-use Rattle.std.specs.Prelude.{ℤ, codes}
-use Rattle.std.specs.List.{AllByRecursion, AllZip, flat_map}
-use Rattle.std.proofs.lemmas.List.{append-nil, length-map}
-use Rattle.crn_vec.specs.Lists.{IsIn}
-use Rattle.crn_vec.specs.Network.{Net, IsNetwork}
-use Rattle.crn_text.specs.Canonical.{canonical, reaction_line, complex_text}
-use Rattle.crn_ctext.specs.Records.{Record, record_text}
-use Rattle.crn_ctext.specs.Kinds.{end_form}
-use Rattle.crn_cert.specs.Questions.{Question}
-use Rattle.crn_ctext.specs.Course.{Course, Give, ◌>>=◌, ◌>>◌, find, ends, Gives}
-use Rattle.crn_ctext.specs.Courses.{IsWrittenBy}
-use Rattle.crn_ctext.specs.Blocks.{Meaning, AfterBlocks, asks, asks_blocks, asks_table, lists_of, asks_lines, title, network_line, ended, ReadOf, IsNetworkOf, course}
-use Rattle.crn_ctext.specs.Documents.{one_word, opening, record_lines, IsShareable, AreValid}
-use Rattle.crn_io.specs.declared.lines.TheConstants.{MAX_DOCUMENT, MAX_SHARED}
-use Rattle.crn_io.specs.Lines.{Place, beginning}
+use Rattle.crn_ctext.proofs.Prelude.{◌≡◌, ◌+◌, ◌<◌, ◌≤◌, ◌++◌, ℕ, zero, suc, false, List, [], ◌∷◌, length, map, refl, sym, ap, subst, ◌∙◌, inl, inr, arith, append_assoc, ap₂, ℤ, codes, AllByRecursion, AllZip, flat_map, append-nil, length-map, IsIn, Net, IsNetwork, canonical, reaction_line, complex_text, Record, record_text, end_form, Question, Course, Give, ◌>>=◌, ◌>>◌, find, ends, Gives, IsWrittenBy, Meaning, AfterBlocks, asks, asks_blocks, asks_table, lists_of, asks_lines, title, network_line, ended, ReadOf, IsNetworkOf, course, one_word, opening, record_lines, IsShareable, AreValid, MAX_DOCUMENT, MAX_SHARED, Place, beginning, BadNetwork}
 use Rattle.crn_ctext.proofs.Written.{IsShortLine, written_is_given}
 use Rattle.crn_ctext.proofs.FormWords.{end_has}
 use Rattle.crn_ctext.proofs.FormKinds.{end_kind, one_due}
@@ -22,7 +7,6 @@ use Rattle.crn_ctext.proofs.Image.{HasNoEnd, AllShort, written_then, record_is_w
 use Rattle.crn_ctext.proofs.Shared.{IsVersion, IsTextFor}
 use Rattle.crn_ctext.proofs.BlocksWritten.{all_of, parted, table_part, lists_back, table_no_end, second_written, blocks_are_written, blocks_no_end}
 use Rattle.crn_ctext.proofs.BlocksRead.{last_lines}
-use Rattle.crn_cert.specs.Faults.{BadNetwork}
 
 -- ---- the lines of a network
 

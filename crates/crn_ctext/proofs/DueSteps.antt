@@ -1,14 +1,7 @@
 -- A call for the next line is a step of the course at which a line is due.
-use Rattle.std.proofs.Common.{◌≡◌, ◌<◌, ◌+◌, ◌++◌, ℕ, Bool, List, [], Option, Some, None, refl, sym, subst, append_assoc, inl}
-use Rattle.crn_io.specs.declared.next.Next.{Next}
-use Rattle.crn_io.specs.declared.next.Next.TheVariants.{Line, Last, End, LineTooLong, DocumentTooLong, Failed}
-use Rattle.crn_io.specs.declared.lines.TheConstants.{MAX_DOCUMENT}
-use Rattle.crn_io.specs.Device.{SourceSeen}
-use Rattle.crn_io.specs.Lines.{Place, IsBegun, IsLineAt, BreaksLine, LacksLine, early}
-use Rattle.crn_io.specs.Next.{KeptLines, NextIs, NextGives, place, code_of, DueIs}
-use Rattle.crn_io.proofs.CallerLemmas.{due_is, asked_begun}
-use Rattle.crn_ctext.specs.Course.{due, Gives, FailsFirst}
-use Rattle.crn_ctext.specs.Steps.{Awaits, IsRest, StepGives, StepFails, StepAwaits, cut}
+use Rattle.crn_ctext.proofs.Prelude.{◌≡◌, ◌<◌, ◌+◌, ◌++◌, ℕ, Bool, List, [], refl, sym, subst, append_assoc, inl, Next, Last, Failed, MAX_DOCUMENT, SourceSeen, Place, IsBegun, IsLineAt, BreaksLine, LacksLine, early, KeptLines, NextIs, NextGives, place, code_of, DueIs, due_is, asked_begun, due, Gives, FailsFirst, Awaits, IsRest, StepGives, StepFails, StepAwaits, cut}
+use Rattle.std.proofs.Common.{Option, Some, None}
+use Rattle.crn_io.specs.declared.next.Next.TheVariants.{Line, End, LineTooLong, DocumentTooLong}
 
 -- the bytes that were ahead, those that came off, and what follows
 abbrev AllAhead : List ℕ → List ℕ → List ℕ → Type 0

@@ -1,24 +1,7 @@
 -- The records of formed answers whose trees have few nodes are few.
-use Rattle.std.proofs.Common.{◌≡◌, ◌≤◌, ◌<◌, ◌*◌, ◌++◌, ℕ, Bool, false, List, [], ◌∷◌, length, refl, sym, subst, inl, inr, arith}
-use Rattle.std.specs.List.{AllByRecursion}
-use Rattle.std.proofs.lemmas.List.{length-append}
-use Rattle.crn_vec.specs.Network.{Net, IsNetwork}
-use Rattle.crn_io.specs.declared.lines.TheConstants.{MAX_DOCUMENT}
-use Rattle.crn_vec.specs.declared.limits.TheConstants.{MAX_BUDGET}
-use Rattle.crn_cert.specs.declared.answer.Verdict.{Verdict}
-use Rattle.crn_cert.specs.declared.answer.Proof.{Proof}
+use Rattle.crn_ctext.proofs.Prelude.{◌≡◌, ◌≤◌, ◌<◌, ◌*◌, ◌++◌, ℕ, Bool, false, List, [], ◌∷◌, length, refl, sym, subst, inl, inr, arith, AllByRecursion, length-append, Net, IsNetwork, MAX_DOCUMENT, MAX_BUDGET, Verdict, Proof, Answer, Earlier, Question, Q1, Q2, Q3, Q4, Q5, Q6, Q7, Q8, Q9, Q10, Q11, Q12, Q13, Q14, Q15, built, IsFormedOf, Plan, Both, Three, RulesA, RulesB, Level, node_count, HasFewNodes, HaveFewNodes, IsTreeless, nodes, proof_nodes, all_records, Share, FitsShare, document, document2, records_of, Known, meaning}
 use Rattle.crn_cert.specs.declared.answer.Proof.TheVariants as proof
-use Rattle.crn_cert.specs.declared.answer.Answer.{Answer}
-use Rattle.crn_cert.specs.Questions.{Earlier, Question, Q1, Q2, Q3, Q4, Q5, Q6, Q7, Q8, Q9, Q10, Q11, Q12, Q13, Q14, Q15}
-use Rattle.crn_cert.specs.Built.{built}
-use Rattle.crn_cert.specs.Formed.{IsFormedOf, AreFormed}
-use Rattle.crn_cert.specs.Trees.{Plan, Both, Three, RulesA, RulesB, Level, node_count}
-use Rattle.crn_cert.specs.TreeSizes.{HasFewNodes, HaveFewNodes}
-use Rattle.crn_cert.proofs.CallerLemmas.{IsTreeless}
-use Rattle.crn_ctext.specs.Answers.{nodes, proof_nodes, all_records}
-use Rattle.crn_ctext.specs.Documents.{Share, FitsShare, document, document2}
-use Rattle.crn_ctext.specs.Linked.{records_of}
-use Rattle.crn_ctext.specs.Meaning.{Known, meaning}
+use Rattle.crn_cert.specs.Formed.{AreFormed}
 use Rattle.crn_ctext.proofs.Joined.{parts}
 use Rattle.crn_ctext.proofs.RecordsTold.{AreInOrder}
 use Rattle.crn_ctext.proofs.BlocksLinked.{joined}

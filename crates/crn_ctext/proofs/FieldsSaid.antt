@@ -1,28 +1,12 @@
 -- Data that fit fields of the table are said as the fields of lines have it, field by field, and so is a block.
-use Rattle.std.proofs.Common.{◌≡◌, ◌≤◌, ◌+◌, ◌++◌, ◌∙◌, ℕ, zero, suc, Bool, List, [], ◌∷◌, map, refl, sym, ap, subst, inl, inr, append_assoc, arith}
-use Rattle.std.specs.Prelude.{ℤ, ◌≤ℤ◌, ◌⊎◌, pos, negsuc, slice_index, Option, Some, None}
-use Rattle.std.specs.List.{AllByRecursion, AllZip, flat_map, range_with_len}
-use Rattle.std.proofs.lemmas.Int.{ints}
-use Rattle.std.proofs.lemmas.List.{append-nil, length-map}
-use Rattle.std.proofs.lemmas.List.FromFn.{length-map-range_with_len, get_or-map-range_with_len}
-use Rattle.crn_vec.specs.Lists.{IsIn}
-use Rattle.crn_vec.proofs.CallerLemmas.{all_from, in_left, in_right}
-use Rattle.crn_cert.specs.Ranges.{IsFrom, AreFrom}
-use Rattle.crn_cert.specs.Data.{IsBasisOf}
-use Rattle.crn_cert.specs.Says.{IsShelf}
-use Rattle.crn_cert.specs.Questions.{Question, Q1, Q2, Q3, Q4, Q5, Q6, Q7, Q8, Q9, Q10, Q11, Q12, Q13, Q14, Q15}
+use Rattle.crn_ctext.proofs.Prelude.{◌≡◌, ◌≤◌, ◌+◌, ◌++◌, ◌∙◌, ℕ, zero, suc, Bool, List, [], ◌∷◌, map, refl, sym, ap, subst, inl, inr, append_assoc, arith, ℤ, ◌≤ℤ◌, pos, negsuc, slice_index, Option, Some, None, AllByRecursion, AllZip, flat_map, range_with_len, ints, append-nil, length-map, length-map-range_with_len, get_or-map-range_with_len, IsIn, all_from, in_left, in_right, IsFrom, AreFrom, IsBasisOf, IsShelf, Question, Q1, Q2, Q3, Q4, Q5, Q6, Q7, Q8, Q9, Q10, Q11, Q12, Q13, Q14, Q15, Form, AreOf, AreBetween, Small, Rising, small, just, head_word, IsOneOf, HeadKind, Classes, Strong, Rank, Deficiency, Yes, YesWeak, YesVec, YesSignal, No, NoReaction, NoVec, NoNumber, NoTerminal, NoClass, NoSum, NoDependence, NoCycle, NoPair, NotRegular, OnlyZero, Plane, NotApplicable, WideHead, Rests, Datum, Num, Int, Nums, Ints, Marks, Led, Basis, OneAnd, Walk, FreeSeveral, Shelves, Side, WideOf, fields, FitsFields, FitsHead}
+use Rattle.std.specs.Prelude.{◌⊎◌}
 use Rattle.crn_ctext.specs.Records as records
-use Rattle.crn_ctext.specs.Records.{Form, AreOf, AreBetween, Small, Rising}
-use Rattle.crn_ctext.specs.Kinds.{small, just}
-use Rattle.crn_ctext.specs.Answers.{head_word}
-use Rattle.crn_ctext.specs.Documents.{IsOneOf}
-use Rattle.crn_cert.specs.declared.head_kind.HeadKind.{HeadKind}
-use Rattle.crn_cert.specs.declared.head_kind.HeadKind.TheVariants.{Classes, Strong, Rank, Deficiency, Yes, YesWeak, YesVec, YesSignal, No, NoReaction, NoVec, NoNumber, NoTerminal, NoClass, NoSum, NoDependence, NoCycle, NoPair, NotRegular, OnlyZero, Plane, NotApplicable, Wide as WideHead, Budget, Rests}
+use Rattle.crn_cert.specs.declared.head_kind.HeadKind.TheVariants.{Budget}
 use Rattle.crn_ctext.proofs.Forms.{numbers_of}
-use Rattle.crn_cert.specs.Data.{Datum, Num, Two, Int, Nums, Ints, Marks, Led, Basis, Field, One, CountAndPart, TwoOf, Several, OneAnd, Walk, Members, Free, FreeSeveral, Turn, Shelves, Side, Wide, WideOf, ClassWide, Fits}
+use Rattle.crn_cert.specs.Data.{Two, Field, One, CountAndPart, TwoOf, Several, Members, Free, Turn, Wide, ClassWide, Fits}
 use Rattle.crn_ctext.proofs.Forms.{words, kinds}
-use Rattle.crn_cert.specs.Table.{Sizes, fields}
-use Rattle.crn_cert.specs.Blocks.{FitsFields, FitsHead}
+use Rattle.crn_cert.specs.Table.{Sizes}
 use Rattle.crn_ctext.proofs.Forms.{ways, ways_of, wide_numbers, if_may, forms_at, forms_from, forms}
 use Rattle.crn_ctext.proofs.FieldsTyped.{Holds}
 

@@ -1,19 +1,12 @@
 -- The forms and the records of documents, from the table of blocks.
-use Rattle.std.specs.Prelude.{◌≡◌, refl, ◌+◌, ℕ, suc, ℤ, pos, negsuc, Bool, true, false, Option, Some, None, List, [], ◌∷◌, ◌++◌, map, codes}
-use Rattle.std.specs.List.{flat_map, range_with_len}
-use Rattle.crn_cert.specs.Questions.{Question}
+use Rattle.crn_ctext.proofs.Prelude.{ℤ, pos, negsuc, Option, Some, None, codes, flat_map, range_with_len, Question, Datum, Odd, Num, Int, Nums, Ints, Marks, Led, Basis, Row, fields, HeadKind, Classes, Strong, Rank, Deficiency, Yes, YesWeak, YesVec, YesSignal, No, NoReaction, NoVec, NoNumber, NoTerminal, NoClass, NoSum, NoDependence, NoCycle, NoPair, NotRegular, OnlyZero, Plane, NotApplicable, Rests, Record, Form, Small, Members, CountAndPart, TwoOf, Rising, small, just, head_word, decided, open_kinds, wide_signal, spent, rests, open_by, place_of}
+use Rattle.std.specs.Prelude.{◌≡◌, refl, ◌+◌, ℕ, suc, Bool, true, false, List, [], ◌∷◌, ◌++◌, map}
 use Rattle.crn_cert.specs.Data as typed
-use Rattle.crn_cert.specs.Data.{Datum, Odd, Num, Two, Int, Nums, Ints, Marks, Led, Basis, Field}
-use Rattle.crn_cert.specs.Table.{Row, Sizes, fields}
-use Rattle.crn_cert.specs.declared.head_kind.HeadKind.{HeadKind}
-use Rattle.crn_cert.specs.declared.head_kind.HeadKind.TheVariants.{Classes, Strong, Rank, Deficiency, Yes, YesWeak, YesVec, YesSignal, No, NoReaction, NoVec, NoNumber, NoTerminal, NoClass, NoSum, NoDependence, NoCycle, NoPair, NotRegular, OnlyZero, Plane, NotApplicable, Wide, Budget, Rests}
+use Rattle.crn_cert.specs.Data.{Two, Field}
+use Rattle.crn_cert.specs.Table.{Sizes}
+use Rattle.crn_cert.specs.declared.head_kind.HeadKind.TheVariants.{Wide, Budget}
 use Rattle.crn_ctext.specs.Records as records
-use Rattle.crn_ctext.specs.Records.{Record, Form, Small, Members, CountAndPart, TwoOf, Rising}
-use Rattle.crn_ctext.specs.Kinds.{small, just}
-use Rattle.crn_ctext.specs.Answers.{head_word}
 use Rattle.crn_ctext.specs.Questions as questions
-use Rattle.crn_ctext.specs.Questions.{decided, open_kinds, wide_signal, spent, rests, open_by}
-use Rattle.crn_ctext.specs.Blocks.{place_of}
 
 -- ---- records
 

@@ -1,17 +1,7 @@
 -- Documents of valid answers are good, good documents are of one network and one list of answers, and what is read of them is true.
-use Rattle.std.proofs.Common.{◌≡◌, List, [], refl, sym, ap, subst, inl, inr, ◌∙◌}
-use Rattle.crn_vec.specs.Network.{Net, IsNetwork}
-use Rattle.crn_cert.specs.declared.answer.Answer.{Answer}
-use Rattle.crn_cert.specs.declared.answer.Verdict.{Verdict}
+use Rattle.crn_ctext.proofs.Prelude.{◌≡◌, List, [], refl, sym, ap, subst, inl, inr, ◌∙◌, Net, IsNetwork, Answer, Verdict, built, Record, IsDocumentOf, meaning, versions, AreFormedOf, GoodDocumentsAreOne, AreSame, records_of, AreSound, AnswersAreOne, SharedAnswersAreOne, ReadDocumentsAreTrue, WrittenDocumentsAreGood, SharedDocumentsAreGood, SharesFit}
 use Rattle.crn_cert.specs.Formed.{AreFormed}
-use Rattle.crn_cert.specs.Built.{built}
 use Rattle.crn_ctext.specs.Documents as documents
-use Rattle.crn_ctext.specs.Records.{Record}
-use Rattle.crn_ctext.specs.Documents.{IsDocumentOf}
-use Rattle.crn_ctext.specs.Meaning.{meaning, versions}
-use Rattle.crn_ctext.specs.Judged.{AreFormedOf, GoodDocumentsAreOne}
-use Rattle.crn_ctext.specs.Same.{AreSame}
-use Rattle.crn_ctext.specs.Linked.{records_of, AreSound, AnswersAreOne, SharedAnswersAreOne, ReadDocumentsAreTrue, WrittenDocumentsAreGood, SharedDocumentsAreGood, SharesFit}
 use Rattle.crn_ctext.proofs.DocumentsGood.{read_is_of}
 use Rattle.crn_ctext.proofs.WrittenAnswers.{share_fits}
 use Rattle.crn_ctext.proofs.FewNodes.{document_short, document2_short}

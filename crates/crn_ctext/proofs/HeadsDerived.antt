@@ -1,15 +1,5 @@
 -- The forms of heads are those of the table.
-use Rattle.std.proofs.Common.{◌≡◌, ◌+◌, ◌∙◌, ℕ, Bool, true, false, List, [], ◌∷◌, length, map, refl, ap, ap₂}
-use Rattle.std.specs.Prelude.{codes}
-use Rattle.std.specs.List.{range_with_len}
-use Rattle.std.proofs.lemmas.List.{length-map}
-use Rattle.std.proofs.lemmas.List.FromFn.{length-map-range_with_len}
-use Rattle.crn_cert.specs.Questions.{Question, Q1, Q2, Q3, Q4, Q5, Q6, Q7, Q8, Q9, Q10, Q11, Q12, Q13, Q14, Q15, on}
-use Rattle.crn_cert.specs.Valid.{class_places, linkage_count}
-use Rattle.crn_ctext.specs.Records.{Form, ClassWide}
-use Rattle.crn_ctext.specs.Kinds.{small, just}
-use Rattle.crn_ctext.specs.Questions.{heads, head, open_by, rests}
-use Rattle.crn_ctext.specs.Meaning.{Known, sizes_of, has_vector}
+use Rattle.crn_ctext.proofs.Prelude.{◌≡◌, ◌+◌, ◌∙◌, ℕ, Bool, true, false, List, [], ◌∷◌, length, map, refl, ap, ap₂, codes, range_with_len, length-map, length-map-range_with_len, Question, Q1, Q2, Q3, Q4, Q5, Q6, Q7, Q8, Q9, Q10, Q11, Q12, Q13, Q14, Q15, on, class_places, linkage_count, Form, ClassWide, small, just, heads, head, open_by, rests, Known, sizes_of, has_vector}
 use Rattle.crn_cert.specs.Table as table
 use Rattle.crn_ctext.proofs.Forms.{forms}
 use Rattle.crn_ctext.proofs.BlockLaws.{HeadsAsBefore}

@@ -1,23 +1,7 @@
 -- An answer and its records: what is required of the one is required of the other.
-use Rattle.std.proofs.Common.{◌≡◌, ◌++◌, ◌∙◌, Bool, List, [], refl, sym, ap, ap₂, subst}
-use Rattle.std.proofs.lemmas.List.{append_cancel_left}
-use Rattle.crn_vec.specs.declared.signs.Sign.{Sign}
-use Rattle.crn_vec.proofs.CallerLemmas.{tail_is}
-use Rattle.crn_cert.specs.declared.answer.Verdict.{Verdict}
-use Rattle.crn_cert.specs.declared.answer.Proof.{Proof}
-use Rattle.crn_cert.specs.declared.answer.Answer.{Answer}
-use Rattle.crn_cert.specs.Questions.{Question}
-use Rattle.crn_cert.specs.Verdicts.{tight}
-use Rattle.crn_cert.specs.Tests.{AllHold}
-use Rattle.crn_cert.specs.Formed.{IsFormedOf}
-use Rattle.crn_cert.specs.Valid.{head_tests, row_tests, IsValid}
-use Rattle.crn_cert.proofs.CallerLemmas.{hold_append, hold_parts}
-use Rattle.crn_ctext.specs.Records.{Record}
-use Rattle.crn_ctext.specs.Blocks.{Problem}
-use Rattle.crn_ctext.specs.Documents.{Parts, IsFormed, AreTrees, IsGoodLeaf, IsOneOf, leaf_forms}
+use Rattle.crn_ctext.proofs.Prelude.{◌≡◌, ◌++◌, ◌∙◌, Bool, List, [], refl, sym, ap, ap₂, subst, append_cancel_left, Sign, tail_is, Verdict, Proof, Answer, Question, tight, AllHold, IsFormedOf, head_tests, row_tests, IsValid, hold_append, hold_parts, Record, Problem, Parts, IsFormed, AreTrees, IsGoodLeaf, IsOneOf, leaf_forms, head_of, records_below, proof_nodes, records, Known, shapes_of, sizes_of, verdict_of, meaning}
 use Rattle.crn_ctext.specs.Documents as documents
-use Rattle.crn_ctext.specs.Answers.{head_of, records_below, proof_nodes, records}
-use Rattle.crn_ctext.specs.Meaning.{Known, shapes_of, sizes_of, verdict_of, proof_of, meaning}
+use Rattle.crn_ctext.specs.Meaning.{proof_of}
 use Rattle.crn_ctext.proofs.Shown.{shown}
 use Rattle.crn_ctext.proofs.KnownBefore.{AreKnown, IsStrongTrue}
 use Rattle.crn_ctext.proofs.AnswersApart.{block_apart}

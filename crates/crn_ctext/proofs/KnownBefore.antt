@@ -1,22 +1,8 @@
 -- The strong classes are known after question 2, and so are the linked pairs within terminal classes.
-use Rattle.std.proofs.Common.{◌≡◌, ◌==◌, ◌++◌, ◌∙◌, ℕ, Bool, true, false, if◌then◌else◌, List, [], ◌∷◌, length, refl, sym, ap, subst, inl, inr}
-use Rattle.std.specs.Prelude.{◌||◌, ◌&&◌, slice_index}
-use Rattle.std.specs.List.{AllByRecursion, filter, range_with_len}
-use Rattle.std.proofs.lemmas.Bool.{cases_Bool}
-use Rattle.crn_vec.specs.Network.{Net}
-use Rattle.crn_cert.specs.declared.answer.Gap.TheVariants.{Wide, Budget, Rests}
-use Rattle.crn_cert.specs.declared.answer.Verdict.{Verdict}
-use Rattle.crn_cert.specs.declared.answer.Verdict.TheVariants.{Strong, Unknown}
-use Rattle.crn_cert.specs.declared.answer.Proof.{Proof}
-use Rattle.crn_cert.specs.Questions.{Earlier, Question, Q2, number, on, labels_of, exits_of}
-use Rattle.crn_cert.specs.Formed.{IsFormedOf}
-use Rattle.crn_cert.specs.Says.{IsTrueOf}
-use Rattle.crn_cert.specs.Law.{IsTrueOrOpen}
-use Rattle.crn_cert.specs.ClassTests.{of_class}
-use Rattle.crn_cert.specs.Valid.{ends_at, is_least_of_pair, pair_places, IsValid}
-use Rattle.crn_cert.specs.Verdicts.{tight}
-use Rattle.crn_cert.proofs.CallerLemmas.{strong_law, is_true_tight}
-use Rattle.crn_ctext.specs.Meaning.{Known, pairs_by, pairs_of}
+use Rattle.crn_ctext.proofs.Prelude.{◌≡◌, ◌==◌, ◌++◌, ◌∙◌, ℕ, Bool, true, false, if◌then◌else◌, List, [], ◌∷◌, length, refl, sym, ap, subst, inl, inr, slice_index, AllByRecursion, filter, range_with_len, cases_Bool, Net, Wide, Budget, Verdict, Unknown, Proof, Earlier, Question, Q2, number, on, labels_of, exits_of, IsFormedOf, IsTrueOf, IsTrueOrOpen, of_class, ends_at, is_least_of_pair, pair_places, IsValid, tight, strong_law, is_true_tight, Known, pairs_by, pairs_of}
+use Rattle.std.specs.Prelude.{◌||◌, ◌&&◌}
+use Rattle.crn_cert.specs.declared.answer.Gap.TheVariants.{Rests}
+use Rattle.crn_cert.specs.declared.answer.Verdict.TheVariants.{Strong}
 
 -- the verdict gives strong classes
 abbrev pub IsStrong : Verdict → Type 0

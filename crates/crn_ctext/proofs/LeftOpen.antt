@@ -1,20 +1,6 @@
 -- Bytes of a document that await a line leave open whether and where there is a fault: with nothing after them no test of a
 -- bound fails, and with many bytes and no LF after them one does.
-use Rattle.std.proofs.Common.{◌≡◌, ◌≤◌, ◌<◌, ◌+◌, ◌++◌, ℕ, Bool, true, false, List, [], ◌∷◌, length, refl, sym, subst, inl, inr, arith}
-use Rattle.std.proofs.lemmas.List.{append-nil, length-append}
-use Rattle.crn_vec.specs.Network.{Net}
-use Rattle.crn_io.specs.declared.lines.TheConstants.{MAX_LINE}
-use Rattle.crn_io.specs.Lines.{Place, IsLine, IsBegun, BreaksLine, HasMore, LacksLine, early, beginning}
-use Rattle.crn_io.proofs.CallerLemmas.{IsLine-append, begun_breaks_last, begun_is_no_line, line_and_more, line_breaks_none, long_breaks, none_ends}
-use Rattle.crn_cert.specs.Built.{built}
-use Rattle.crn_cert.specs.Faults.{BadHeader, BadNetwork, Fault}
-use Rattle.crn_ctext.specs.Kinds.{end_form}
-use Rattle.crn_ctext.specs.Course.{Course, Give, Line, Test, End, ◌>>=◌, due, find, ends, FailsFirst}
-use Rattle.crn_ctext.specs.Courses.{IsSettled, none_own}
-use Rattle.crn_ctext.specs.Steps.{Awaits, cut}
-use Rattle.crn_ctext.specs.Blocks.{asks, asks_blocks, asks_table, asks_lines, lists_of, ReadOf, course}
-use Rattle.crn_ctext.specs.Judged.{LeavesOpen}
-use Rattle.crn_ctext.specs.Meaning.{meaning, versions}
+use Rattle.crn_ctext.proofs.Prelude.{◌≡◌, ◌≤◌, ◌<◌, ◌+◌, ◌++◌, ℕ, Bool, true, false, List, [], ◌∷◌, length, refl, sym, subst, inl, inr, arith, append-nil, length-append, Net, MAX_LINE, Place, IsLine, IsBegun, BreaksLine, HasMore, LacksLine, early, beginning, IsLine-append, begun_breaks_last, begun_is_no_line, line_and_more, line_breaks_none, long_breaks, none_ends, built, BadHeader, BadNetwork, Fault, end_form, Course, Give, Line, Test, End, ◌>>=◌, due, find, ends, FailsFirst, IsSettled, none_own, Awaits, cut, asks, asks_blocks, asks_table, asks_lines, lists_of, ReadOf, course, LeavesOpen, meaning, versions}
 use Rattle.crn_ctext.proofs.Image.{HasNoEnd, asks_no_end}
 use Rattle.crn_ctext.proofs.BlocksWritten.{blocks_no_end, table_no_end}
 use Rattle.crn_ctext.proofs.DocumentsRead.{gives_at_once}

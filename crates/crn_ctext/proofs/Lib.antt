@@ -97,3 +97,4 @@ mod Forms
 mod BlocksShown
 mod RecordsFormed
 mod BlocksLinked
+mod Prelude

@@ -1,10 +1,6 @@
 -- The numbers of a line's bytes, each after a space, one after another.
-use Rattle.std.proofs.Common.{◌≡◌, ◌≢◌, ◌≤◌, ◌<◌, ◌+◌, ◌++◌, ℕ, List, [], ◌∷◌, length, take, drop, get_or, map, refl, sym, ap, ap₂, subst, ◌∙◌, inl, inr, append_assoc, arith}
-use Rattle.std.specs.Prelude.{ℤ, pos}
-use Rattle.std.specs.List.{AllZip}
-use Rattle.std.proofs.lemmas.List.{append-nil, take-append-drop, map-append, length-append, length_push}
-use Rattle.crn_ctext.specs.Records.{IsSpelled}
-use Rattle.crn_ctext.specs.Inner.Line.{capped, BeginsWithZero, EndsAt, HasNumber, HasNoNumber, spaced, SaysNumbers, Came, IsTail}
+use Rattle.crn_ctext.proofs.Prelude.{◌≡◌, ◌≤◌, ◌<◌, ◌+◌, ◌++◌, ℕ, List, [], ◌∷◌, length, take, drop, get_or, map, refl, sym, ap, ap₂, subst, ◌∙◌, inl, inr, append_assoc, arith, ℤ, pos, AllZip, append-nil, take-append-drop, map-append, length-append, length_push, IsSpelled, capped, BeginsWithZero, EndsAt, HasNumber, HasNoNumber, spaced, SaysNumbers, Came, IsTail}
+use Rattle.std.proofs.Common.{◌≢◌}
 use Rattle.crn_ctext.proofs.Spelled.{spelled_one}
 use Rattle.crn_ctext.proofs.LineNumbers.{tail_at, tail_begins, words_one, spelled_is_word, zero_number}
 

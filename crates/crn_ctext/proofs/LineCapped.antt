@@ -1,20 +1,9 @@
 -- Numbers as they are held while a line is read: what is asked of them holds of the numbers of the line.
-use Rattle.std.proofs.Common.{◌≡◌, ◌≤◌, ◌<◌, ◌+◌, ◌++◌, ℕ, zero, suc, true, false, List, [], ◌∷◌, length, map, refl, sym, ap, ap₂, subst, ◌∙◌, inl, inr, arith}
-use Rattle.std.specs.Prelude.{ℤ, pos, negsuc, ◌≤ℤ◌, unsigned_abs, slice_index}
-use Rattle.std.specs.List.{AllByRecursion}
-use Rattle.std.proofs.lemmas.Int.{ints}
-use Rattle.std.proofs.lemmas.List.{length-map, append-nil}
-use Rattle.crn_vec.specs.Lists.{IsIn}
-use Rattle.crn_vec.specs.declared.limits.TheConstants.{MAX_REACTIONS, WIDE_SOLUTION}
-use Rattle.crn_vec.proofs.CallerLemmas.{all_in}
-use Rattle.crn_ctext.specs.Records.{Field, Small, Several, Free, FreeSeveral, Rising, Members, CountAndPart, TwoOf, Turn, ClassWide, Takes, IsNarrow, AreNarrow, AreOf, AreBetween}
-use Rattle.crn_ctext.specs.Inner.Line.{capped}
-use Rattle.crn_ctext.specs.Inner.Shapes.{IsBounded, HasBounds, has_free, fields_of, IsJudged}
+use Rattle.crn_ctext.proofs.Prelude.{◌≡◌, ◌≤◌, ◌<◌, ◌+◌, ◌++◌, ℕ, zero, suc, true, false, List, [], ◌∷◌, length, map, refl, sym, ap, ap₂, subst, ◌∙◌, inl, inr, arith, ℤ, pos, negsuc, ◌≤ℤ◌, unsigned_abs, slice_index, AllByRecursion, ints, length-map, append-nil, IsIn, MAX_REACTIONS, WIDE_SOLUTION, all_in, Field, Small, Several, Free, Rising, Members, CountAndPart, TwoOf, Turn, ClassWide, Takes, IsNarrow, AreNarrow, AreOf, AreBetween, capped, IsBounded, HasBounds, has_free, fields_of, IsJudged, MAX_NUMBERS, cases_Bool}
+use Rattle.crn_ctext.specs.Records.{FreeSeveral}
 use Rattle.crn_ctext.specs.declared.record_shape.Shape.{Shape}
 use Rattle.crn_ctext.specs.declared.record_shape.Shape.TheVariants as shape
 use Rattle.crn_ctext.specs.declared.record_shape.Fit.TheVariants as fit
-use Rattle.crn_io.specs.declared.lines.TheConstants.{MAX_NUMBERS}
-use Rattle.std.proofs.lemmas.Bool.{cases_Bool}
 
 -- ---- numbers that are held
 

@@ -1,18 +1,7 @@
 -- Digits and numbers at the start of a line's bytes: what is read there is what the bytes before the first space spell.
-use Rattle.std.proofs.Common.{◌≡◌, ◌≢◌, ◌⊎◌, ◌≤◌, ◌<◌, ◌+◌, ◌-◌, ◌*◌, ◌++◌, ℕ, zero, suc, true, false, List, [], ◌∷◌, length, take, drop, get_or, min, refl, sym, ap, subst, ◌∙◌, inl, inr, add-one, arith, to_z, of_z}
-use Rattle.std.specs.Prelude.{ℤ, pos, negsuc, neg_ℤ, ◌≤ℤ◌, ◌<ℤ◌, ◌-ℤ◌, ◌^◌, nat_lt}
-use Rattle.std.specs.Int.{w128}
-use Rattle.std.specs.Char.{digit_value}
-use Rattle.std.specs.Str.Parse.{AllDigits, digits_value}
-use Rattle.std.proofs.lemmas.Bool.{le-ltb, lt-ltb}
-use Rattle.std.proofs.lemmas.Bool.Decides.{nat_tests}
-use Rattle.std.proofs.lemmas.Int.{ints}
-use Rattle.std.proofs.lemmas.Int.Digits.{digits_more, digits_value_more}
-use Rattle.std.proofs.lemmas.List.{append-nil, drop_all}
-use Rattle.crn_vec.specs.declared.limits.TheConstants.{WIDE_SOLUTION}
-use Rattle.crn_text.proofs.CallerLemmas.{value_grows}
-use Rattle.crn_ctext.specs.Records.{IsNatural, IsSpelled, IsWord, BeginsWith}
-use Rattle.crn_ctext.specs.Inner.Line.{HasDigits, EndsAt, capped, HasNatural, HasNoNatural, HasNumber, HasNoNumber, IsTail}
+use Rattle.crn_ctext.proofs.Prelude.{◌≡◌, ◌⊎◌, ◌≤◌, ◌<◌, ◌+◌, ◌-◌, ◌*◌, ◌++◌, ℕ, zero, suc, true, false, List, [], ◌∷◌, length, take, drop, get_or, min, refl, sym, ap, subst, ◌∙◌, inl, inr, add-one, arith, to_z, of_z, ℤ, pos, negsuc, neg_ℤ, ◌≤ℤ◌, ◌<ℤ◌, ◌-ℤ◌, nat_lt, w128, digit_value, AllDigits, digits_value, le-ltb, lt-ltb, nat_tests, ints, digits_more, digits_value_more, append-nil, drop_all, WIDE_SOLUTION, value_grows, IsNatural, IsSpelled, IsWord, BeginsWith, HasDigits, EndsAt, capped, HasNatural, HasNoNatural, HasNumber, HasNoNumber, IsTail}
+use Rattle.std.proofs.Common.{◌≢◌}
+use Rattle.std.specs.Prelude.{◌^◌}
 
 -- ---- digits
 

@@ -1,15 +1,6 @@
 -- The numbers of a record, one after another.
-use Rattle.std.proofs.Common.{◌≡◌, ◌≢◌, ◌≤◌, ◌<◌, ◌+◌, ◌++◌, ◌↔◌, ℕ, suc, List, [], ◌∷◌, length, map, drop, get_or, refl, sym, ap, ap₂, subst, ◌∙◌, inl, inr, arith}
-use Rattle.std.specs.Prelude.{ℤ, pos, negsuc, ◌≤ℤ◌, ◌<ℤ◌, slice_index}
-use Rattle.std.proofs.lemmas.List.{append-nil, drop_more, drop_all}
-use Rattle.std.proofs.lemmas.Bool.{cases_lt}
-use Rattle.std.specs.List.{AllByRecursion}
-use Rattle.std.proofs.lemmas.Int.{ints}
-use Rattle.crn_vec.specs.Lists.{IsIn, IsAbove, IsAscending}
-use Rattle.crn_vec.proofs.CallerLemmas.{above_ascending, ascending_tail, above_in}
-use Rattle.crn_ctext.specs.Records.{Field, Rising, ClassWide, Takes, AreOf, AreBetween, AreRising}
-use Rattle.crn_ctext.specs.Kinds.{small}
-use Rattle.crn_ctext.specs.Inner.Shapes.{AreMembers}
+use Rattle.crn_ctext.proofs.Prelude.{◌≡◌, ◌≤◌, ◌<◌, ◌+◌, ◌++◌, ◌↔◌, ℕ, suc, List, [], ◌∷◌, length, map, drop, get_or, refl, sym, ap, ap₂, subst, ◌∙◌, inl, inr, arith, ℤ, pos, negsuc, ◌≤ℤ◌, ◌<ℤ◌, slice_index, append-nil, drop_more, drop_all, cases_lt, AllByRecursion, ints, IsIn, IsAbove, IsAscending, above_ascending, ascending_tail, above_in, Field, Rising, ClassWide, Takes, AreOf, AreBetween, AreRising, small, AreMembers}
+use Rattle.std.proofs.Common.{◌≢◌}
 
 -- ---- rising numbers
 

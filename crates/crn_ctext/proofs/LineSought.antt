@@ -1,31 +1,12 @@
 -- All forms that are due, tried on a line: the first test of the line that fails, or the record that it is.
-use Rattle.std.proofs.Common.{◌≡◌, ◌⊎◌, ◌≤◌, ◌<◌, ◌+◌, ◌++◌, ◌∷◌, ◌&&◌, ℕ, zero, suc, Bool, true, false, List, [], length, take, refl, sym, ap, ap₂, subst, ◌∙◌, inl, inr, lit≤, arith}
-use Rattle.std.specs.Prelude.{ℤ, not, slice_index_or, ◌==◌}
-use Rattle.std.proofs.lemmas.Bool.{cases_Bool}
-use Rattle.std.proofs.lemmas.List.{take_more}
-use Rattle.std.specs.List.{list_any}
-use Rattle.std.specs.Str.{bytes_eq}
-use Rattle.crn_vec.specs.Lists.{IsIn}
-use Rattle.crn_vec.specs.Kept.{KeptInts}
-use Rattle.crn_vec.proofs.CallerLemmas.{in_left, in_right, in_push, and_cases}
-use Rattle.crn_cert.specs.Questions.{Question, Q1, Q2, Q3, Q4, Q5, Q6, Q7, Q8, Q9, Q10, Q11, Q12, Q13, Q14, Q15}
-use Rattle.crn_ctext.specs.Records.{Record, Form, Field, Says, BeginsWith, IsShaped, Fits, Takes, AreOf, kind_of}
-use Rattle.crn_ctext.specs.Kinds.{row_words, tree_words, known_words}
-use Rattle.crn_ctext.specs.Questions.{Sizes, heads}
-use Rattle.crn_ctext.specs.Course.{Gives, FailsFirst}
-use Rattle.crn_ctext.specs.Expect.{text_of, sizes_of, question_of, forms_of, due_forms, misplaced, is_after, tag_of, MayBeDue, IsExpectable, IsReadAs, IsRefusedBy}
-use Rattle.crn_ctext.specs.Inner.Forms.{IsForm, no_form, tag}
-use Rattle.crn_ctext.specs.Inner.Tries.{FitFields, IsTried, AreTried, IsNotShaped, IsNotFit, worst_of}
+use Rattle.crn_ctext.proofs.Prelude.{◌≡◌, ◌⊎◌, ◌≤◌, ◌<◌, ◌+◌, ◌++◌, ◌∷◌, ◌&&◌, ℕ, zero, suc, Bool, true, false, List, [], length, take, refl, sym, ap, ap₂, subst, ◌∙◌, inl, inr, lit≤, arith, ℤ, not, slice_index_or, cases_Bool, take_more, list_any, bytes_eq, IsIn, KeptInts, in_left, in_right, in_push, and_cases, Question, Q1, Q2, Q3, Q4, Q5, Q6, Q7, Q8, Q9, Q10, Q11, Q12, Q13, Q14, Q15, Record, Form, Field, Says, BeginsWith, IsShaped, Fits, Takes, AreOf, kind_of, row_words, tree_words, known_words, Sizes, heads, Gives, FailsFirst, text_of, question_of, forms_of, due_forms, misplaced, is_after, tag_of, MayBeDue, IsExpectable, IsReadAs, IsRefusedBy, IsForm, no_form, tag, FitFields, IsTried, AreTried, IsNotShaped, IsNotFit, worst_of, Due, Expect, GivenForm, Tried, fault_number, WrongOrder}
+use Rattle.std.specs.Prelude.{◌==◌}
+use Rattle.crn_ctext.specs.Expect.{sizes_of}
 use Rattle.crn_ctext.proofs.LinesRead.{word_one}
 use Rattle.crn_ctext.proofs.WordsApart.{among_yes}
-use Rattle.crn_ctext.specs.declared.expect.Due.{Due}
 use Rattle.crn_ctext.specs.declared.expect.Due.TheVariants as due
-use Rattle.crn_ctext.specs.declared.expect.Expect.{Expect}
-use Rattle.crn_ctext.specs.declared.record_form.Form.{Form as GivenForm}
-use Rattle.crn_ctext.specs.declared.record_try.Tried.{Tried}
 use Rattle.crn_ctext.specs.declared.record_try.Tried.TheVariants as tried
 use Rattle.crn_ctext.proofs.Shared.{in_by_test}
-use Rattle.crn_cert.specs.Faults.{fault_number, WrongOrder}
 
 -- ---- members
 

@@ -1,22 +1,11 @@
 -- A line, and a form that is tried on it.
-use Rattle.std.proofs.Common.{◌≡◌, ◌≤◌, ◌<◌, ◌+◌, ◌++◌, ℕ, suc, Bool, true, false, List, [], ◌∷◌, length, take, drop, get_or, refl, sym, ap, ap₂, subst, ◌∙◌, inl, inr, append_assoc, arith}
-use Rattle.std.specs.Prelude.{ℤ, pos, slice_index_or, ◌==◌, if◌then◌else◌}
-use Rattle.std.specs.List.{join_with_byte}
-use Rattle.std.proofs.lemmas.List.{append-nil, take-append-drop, length-append, length-map}
+use Rattle.crn_ctext.proofs.Prelude.{◌≡◌, ◌≤◌, ◌<◌, ◌+◌, ◌++◌, ℕ, suc, Bool, true, false, List, [], ◌∷◌, length, take, drop, get_or, refl, sym, ap, ap₂, subst, ◌∙◌, inl, inr, append_assoc, arith, ℤ, pos, slice_index_or, join_with_byte, append-nil, take-append-drop, length-append, length-map, Record, Form, Field, Small, Several, Free, Rising, Members, CountAndPart, TwoOf, Turn, ClassWide, Takes, AreOf, Says, IsWord, BeginsWith, kind_of, field_most, most_of, text_of, spaced, SaysNumbers, IsTail, IsForm, later, fields_of, SaysAfter, FitFields, IsFit, IsTried, IsNotShaped, IsSomeShaped, GivenForm, Fit, Word, eqb_tells}
+use Rattle.std.specs.Prelude.{◌==◌, if◌then◌else◌}
 use Rattle.std.proofs.lemmas.Grind.{flat_map-append}
-use Rattle.crn_ctext.specs.Records.{Record, Form, Field, Small, Several, Free, FreeSeveral, Rising, Members, CountAndPart, TwoOf, Turn, ClassWide, Takes, AreOf, Says, IsWord, BeginsWith, kind_of, field_most, most_of}
-use Rattle.crn_ctext.specs.Expect.{text_of}
-use Rattle.crn_ctext.specs.Inner.Line.{spaced, SaysNumbers, IsTail}
-use Rattle.crn_ctext.specs.Inner.Forms.{IsForm, later}
-use Rattle.crn_ctext.specs.Inner.Shapes.{fields_of}
-use Rattle.crn_ctext.specs.Inner.Tries.{SaysAfter, FitFields, IsFit, IsTried, IsNotShaped, IsSomeShaped}
-use Rattle.crn_ctext.specs.declared.record_form.Form.{Form as GivenForm}
-use Rattle.crn_ctext.specs.declared.record_shape.Fit.{Fit}
+use Rattle.crn_ctext.specs.Records.{FreeSeveral}
 use Rattle.crn_ctext.specs.declared.record_shape.Fit.TheVariants as fit
 use Rattle.crn_ctext.specs.declared.record_try.Tried.TheVariants as tried
-use Rattle.crn_ctext.specs.declared.word.Word.{Word}
 use Rattle.crn_ctext.specs.declared.word.Word.TheVariants as word
-use Rattle.std.proofs.lemmas.Bool.Decides.{eqb_tells}
 use Rattle.crn_ctext.proofs.LineNumbers.{begins_tail, tail_begins}
 use Rattle.crn_ctext.proofs.LineCame.{spaced_tail, numbers_one}
 

@@ -1,26 +1,7 @@
 -- Each test of the built questions is decided, whatever a block holds.
-use Rattle.std.proofs.Common.{inl, inr, refl, ◌≡◌, ◌==◌, ℕ, zero, suc, Bool, true, false, List, [], length, map, drop}
-use Rattle.std.specs.Prelude.{◌≢◌, ℤ, pos, negsuc, Option, Some, None, sum, slice_index_or}
-use Rattle.std.specs.Option.{IsSome}
-use Rattle.std.specs.List.{range_with_len}
-use Rattle.crn_vec.specs.Network.{Net, IsNetwork}
-use Rattle.crn_vec.specs.NetSystems.{reaction_system}
-use Rattle.crn_vec.specs.Problems.{Signed}
-use Rattle.crn_vec.specs.Influence.{plain_table, strong_table}
-use Rattle.crn_cert.specs.declared.answer.RankProof.{RankProof}
-use Rattle.crn_cert.specs.declared.head_kind.HeadKind.{HeadKind}
-use Rattle.crn_cert.specs.declared.head_kind.HeadKind.TheVariants.{Classes, Strong, Rank, Deficiency, Yes, YesWeak, YesVec, YesSignal, No, NoReaction, NoVec, NoNumber, NoTerminal, NoClass, NoSum, NoDependence, NoCycle, NoPair, NotRegular, OnlyZero, Plane, NotApplicable}
-use Rattle.crn_cert.specs.Questions.{Earlier, Q1, Q2, Q3, Q4, Q5, Q6, Q7, Q8, Q9, Q10, Q11, Q12, Q13, Q14, Q15, on, rank_of, deficiencies_of, vector_given, IsOpen}
-use Rattle.crn_vec.specs.Deficiency.{AreAtMostOne}
-use Rattle.crn_cert.specs.ClassTests.{zeros_in}
-use Rattle.crn_cert.specs.Valid.{strong, linkage_rows, strong_rows, reversible_head, reversible_rows, weak_head, rank_rows, deficiency_head, deficiency_rows, dependence_rows, conservation_rows, zero_head, one_head, IsFirstLarge, linkage, linkage_count, pair_places, regular_head, regular_rows, confluence_head, confluence_rows, HasVector, signal_head, signal_rows, table_rows}
-use Rattle.crn_cert.specs.Nodes.{Flats, CutsA, CutsB}
-use Rattle.crn_vec.specs.Concordance.{sign}
-use Rattle.crn_cert.specs.ConfluenceTests.{least_from, others_than}
-use Rattle.crn_ctext.specs.Questions.{heads, later_numbers}
-use Rattle.crn_ctext.specs.Blocks.{place_of}
-use Rattle.crn_ctext.specs.Meaning.{Known, shapes_of, sizes_of, number, row, nums, ints, lists, rank_proof, kind_of, turn_of, verdict_by, ranks_of, proof_by, is_yes, problem_over, table_problem, signal_problem, signal_problems, problems_by, meaning}
-use Rattle.crn_cert.specs.Built.{built}
+use Rattle.crn_ctext.proofs.Prelude.{inl, inr, refl, ◌≡◌, ◌==◌, ℕ, zero, suc, Bool, true, false, List, [], length, map, drop, ◌≢◌, ℤ, pos, negsuc, Option, Some, None, sum, slice_index_or, IsSome, range_with_len, Net, IsNetwork, reaction_system, Signed, plain_table, strong_table, RankProof, HeadKind, Classes, Strong, Rank, Deficiency, Yes, YesWeak, YesVec, YesSignal, No, NoReaction, NoVec, NoNumber, NoTerminal, NoClass, NoSum, NoDependence, NoCycle, NoPair, NotRegular, OnlyZero, Plane, NotApplicable, Earlier, Q1, Q2, Q3, Q4, Q5, Q6, Q7, Q8, Q9, Q10, Q11, Q12, Q13, Q14, Q15, on, rank_of, deficiencies_of, vector_given, IsOpen, AreAtMostOne, zeros_in, strong, linkage_rows, strong_rows, reversible_head, reversible_rows, weak_head, deficiency_head, deficiency_rows, dependence_rows, conservation_rows, zero_head, one_head, IsFirstLarge, linkage, linkage_count, pair_places, regular_head, regular_rows, confluence_head, confluence_rows, HasVector, signal_head, signal_rows, table_rows, Flats, CutsA, CutsB, sign, least_from, others_than, heads, later_numbers, place_of, Known, shapes_of, sizes_of, nums, lists, turn_of, verdict_by, ranks_of, is_yes, problem_over, table_problem, signal_problem, signal_problems, problems_by, meaning, built}
+use Rattle.crn_cert.specs.Valid.{rank_rows}
+use Rattle.crn_ctext.specs.Meaning.{number, row, ints, rank_proof, kind_of, proof_by}
 use Rattle.crn_ctext.proofs.Decided.{IsDecided, both_decided, one_decided as either_decided, not_decided, if_decided, nat_decided, bool_decided, int_decided}
 use Rattle.crn_ctext.proofs.SignalsDecided.{node_decided, signal_decided}
 use Rattle.crn_ctext.proofs.TestsDecided.{numbered_decided, even_decided, link_trees_decided, from_trees_decided, to_trees_decided, levels_decided, exits_decided, no_reverse_decided, reverses_decided, leaves_decided}

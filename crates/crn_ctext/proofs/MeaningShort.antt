@@ -1,30 +1,7 @@
 -- The forms of the built questions are bounded.
-use Rattle.std.proofs.Common.{◌≡◌, ◌==◌, ◌≤◌, ◌+◌, ◌-◌, ◌++◌, ◌∙◌, ℕ, zero, suc, Bool, true, false, cond, if◌then◌else◌, List, [], ◌∷◌, length, map, refl, sym, ap, subst, inl, inr, arith}
-use Rattle.std.specs.Prelude.{ℤ, pos, negsuc, nat_abs, ◌&&◌, min, codes, replicate, slice_index, slice_index_or}
-use Rattle.std.proofs.Math.Nat.{min-le_right}
-use Rattle.std.proofs.lemmas.Bool.{cases_Bool}
-use Rattle.std.proofs.lemmas.Int.{ints}
-use Rattle.std.proofs.lemmas.List.{append-nil, length-append, length-map}
-use Rattle.std.proofs.lemmas.List.FromFn.{length-range_with_len}
-use Rattle.std.specs.List.{AllByRecursion, AllZip, filter, range_with_len}
-use Rattle.crn_vec.specs.Network.{Net, IsNetwork}
-use Rattle.crn_vec.specs.Deficiency.{class_members}
-use Rattle.crn_vec.specs.declared.limits.TheConstants.{MAX_SPECIES, MAX_COMPLEXES, MAX_REACTIONS}
-use Rattle.crn_vec.proofs.CallerLemmas.{filter_few, all_range}
-use Rattle.crn_cert.specs.declared.answer.Gap.{Gap}
-use Rattle.crn_cert.specs.declared.answer.Gap.TheVariants.{Budget as Spent, Rests as RestsOn}
-use Rattle.crn_cert.specs.declared.head_kind.HeadKind.TheVariants.{Rests}
-use Rattle.crn_cert.specs.declared.answer.Verdict.{Verdict}
-use Rattle.crn_cert.specs.declared.answer.Verdict.TheVariants.{NotApplicable, Unknown, Strong}
-use Rattle.crn_cert.specs.Questions.{Earlier, Question, Q1, Q2, Q3, Q4, Q5, Q6, Q7, Q8, Q9, Q10, Q11, Q12, Q13, Q14, Q15, number, on, count_of, terminal_of, labels_of}
-use Rattle.crn_cert.specs.Valid.{linkage, linkage_count, class_places, ends_at, is_within_terminal, is_least_of_pair}
-use Rattle.crn_ctext.specs.Records.{Record, Form, CountAndPart, AreBetween, Fits}
-use Rattle.crn_ctext.specs.Questions.{open_kinds, kind_at, heads, rows, head, yes, no, no_by, none_by, wide, wide_signal, spent, rests, open_by, classes, rank_forms, class_forms, class_rank, side_form, first_number, later_numbers}
-use Rattle.crn_ctext.specs.Kinds.{small, small_form, free_form}
-use Rattle.crn_ctext.specs.Blocks.{place_of}
-use Rattle.crn_ctext.specs.Documents.{IsOneOf}
-use Rattle.crn_ctext.specs.Meaning.{Known, lists, wide_gap, number as said_number, is_yes, has_vector, signal_problems, pairs_by, pairs_of, lengths, reactions_by_class, complexes_by_class, shapes_of, sizes_of, verdict_by, verdict_of, problems_by, meaning}
-use Rattle.crn_cert.specs.Built.{built}
+use Rattle.crn_ctext.proofs.Prelude.{◌≡◌, ◌==◌, ◌≤◌, ◌+◌, ◌-◌, ◌++◌, ◌∙◌, ℕ, zero, suc, Bool, true, false, cond, if◌then◌else◌, List, [], ◌∷◌, length, map, refl, sym, ap, subst, inl, inr, arith, ℤ, pos, negsuc, nat_abs, codes, replicate, slice_index, slice_index_or, min-le_right, cases_Bool, ints, append-nil, length-append, length-map, length-range_with_len, AllByRecursion, AllZip, filter, range_with_len, Net, IsNetwork, class_members, MAX_SPECIES, MAX_COMPLEXES, MAX_REACTIONS, filter_few, all_range, Gap, Spent, RestsOn, Rests, Verdict, Unknown, Earlier, Question, Q1, Q2, Q3, Q4, Q5, Q6, Q7, Q8, Q9, Q10, Q11, Q12, Q13, Q14, Q15, number, on, count_of, terminal_of, labels_of, linkage, linkage_count, class_places, ends_at, is_within_terminal, is_least_of_pair, Record, Form, CountAndPart, AreBetween, Fits, open_kinds, kind_at, heads, rows, head, yes, no, no_by, none_by, wide, wide_signal, spent, rests, open_by, classes, rank_forms, class_forms, class_rank, side_form, first_number, later_numbers, small, small_form, free_form, place_of, IsOneOf, Known, lists, wide_gap, said_number, is_yes, has_vector, signal_problems, pairs_by, pairs_of, lengths, reactions_by_class, complexes_by_class, shapes_of, sizes_of, verdict_by, verdict_of, problems_by, meaning, built}
+use Rattle.std.specs.Prelude.{◌&&◌, min}
+use Rattle.crn_cert.specs.declared.answer.Verdict.TheVariants.{NotApplicable, Strong}
 use Rattle.crn_ctext.proofs.Bounded.{IsSlim, IsBounded, words_fit}
 use Rattle.crn_ctext.proofs.ShortAnswers.{IsShortFor, AreFewProblems}
 

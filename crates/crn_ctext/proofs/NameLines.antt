@@ -1,7 +1,6 @@
 -- Lines that name a list by a number of one digit or two.
-use Rattle.std.proofs.Common.{◌≡◌, ◌≤◌, ◌<◌, ◌+◌, ◌/◌, ◌%◌, ℕ, [], ◌∷◌, ◌++◌, codes, refl, arith}
-use Rattle.std.specs.Prelude.{decimal}
-use Rattle.std.proofs.lemmas.Fmt.{decimal_digit, decimal_step}
+use Rattle.crn_ctext.proofs.Prelude.{◌≡◌, ◌≤◌, ◌<◌, ◌+◌, ◌/◌, ◌%◌, ℕ, [], ◌∷◌, ◌++◌, refl, arith, decimal, decimal_digit, decimal_step}
+use Rattle.std.proofs.Common.{codes}
 
 pub one_digit : (part n : ℕ) → n < 10 → codes "ref" ++ part ∷ 32 ∷ decimal n ++ codes "\n" ≡ 114 ∷ 101 ∷ 102 ∷ part ∷ 32 ∷ (48 + n) ∷ 10 ∷ []
 one_digit part n lt = rw (decimal_digit n lt) refl

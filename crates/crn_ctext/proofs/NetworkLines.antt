@@ -1,18 +1,5 @@
 -- The lines of a network's canonical text: no byte ends one, so that they are counted by the text.
-use Rattle.std.proofs.Common.{◌≡◌, ◌+◌, ◌==◌, ◌++◌, ◌||◌, ◌∙◌, ℕ, suc, Bool, true, false, if◌then◌else◌, List, [], ◌∷◌, length, map, get_or, eqb, refl, sym, ap, ap₂, subst, inl, inr, arith}
-use Rattle.std.specs.Prelude.{codes}
-use Rattle.std.specs.List.{AllByRecursion, list_any}
-use Rattle.std.proofs.lemmas.List.{length-map}
-use Rattle.std.proofs.lemmas.Bool.{cases_Bool}
-use Rattle.crn_vec.specs.Network.{Net, IsNetwork, IsPartialNetwork, IsVector, JoinsTwo}
-use Rattle.crn_vec.proofs.CallerLemmas.{all_at}
-use Rattle.crn_text.specs.Canonical.{canonical, complex_text}
-use Rattle.crn_text.proofs.CallerLemmas.{line_text}
-use Rattle.crn_text.proofs.CallerLemmas.{no_lf}
-use Rattle.crn_text.proofs.CallerLemmas.{held}
-use Rattle.crn_text.proofs.CallerLemmas.{side_held, good_terms}
-use Rattle.crn_io.specs.Lines.{IsLine}
-use Rattle.crn_ctext.specs.Blocks.{ended}
+use Rattle.crn_ctext.proofs.Prelude.{◌≡◌, ◌+◌, ◌==◌, ◌++◌, ◌||◌, ◌∙◌, ℕ, suc, Bool, true, false, if◌then◌else◌, List, [], ◌∷◌, length, map, get_or, eqb, refl, sym, ap, ap₂, subst, inl, inr, arith, codes, AllByRecursion, list_any, length-map, cases_Bool, Net, IsNetwork, IsPartialNetwork, IsVector, JoinsTwo, all_at, canonical, complex_text, line_text, no_lf, held, side_held, good_terms, IsLine, ended}
 use Rattle.crn_ctext.proofs.DocumentsWritten.{network_lines, canonical_ended}
 
 -- how many bytes of a text end a line

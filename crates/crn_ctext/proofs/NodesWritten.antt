@@ -1,13 +1,7 @@
 -- The records of a tree's nodes, as they are written one after another.
-use Rattle.std.proofs.Common.{◌≡◌, ℕ, ◌+◌, ◌<◌, ◌≤◌, List, [], ◌∷◌, ◌++◌, length, map, take, drop, take_all, get_or, codes, refl, sym, ap, ap₂, ◌∙◌}
-use Rattle.std.proofs.lemmas.List.{map-append, take_more, take-append-drop}
-use Rattle.crn_cert.specs.declared.tree_node.TreeNode.{TreeNode}
-use Rattle.crn_cert.specs.Trees.{Plan, Both, Three, RulesA, RulesB, Level}
-use Rattle.crn_cert.specs.Preorder.{listed, preorder, AreNodesOf}
-use Rattle.crn_ctext.specs.Records.{Record}
-use Rattle.crn_ctext.specs.Answers.{nodes}
-use Rattle.crn_ctext.specs.Documents.{record_lines, one_word, written}
-use Rattle.crn_ctext.specs.Inner.Written.{node_record, leaves_after}
+use Rattle.crn_ctext.proofs.Prelude.{◌≡◌, ℕ, ◌+◌, ◌<◌, ◌≤◌, List, [], ◌∷◌, ◌++◌, length, map, take, drop, take_all, get_or, refl, sym, ap, ap₂, ◌∙◌, map-append, take_more, take-append-drop, TreeNode, Plan, Both, Three, RulesA, RulesB, Level, preorder, AreNodesOf, Record, nodes, record_lines, one_word, written, node_record, leaves_after}
+use Rattle.std.proofs.Common.{codes}
+use Rattle.crn_cert.specs.Preorder.{listed}
 use Rattle.crn_ctext.proofs.WrittenLeaves.{written_lines, leaves_append}
 
 -- the records of nodes in a list

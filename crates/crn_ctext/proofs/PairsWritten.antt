@@ -1,9 +1,5 @@
 -- The linked pairs within terminal classes, listed reaction by reaction.
-use Rattle.std.proofs.Common.{◌≡◌, ◌+◌, ◌<◌, ◌++◌, ◌∙◌, ℕ, true, List, [], ◌∷◌, length, take, set, ap, sym}
-use Rattle.std.proofs.lemmas.List.{take_more_set}
-use Rattle.crn_vec.specs.Network.{Net}
-use Rattle.crn_pairs.specs.Pairs.{is_pair, pairs_to}
-use Rattle.crn_pairs.proofs.CallerLemmas.{pairs_yes}
+use Rattle.crn_ctext.proofs.Prelude.{◌≡◌, ◌+◌, ◌<◌, ◌++◌, ◌∙◌, ℕ, true, List, [], ◌∷◌, length, take, set, ap, sym, take_more_set, Net, is_pair, pairs_to, pairs_yes}
 
 -- one more is listed
 pub listed_more : (net : Net) (labels exits pairs : List ℕ) (count r : ℕ) → count < length pairs → take count pairs ≡ pairs_to net labels exits r → is_pair net labels exits (r + 1) ≡ true → take (count + 1) (set pairs count (r + 1)) ≡ pairs_to net labels exits (r + 1)

@@ -1,13 +1,5 @@
 -- The lines of a part: the first of those that are written, what the others say, and a test after a line.
-use Rattle.std.proofs.Common.{◌≡◌, ◌++◌, ℕ, Bool, true, false, List, [], ◌∷◌, refl, sym, ap, subst, ◌∙◌}
-use Rattle.std.specs.List.{AllZip}
-use Rattle.crn_vec.specs.Lists.{IsIn}
-use Rattle.crn_ctext.specs.Records.{Record, Form, Says, Fits, record_text, kind_of}
-use Rattle.crn_ctext.specs.Course.{Course, Give, ◌>>=◌, test_own}
-use Rattle.crn_ctext.specs.Courses.{IsWrittenBy}
-use Rattle.crn_ctext.specs.Blocks.{either}
-use Rattle.crn_ctext.specs.Documents.{IsOneOf}
-use Rattle.crn_ctext.specs.Parts.{asks_part}
+use Rattle.crn_ctext.proofs.Prelude.{◌≡◌, ◌++◌, ℕ, Bool, true, false, List, [], ◌∷◌, refl, sym, ap, subst, ◌∙◌, AllZip, IsIn, Record, Form, Says, Fits, record_text, kind_of, Course, Give, ◌>>=◌, test_own, IsWrittenBy, either, IsOneOf, asks_part}
 use Rattle.crn_ctext.proofs.Bounded.{IsBounded, fitting_is_plain, slim_are_short}
 use Rattle.crn_ctext.proofs.FormWords.{words_yes, are_words}
 use Rattle.crn_ctext.proofs.Image.{HasNoEnd, written_then, written_cuts, part_record_is_written, written_is_part_record, part_no_end}

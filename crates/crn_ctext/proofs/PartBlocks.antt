@@ -1,20 +1,7 @@
 -- Blocks of version 1 without trees, within the lines of a part: those of valid answers, after which their verdicts are known.
-use Rattle.std.proofs.Common.{◌≡◌, ◌≤◌, ◌∙◌, ◌+◌, ◌*◌, ◌++◌, ℕ, suc, Bool, false, List, [], ◌∷◌, length, map, refl, sym, ap, ap₂, subst, inl, append_assoc, arith}
-use Rattle.std.specs.List.{AllByRecursion, AllZip}
-use Rattle.std.proofs.lemmas.List.{append-nil, length-append}
-use Rattle.crn_vec.specs.declared.signs.Sign.{Sign}
-use Rattle.crn_cert.specs.declared.answer.Answer.{Answer}
+use Rattle.crn_ctext.proofs.Prelude.{◌≡◌, ◌≤◌, ◌∙◌, ◌+◌, ◌*◌, ◌++◌, ℕ, suc, Bool, false, List, [], ◌∷◌, length, map, refl, sym, ap, ap₂, subst, inl, append_assoc, arith, AllByRecursion, AllZip, append-nil, length-append, Sign, Answer, Earlier, Question, tight, Record, Says, record_text, IsWrittenBy, head_of, records_below, proof_nodes, all_records, Known, shapes_of, meaning, Meaning, Problem, AfterBlocks, asks_blocks, below, has_tree, leaf_forms, IsGoodLeaf, IsOneOf, AreTrees, AreValid, learned, verdicts_on}
 use Rattle.crn_cert.specs.Formed.{AreFormed}
-use Rattle.crn_cert.specs.Questions.{Earlier, Question}
-use Rattle.crn_cert.specs.Verdicts.{tight}
-use Rattle.crn_ctext.specs.Records.{Record, Says, record_text}
-use Rattle.crn_ctext.specs.Courses.{IsWrittenBy}
-use Rattle.crn_ctext.specs.Answers.{head_of, records_below, proof_nodes, all_records}
-use Rattle.crn_ctext.specs.Meaning.{Known, shapes_of, meaning}
-use Rattle.crn_ctext.specs.Blocks.{Meaning, Problem, AfterBlocks, asks_blocks, below, has_tree}
 use Rattle.crn_ctext.specs.Documents as documents
-use Rattle.crn_ctext.specs.Documents.{leaf_forms, IsGoodLeaf, IsOneOf, AreTrees, AreValid}
-use Rattle.crn_ctext.specs.PartBlocks.{learned, verdicts_on}
 use Rattle.crn_ctext.proofs.Shared.{IsWrittenFor, IsTextFor, all_texts, said_for}
 use Rattle.crn_ctext.proofs.AnswersApart.{zip_long}
 use Rattle.crn_ctext.proofs.DocumentsShort.{IsFew, most}

@@ -1,12 +1,5 @@
 -- The numbers of a part's records, from the fields that they fit: small ones, and the first of several.
-use Rattle.std.proofs.Common.{◌≡◌, ◌≤◌, ◌++◌, ◌∙◌, ℕ, List, [], ◌∷◌, length, map, refl, sym, ap, arith}
-use Rattle.std.specs.Prelude.{ℤ, pos, negsuc}
-use Rattle.std.proofs.lemmas.Int.{ints}
-use Rattle.std.proofs.lemmas.List.{append-nil, length-map}
-use Rattle.crn_vec.specs.Lists.{IsAscending}
-use Rattle.crn_cert.specs.Ranges.{AreFrom}
-use Rattle.crn_ctext.specs.Records.{Field, Rising, Takes, AreNarrow, AreOf, AreBetween}
-use Rattle.crn_ctext.specs.Kinds.{small}
+use Rattle.crn_ctext.proofs.Prelude.{◌≡◌, ◌≤◌, ◌++◌, ◌∙◌, ℕ, List, [], ◌∷◌, length, map, refl, sym, ap, arith, ℤ, pos, negsuc, ints, append-nil, length-map, IsAscending, AreFrom, Field, Rising, Takes, AreNarrow, AreOf, AreBetween, small}
 use Rattle.crn_ctext.proofs.FieldsTyped.{naturals}
 use Rattle.crn_ctext.proofs.FieldsSaid.{between}
 

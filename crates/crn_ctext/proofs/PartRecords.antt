@@ -1,15 +1,5 @@
 -- The records of a part, one by one: what a record that fits a form is, and that those of formed answers fit and are plain.
-use Rattle.std.proofs.Common.{◌≡◌, ◌≤◌, ◌+◌, ◌++◌, ◌^◌, ◌⊎◌, ℕ, zero, suc, true, List, [], ◌∷◌, length, map, refl, sym, ap, subst, ◌∙◌, inl, inr, arith}
-use Rattle.std.specs.Prelude.{ℤ, pos, negsuc, ◌≤ℤ◌}
-use Rattle.std.specs.List.{AllByRecursion}
-use Rattle.std.proofs.lemmas.Int.{ints}
-use Rattle.std.proofs.lemmas.List.{append-nil, length-map}
-use Rattle.crn_vec.specs.Network.{Net, IsNetwork}
-use Rattle.crn_cert.specs.Ranges.{AreBits, AreFrom}
-use Rattle.crn_cert.specs.Data.{IsBasisOf}
-use Rattle.crn_ctext.specs.Records.{Record, Form, Field, Rising, AreBetween, Fits}
-use Rattle.crn_ctext.specs.Kinds.{small, record_form, small_form, free_form}
-use Rattle.crn_ctext.specs.Documents.{IsOneOf, one_word}
+use Rattle.crn_ctext.proofs.Prelude.{◌≡◌, ◌≤◌, ◌+◌, ◌++◌, ◌^◌, ◌⊎◌, ℕ, zero, suc, true, List, [], ◌∷◌, length, map, refl, sym, ap, subst, ◌∙◌, inl, inr, arith, ℤ, pos, negsuc, ◌≤ℤ◌, AllByRecursion, ints, append-nil, length-map, Net, IsNetwork, AreBits, AreFrom, IsBasisOf, Record, Form, Field, Rising, AreBetween, Fits, small, record_form, small_form, free_form, IsOneOf, one_word}
 use Rattle.crn_ctext.proofs.Bounded.{IsPlain, IsBounded, words_fit, fitting_is_plain}
 use Rattle.crn_ctext.proofs.RanksLinked.{record_is}
 use Rattle.crn_ctext.proofs.PartNumbers.{FitFields, number_back, number_then, rising_fits, one_number}

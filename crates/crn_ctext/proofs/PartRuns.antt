@@ -1,27 +1,10 @@
 -- Runs of numbers, and a line of a part that is tried.
-use Rattle.std.proofs.Common.{◌≡◌, ◌<◌, ◌+◌, ◌++◌, ℕ, Bool, true, false, List, [], ◌∷◌, length, map, take, drop, refl, sym, ap, ap₂, subst, ◌∙◌, inl, inr, arith}
-use Rattle.std.specs.Prelude.{ℤ, unsigned_abs, if◌then◌else◌, slice_index_or}
-use Rattle.std.specs.List.{AllByRecursion, join_with_byte}
-use Rattle.std.proofs.lemmas.List.{length-map, get_or-map}
-use Rattle.std.specs.Borrow.{Bor}
-use Rattle.crn_vec.specs.Kept.{KeptInts}
-use Rattle.crn_ctext.specs.Inner.Forms.{no_form}
+use Rattle.crn_ctext.proofs.Prelude.{◌≡◌, ◌<◌, ◌+◌, ◌++◌, ℕ, Bool, true, false, List, [], ◌∷◌, length, map, take, drop, refl, sym, ap, ap₂, subst, ◌∙◌, inl, inr, arith, ℤ, unsigned_abs, slice_index_or, AllByRecursion, join_with_byte, length-map, get_or-map, Bor, KeptInts, no_form, IsIn, WIDE_SOLUTION, Record, Form, Field, Small, Free, Rising, Takes, AreNarrow, AreOf, Says, IsWord, BeginsWith, IsShaped, Fits, kind_of, record_form, SaysNumbers, IsTail, capped, spaced, IsJudged, AreTried, IsFit, IsTried, FitFields, Gives, FailsFirst, AreChoices, IsChoice, IsRun, IsPartReadAs, IsPartRefusedBy, field_of, form_in, forms_in, texts_of, Choice, map_in, in_map, all_in, all_at, at_in, Run}
+use Rattle.std.specs.Prelude.{if◌then◌else◌}
 use Rattle.crn_ctext.proofs.LineSought.{same_kept}
-use Rattle.crn_vec.specs.Lists.{IsIn}
-use Rattle.crn_vec.specs.declared.limits.TheConstants.{WIDE_SOLUTION}
-use Rattle.crn_ctext.specs.Records.{Record, Form, Field, Small, Free, Rising, Takes, AreNarrow, AreOf, Says, IsWord, BeginsWith, IsShaped, Fits, kind_of}
-use Rattle.crn_ctext.specs.Kinds.{record_form}
-use Rattle.crn_ctext.specs.Inner.Line.{SaysNumbers, IsTail, capped, spaced}
-use Rattle.crn_ctext.specs.Inner.Shapes.{IsJudged}
-use Rattle.crn_ctext.specs.Inner.Tries.{AreTried, IsFit, IsTried, FitFields}
 use Rattle.crn_ctext.specs.declared.record_shape.Fit.TheVariants as fit
 use Rattle.crn_ctext.specs.declared.record_try.Tried.TheVariants as tried
-use Rattle.crn_ctext.specs.Course.{Gives, FailsFirst}
-use Rattle.crn_ctext.specs.PartLines.{AreChoices, IsChoice, IsRun, IsPartReadAs, IsPartRefusedBy, field_of, form_in, forms_in, texts_of}
-use Rattle.crn_ctext.specs.declared.part.Choice.{Choice}
-use Rattle.crn_vec.proofs.CallerLemmas.{map_in, in_map, all_in, all_at, at_in}
 use Rattle.crn_ctext.proofs.LinesRead.{word_one}
-use Rattle.crn_ctext.specs.declared.part.Field.{Field as Run}
 use Rattle.crn_ctext.proofs.LineCapped.{AllNarrow, field_narrow, all_held, all_narrow}
 use Rattle.crn_ctext.proofs.LineCame.{spaced_tail}
 use Rattle.crn_ctext.proofs.LineNumbers.{begins_tail, tail_begins}

@@ -1,24 +1,8 @@
 -- The documents of a part's formed and valid answers are those that its course reads to their end.
-use Rattle.std.proofs.Common.{◌≡◌, ◌≤◌, ◌<◌, ◌+◌, ◌++◌, ℕ, List, [], ◌∷◌, length, map, refl, sym, ap, ap₂, subst, ◌∙◌, inl, inr, append_assoc, arith}
-use Rattle.std.specs.Prelude.{codes}
-use Rattle.std.specs.List.{AllByRecursion, AllZip, join_with_byte}
-use Rattle.std.proofs.lemmas.List.{append-nil, length-append, length-map}
-use Rattle.crn_vec.specs.Network.{Net, IsNetwork}
-use Rattle.crn_vec.specs.declared.limits.TheConstants.{MAX_REACTIONS}
-use Rattle.crn_text.specs.Canonical.{canonical, complex_text}
-use Rattle.crn_io.specs.declared.lines.TheConstants.{MAX_DOCUMENT}
-use Rattle.crn_io.specs.Lines.{beginning}
-use Rattle.crn_ctext.specs.Records.{Record, Form, Says, IsSpelled, Fits, record_text}
-use Rattle.crn_ctext.specs.Kinds.{end_form}
-use Rattle.crn_ctext.specs.Course.{Course, Give, ◌>>=◌, find, ends}
-use Rattle.crn_ctext.specs.Courses.{IsWrittenBy, IsSettled}
-use Rattle.crn_ctext.specs.Blocks.{asks_lines, network_line, ended, IsNetworkOf}
-use Rattle.crn_ctext.specs.Documents.{one_word, record_lines}
-use Rattle.crn_ctext.specs.Parts.{Part, Meant, part_title, part_opening, part_ending, part_course, part_document, asks_part, IsPartDocument, IsPartRead, AreJudged}
+use Rattle.crn_ctext.proofs.Prelude.{◌≡◌, ◌≤◌, ◌<◌, ◌+◌, ◌++◌, ℕ, List, [], ◌∷◌, length, map, refl, sym, ap, ap₂, subst, ◌∙◌, inl, inr, append_assoc, arith, codes, AllByRecursion, AllZip, join_with_byte, append-nil, length-append, length-map, Net, IsNetwork, MAX_REACTIONS, canonical, complex_text, MAX_DOCUMENT, beginning, Record, Form, Says, IsSpelled, Fits, record_text, end_form, Course, Give, ◌>>=◌, find, ends, IsWrittenBy, IsSettled, asks_lines, network_line, ended, IsNetworkOf, one_word, record_lines, Part, Meant, part_title, part_opening, part_ending, part_course, part_document, asks_part, IsPartDocument, IsPartRead, AreJudged, BadNetwork, IsIn}
 use Rattle.crn_ctext.proofs.Written.{IsShortLine, gives_what_is_written, written_is_given, is_none}
 use Rattle.crn_ctext.proofs.Image.{HasNoEnd, written_then, written_cuts, no_end_then, part_record_is_written, written_is_part_record, part_no_end}
 use Rattle.crn_ctext.proofs.Courses.{each_is_judged, gives_or_fails, first_is_one, fails_with_a_code}
-use Rattle.crn_cert.specs.Faults.{BadNetwork}
 use Rattle.crn_ctext.proofs.StepsThen.{gives_counts}
 use Rattle.crn_ctext.proofs.NetworkLines.{lines_are_reactions}
 use Rattle.crn_ctext.proofs.FormWords.{words_yes}
@@ -28,7 +12,6 @@ use Rattle.crn_ctext.proofs.BlocksRead.{lines_back}
 use Rattle.crn_ctext.proofs.DocumentsRead.{IsEnded, ended_then, ended_leaves_none, given_below, no_ends, prefix_of, texts_are}
 use Rattle.crn_ctext.proofs.DocumentsShort.{ended_short, lines_weigh, plain_weight, same_for}
 use Rattle.crn_ctext.proofs.DocumentsWritten.{network_lines, canonical_ended, ended_append, taken_no_end, lines_taken}
-use Rattle.crn_vec.specs.Lists.{IsIn}
 
 -- ---- what a part's crate shows of it
 

@@ -1,16 +1,7 @@
 -- The course of a document of a part is settled, if that of the part's own lines is.
-use Rattle.std.proofs.Common.{false, ◌≡◌, ◌≤◌, ◌+◌, ℕ, List, [], ◌∷◌}
-use Rattle.crn_vec.specs.Network.{Net, IsNetwork}
-use Rattle.crn_vec.specs.declared.limits.TheConstants.{MAX_REACTIONS}
-use Rattle.crn_ctext.specs.Records.{Form}
-use Rattle.crn_ctext.specs.Kinds.{end_form}
-use Rattle.crn_ctext.specs.Course.{Course, Give, ◌>>=◌, due, find, test, ends}
-use Rattle.crn_ctext.specs.Courses.{IsSettled}
-use Rattle.crn_ctext.specs.Blocks.{asks_lines, network_line, IsNetworkOf}
-use Rattle.crn_ctext.specs.Parts.{Part, part_title, part_opening, part_ending, part_course, asks_part, asks_parts}
+use Rattle.crn_ctext.proofs.Prelude.{false, ◌≡◌, ◌≤◌, ◌+◌, ℕ, List, [], ◌∷◌, Net, IsNetwork, MAX_REACTIONS, Form, end_form, Course, Give, ◌>>=◌, due, find, test, ends, IsSettled, asks_lines, network_line, IsNetworkOf, Part, part_title, part_opening, part_ending, part_course, asks_part, asks_parts, BadHeader, BadNetwork, WrongOrder}
 use Rattle.crn_ctext.proofs.Decided.{bytes_decided}
 use Rattle.crn_ctext.proofs.Courses.{settled_then, settled_with, GivesOnly, gives_only_then}
-use Rattle.crn_cert.specs.Faults.{BadHeader, BadNetwork, WrongOrder}
 use Rattle.crn_ctext.proofs.LinesRead.{HaveWords, reads_of_settled}
 use Rattle.crn_ctext.proofs.FormWords.{end_has}
 use Rattle.crn_ctext.proofs.Settled.{test_settled, due_settled, give_settled, count_settled, lines_settled, network_settled, ends_settled}

@@ -1,8 +1,5 @@
 -- What a call that writes several pieces did, if the pieces are given by an equation.
-use Rattle.std.proofs.Common.{◌≡◌, ℕ, List, ◌++◌, Result, Err}
-use Rattle.crn_io.specs.Device.{SinkSeen}
-use Rattle.crn_io.specs.Write.{WroteAll, WrotePrefix, Wrote}
-use Rattle.crn_io.proofs.CallerLemmas.{WrotePrefix-more, WrotePrefix-step, Wrote-prefix, Wrote-then}
+use Rattle.crn_ctext.proofs.Prelude.{◌≡◌, ℕ, List, ◌++◌, Result, Err, SinkSeen, WroteAll, WrotePrefix, Wrote, WrotePrefix-more, WrotePrefix-step, Wrote-prefix, Wrote-then}
 
 -- a prefix of the first piece was written
 pub stops_first : {T E : Type 0} {x y : List ℕ} {old new : SinkSeen} {e : E} {r : Result T E} (rest : List ℕ) → y ≡ x ++ rest → r ≡ Err e → WrotePrefix x old new → Wrote y old new r

@@ -1,15 +1,5 @@
 -- The verdict that a block says depends on no node of its trees.
-use Rattle.std.proofs.Common.{◌≡◌, ◌++◌, ◌∙◌, ℕ, zero, suc, List, [], refl, ap}
-use Rattle.std.specs.Prelude.{ℤ}
-use Rattle.std.proofs.lemmas.List.{append-nil}
-use Rattle.crn_vec.specs.declared.signs.Sign.{Sign}
-use Rattle.crn_cert.specs.declared.answer.Verdict.{Verdict}
-use Rattle.crn_cert.specs.Questions.{Question, Q1, Q2, Q3, Q4, Q5, Q6, Q7, Q8, Q9, Q10, Q11, Q12, Q13, Q14, Q15}
-use Rattle.crn_ctext.specs.Records.{Record}
-use Rattle.crn_ctext.specs.Questions.{heads, kind_at}
-use Rattle.crn_ctext.specs.Blocks.{Problem, place_of}
-use Rattle.crn_ctext.specs.Documents.{AreTrees}
-use Rattle.crn_ctext.specs.Meaning.{Known, lists, sizes_of, verdict_by, verdict_of, problems_by, meaning}
+use Rattle.crn_ctext.proofs.Prelude.{◌≡◌, ◌++◌, ◌∙◌, ℕ, zero, suc, List, [], refl, ap, ℤ, append-nil, Sign, Verdict, Question, Q1, Q2, Q3, Q4, Q5, Q6, Q7, Q8, Q9, Q10, Q11, Q12, Q13, Q14, Q15, Record, heads, kind_at, Problem, place_of, AreTrees, Known, lists, sizes_of, verdict_by, verdict_of, problems_by, meaning}
 
 -- trees of these leaves
 abbrev pub Trees : (Problem → List Sign → Record → Type 0) → List {1} Problem → List Record → Type 0

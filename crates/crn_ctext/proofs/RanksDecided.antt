@@ -1,20 +1,6 @@
 -- The tests of ranks, of deficiencies and of positive vectors are decided, whatever the records hold.
-use Rattle.std.proofs.Common.{◌≡◌, ◌≤◌, ◌+◌, ℕ, zero, suc, true, List, [], ◌∷◌, ◌++◌, length, refl, inl, inr, arith}
-use Rattle.std.specs.Prelude.{ℤ, pos, negsuc, ◌≤ℤ◌, ◌≢◌, ◌*ℤ◌, drop, slice_index_or, Option, Some, None}
-use Rattle.std.specs.Option.{IsSome}
-use Rattle.std.proofs.lemmas.Bool.{cases_lt}
-use Rattle.std.proofs.lemmas.Int.{ints}
-use Rattle.crn_vec.specs.Network.{Net}
-use Rattle.crn_vec.specs.Vectors.{entry, dot, column}
-use Rattle.crn_vec.specs.Rank.{combination_at}
-use Rattle.crn_vec.specs.Deficiency.{vectors, IsPositive, IsPositiveDependence, IsConservationLaw}
-use Rattle.crn_vec.proofs.CallerLemmas.{past_end, dot_zero}
-use Rattle.crn_cert.specs.declared.answer.RankProof.{RankProof}
-use Rattle.crn_cert.specs.Questions.{Earlier}
-use Rattle.crn_cert.specs.Tests.{Test as Claim}
-use Rattle.crn_cert.specs.RankTests.{IsDual, IsComb, vector_of, vectors_of, outside, dual_tests, comb_tests, rank_tests}
-use Rattle.crn_cert.specs.Says.{RuleOutDependence, RuleOutConservation}
-use Rattle.crn_cert.specs.Valid.{class_places, class_rank_tests, IsLeft, IsClassNumber, AreClassNumbers}
+use Rattle.crn_ctext.proofs.Prelude.{◌≡◌, ◌≤◌, ◌+◌, ℕ, zero, suc, true, List, [], ◌∷◌, ◌++◌, length, refl, inl, inr, arith, ℤ, pos, negsuc, ◌≤ℤ◌, ◌≢◌, ◌*ℤ◌, slice_index_or, Option, Some, None, IsSome, cases_lt, ints, Net, entry, dot, column, combination_at, vectors, IsPositive, IsPositiveDependence, IsConservationLaw, past_end, dot_zero, RankProof, Earlier, Claim, IsDual, IsComb, vector_of, vectors_of, outside, dual_tests, comb_tests, rank_tests, RuleOutDependence, RuleOutConservation, class_places, class_rank_tests, IsLeft, IsClassNumber, AreClassNumbers}
+use Rattle.std.specs.Prelude.{drop}
 use Rattle.crn_ctext.proofs.Decided.{IsDecided, both_decided, not_decided, if_decided, moved, nat_decided, le_decided, bool_decided, int_decided, int_le_decided, all_decided, some_decided}
 use Rattle.crn_ctext.proofs.TestsDecided.{each_below, some_below}
 use Rattle.crn_ctext.proofs.Settled.{AllDecided}

@@ -1,27 +1,9 @@
 -- Ranks as records: those of a formed proof say it; so for each linkage class.
-use Rattle.std.proofs.Common.{◌≡◌, ◌≢◌, ◌≤◌, ◌<◌, ◌+◌, ◌-◌, ◌++◌, ◌∙◌, ℕ, suc, List, [], ◌∷◌, length, map, take, drop, refl, sym, ap, ap₂, subst, inl, inr, arith}
-use Rattle.std.specs.Prelude.{ℤ, pos, codes}
-use Rattle.std.specs.List.{flat_map, range_with_len}
-use Rattle.std.proofs.lemmas.List.{append-nil, length-append, length-map, take_at, drop_at}
+use Rattle.crn_ctext.proofs.Prelude.{◌≡◌, ◌≤◌, ◌<◌, ◌+◌, ◌-◌, ◌++◌, ◌∙◌, ℕ, suc, List, [], ◌∷◌, length, map, take, drop, refl, sym, ap, ap₂, subst, inl, inr, arith, ℤ, pos, codes, flat_map, range_with_len, append-nil, length-append, length-map, take_at, drop_at, IsIn, IsAscending, Net, class_members, eq_or, above_in, above_ascending, abs_back, RankProof, Earlier, AreFree, IsRankProof, AreClassProofs, rank_tests, linkage, class_places, class_rank_tests, class_ascending, Record, Fits, free_form, one_word, rank_records, lengths, lists, tight_rank}
+use Rattle.std.proofs.Common.{◌≢◌}
 use Rattle.std.proofs.Math.Numerals.{add-one}
-use Rattle.crn_vec.specs.Lists.{IsIn, IsAscending}
-use Rattle.crn_vec.specs.Network.{Net}
-use Rattle.crn_vec.specs.Deficiency.{class_members}
-use Rattle.crn_vec.proofs.CallerLemmas.{eq_or, above_in, above_ascending, abs_back}
-use Rattle.crn_cert.specs.declared.answer.RankProof.{RankProof}
-use Rattle.crn_cert.specs.Questions.{Earlier}
 use Rattle.crn_cert.specs.Tests.{Test}
-use Rattle.crn_cert.specs.Ranges.{AreFree}
-use Rattle.crn_cert.specs.Parts.{IsRankProof, AreClassProofs}
-use Rattle.crn_cert.specs.RankTests.{rank_tests}
-use Rattle.crn_cert.specs.Valid.{linkage, class_places, class_rank_tests}
-use Rattle.crn_cert.proofs.CallerLemmas.{class_ascending}
-use Rattle.crn_ctext.specs.Records.{Record, Fits}
-use Rattle.crn_ctext.specs.Kinds.{free_form}
-use Rattle.crn_ctext.specs.Documents.{one_word}
-use Rattle.crn_ctext.specs.Answers.{rank_records}
-use Rattle.crn_ctext.specs.Meaning.{lengths, lists, rank_proof, class_proofs}
-use Rattle.crn_cert.specs.Verdicts.{tight_rank}
+use Rattle.crn_ctext.specs.Meaning.{rank_proof, class_proofs}
 
 -- ---- records
 

@@ -1,18 +1,5 @@
 -- What the complexes of a network reach is decided, and so are its terminal classes and its linked pairs.
-use Rattle.std.proofs.Common.{◌≡◌, ◌⊎◌, ◌<◌, ◌≤◌, ◌++◌, ◌∙◌, ℕ, zero, suc, Bool, true, false, List, [], ◌∷◌, length, refl, sym, ap, subst, inl, inr, arith}
-use Rattle.std.specs.Prelude.{ℤ, Option, Some, None, slice_index_or}
-use Rattle.std.specs.List.{filter, range_with_len}
-use Rattle.std.proofs.lemmas.Bool.{cases_lt}
-use Rattle.std.proofs.lemmas.List.{length-append}
-use Rattle.crn_vec.specs.Network.{Net, IsNetwork}
-use Rattle.crn_vec.specs.Linkage.{IsLinked}
-use Rattle.crn_vec.specs.Strong.{IsReaction, ReactsTo, Reaches, SameStrong, IsTerminal}
-use Rattle.crn_vec.specs.Walks.{LeadsTo}
-use Rattle.crn_vec.specs.CutPairs.{IsBetween, IsFreeStep, IsOnSide, IsCutPair, IsTerminalPair, IsFirstOfPair, ArePairs}
-use Rattle.crn_vec.specs.Sums.{AreMarks}
-use Rattle.crn_vec.specs.NetSignals.{top_at, AreTops}
-use Rattle.crn_vec.proofs.CallerLemmas.{inside_at, reaction_in, reached_marks, leads_here, leads_keeps, leads_back, strong_here, strong_then, strong_back, terminal_on, top_inside, some_is, none_some, filter_from, filter_has, filter_ascending, range_ascending, in_range, free_back, is_between, below_or}
-use Rattle.crn_cert.proofs.CallerLemmas.{side_marks, side_inside}
+use Rattle.crn_ctext.proofs.Prelude.{◌≡◌, ◌⊎◌, ◌<◌, ◌≤◌, ◌++◌, ◌∙◌, ℕ, zero, suc, Bool, true, false, List, [], ◌∷◌, length, refl, sym, ap, subst, inl, inr, arith, ℤ, Option, Some, None, slice_index_or, filter, range_with_len, cases_lt, length-append, Net, IsNetwork, IsLinked, IsReaction, ReactsTo, Reaches, SameStrong, IsTerminal, LeadsTo, IsBetween, IsFreeStep, IsOnSide, IsCutPair, IsTerminalPair, IsFirstOfPair, ArePairs, AreMarks, top_at, AreTops, inside_at, reaction_in, reached_marks, leads_here, leads_keeps, leads_back, strong_here, strong_then, strong_back, terminal_on, top_inside, some_is, none_some, filter_from, filter_has, filter_ascending, range_ascending, in_range, free_back, is_between, below_or, side_marks, side_inside}
 use Rattle.crn_ctext.proofs.Decided.{IsDecided, both_decided, one_decided, not_decided, if_decided, moved, nat_decided, lt_decided}
 use Rattle.crn_ctext.proofs.TestsDecided.{each_below, some_below, reacts_decided}
 

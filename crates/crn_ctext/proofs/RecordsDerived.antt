@@ -1,30 +1,8 @@
 -- The records of a formed answer are those of its block.
-use Rattle.std.proofs.Common.{◌≡◌, ◌+◌, ◌-◌, ◌++◌, ◌∙◌, ℕ, zero, suc, Bool, true, false, List, [], ◌∷◌, length, map, refl, sym, ap, ap₂, arith}
-use Rattle.std.specs.Prelude.{ℤ, pos, replicate, codes}
-use Rattle.std.specs.List.{AllZip, flat_map, range_with_len}
-use Rattle.std.proofs.lemmas.List.{append-nil}
-use Rattle.crn_cert.specs.declared.answer.Gap.TheVariants.{Wide as WideGap, Budget as Spent, Rests as RestsOn}
-use Rattle.crn_cert.specs.declared.answer.Verdict.{Verdict}
-use Rattle.crn_cert.specs.declared.answer.Verdict.TheVariants.{Classes, Strong, Rank, Deficiency, Yes, YesWeak, YesVec, YesSignal, No, NoReaction, NoVec, NoNumber, NoTerminal, NoClass, NoSum, NoDependence, NoCycle, NoPair, NotRegular, OnlyZero, Plane, NotApplicable, Unknown}
-use Rattle.crn_cert.specs.declared.answer.Proof.{Proof}
-use Rattle.crn_cert.specs.declared.answer.Proof.TheVariants.{Nothing, Forest, Strong as StrongTrees, Back, Rank as RankRows, Ranks, Sides, Ties, One, Two}
-use Rattle.crn_cert.specs.declared.answer.RankProof.{RankProof}
-use Rattle.crn_cert.specs.Questions.{Question, Q1, Q2, Q3, Q4, Q5, Q6, Q7, Q8, Q9, Q10, Q11, Q12, Q13, Q14, Q15, on}
-use Rattle.crn_vec.specs.Kept.{KeptNums}
-use Rattle.crn_cert.specs.Parts.{AreClassProofs}
-use Rattle.crn_cert.specs.Valid.{class_places, pair_places}
-use Rattle.crn_ctext.specs.Records.{Record}
-use Rattle.crn_ctext.specs.Documents.{one_word}
-use Rattle.crn_ctext.specs.Answers.{head_word, rank_records, side_records, small_record}
-use Rattle.crn_ctext.specs.Meaning.{Known, is_yes, pairs_of}
-use Rattle.crn_cert.specs.Data.{Datum, Ints, FreeSeveral, Side}
-use Rattle.crn_cert.specs.Table.{Row, TreeRow, row, rank_rows, rank_in, class_rows, one_or_two}
-use Rattle.crn_cert.specs.Formed.{IsFormedOf}
-use Rattle.crn_cert.specs.Blocks.{FitsTree, rank_data, side_data, trees_of, proof_by}
-use Rattle.crn_cert.specs.Verdicts.{tight_proof}
+use Rattle.crn_ctext.proofs.Prelude.{◌≡◌, ◌+◌, ◌-◌, ◌++◌, ◌∙◌, ℕ, zero, suc, Bool, true, false, List, [], ◌∷◌, length, map, refl, sym, ap, ap₂, arith, ℤ, pos, replicate, codes, AllZip, flat_map, range_with_len, append-nil, WideGap, Spent, RestsOn, Verdict, Unknown, Proof, Nothing, Forest, StrongTrees, Back, RankRows, Ranks, Sides, Ties, One, Two, RankProof, Question, Q1, Q2, Q3, Q4, Q5, Q6, Q7, Q8, Q9, Q10, Q11, Q12, Q13, Q14, Q15, on, KeptNums, AreClassProofs, class_places, pair_places, Record, one_word, head_word, rank_records, side_records, small_record, Known, is_yes, pairs_of, Datum, Ints, FreeSeveral, Side, Row, TreeRow, row, rank_rows, rank_in, class_rows, one_or_two, IsFormedOf, FitsTree, rank_data, side_data, trees_of, proof_by, tight_proof, rank_long, below_long, duals_long, free_there, rank_formed, classes_formed, sides_formed}
+use Rattle.crn_cert.specs.declared.answer.Verdict.TheVariants.{Classes, Strong, Rank, Deficiency, Yes, YesWeak, YesVec, YesSignal, No, NoReaction, NoVec, NoNumber, NoTerminal, NoClass, NoSum, NoDependence, NoCycle, NoPair, NotRegular, OnlyZero, Plane, NotApplicable}
 use Rattle.crn_ctext.proofs.Forms.{row_record, row_records}
 use Rattle.crn_ctext.proofs.BlockLaws.{PairsFor, RecordsAsBefore, AreRecordsOf}
-use Rattle.crn_cert.proofs.CallerLemmas.{rank_long, below_long, duals_long, free_there, rank_formed, classes_formed, sides_formed}
 
 -- if no tree is due, a proof by trees is nothing
 pub bare : (P : Proof → Type 0) (p : Proof) → AllZip FitsTree [] (trees_of p) → proof_by (trees_of p) ≡ tight_proof p → P Nothing → P p

@@ -1,17 +1,6 @@
 -- Records that fit the forms of a question, and after which no tree is due, are those of a formed answer.
-use Rattle.std.proofs.Common.{◌≡◌, ◌∙◌, List, [], ◌∷◌, sym, ap₂, subst}
-use Rattle.std.specs.List.{AllZip}
-use Rattle.crn_cert.specs.declared.answer.Verdict.{Verdict}
-use Rattle.crn_cert.specs.declared.answer.Proof.{Proof}
-use Rattle.crn_cert.specs.Questions.{Question}
-use Rattle.crn_cert.specs.Table.{TreeRow, trees}
-use Rattle.crn_cert.specs.Blocks.{Block, FitsTree, verdict_of, proof_of}
-use Rattle.crn_cert.specs.Formed.{IsFormedOf}
-use Rattle.crn_ctext.specs.Records.{Record, Fits}
-use Rattle.crn_ctext.specs.Questions.{heads}
-use Rattle.crn_ctext.specs.Blocks.{Problem, below}
-use Rattle.crn_ctext.specs.Documents.{IsOneOf}
-use Rattle.crn_ctext.specs.Meaning.{Known, sizes_of, shapes_of, verdict_of as said_verdict, proof_of as said_proof, meaning}
+use Rattle.crn_ctext.proofs.Prelude.{◌≡◌, ◌∙◌, List, [], ◌∷◌, sym, ap₂, subst, AllZip, Verdict, Proof, Question, TreeRow, trees, Block, FitsTree, proof_of, IsFormedOf, Record, Fits, heads, Problem, below, IsOneOf, Known, sizes_of, shapes_of, said_verdict, said_proof, meaning}
+use Rattle.crn_cert.specs.Blocks.{verdict_of}
 use Rattle.crn_ctext.proofs.BlockLaws.{PairsFor}
 use Rattle.crn_ctext.proofs.RecordsTyped.{records_are_blocks}
 use Rattle.crn_ctext.proofs.BlocksFormed.{AreLike, answers_formed, trees_due}

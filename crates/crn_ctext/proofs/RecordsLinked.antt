@@ -1,17 +1,7 @@
 -- Formed records of the built questions are the records of formed answers.
-use Rattle.std.proofs.Common.{◌≡◌, ◌++◌, ◌∙◌, Bool, false, List, [], ◌∷◌, refl, sym, ap, ap₂, subst}
-use Rattle.crn_vec.specs.Network.{Net}
-use Rattle.crn_cert.specs.declared.answer.Verdict.{Verdict}
-use Rattle.crn_cert.specs.declared.answer.Answer.{Answer}
-use Rattle.crn_cert.specs.Questions.{Earlier, Question}
-use Rattle.crn_cert.specs.Formed.{IsFormedOf, AreFormed}
-use Rattle.crn_ctext.specs.Records.{Record}
+use Rattle.crn_ctext.proofs.Prelude.{◌≡◌, ◌++◌, ◌∙◌, Bool, false, List, [], ◌∷◌, refl, sym, ap, ap₂, subst, Net, Verdict, Answer, Earlier, Question, IsFormedOf, Record, records, all_records, Known, shapes_of, sizes_of, verdict_of, learn_of, verdicts_said, meaning, tight, built, verdicts_of}
+use Rattle.crn_cert.specs.Formed.{AreFormed}
 use Rattle.crn_ctext.specs.Documents as documents
-use Rattle.crn_ctext.specs.Answers.{records, all_records}
-use Rattle.crn_ctext.specs.Meaning.{Known, shapes_of, sizes_of, verdict_of, learn_of, verdicts_said, meaning}
-use Rattle.crn_cert.specs.Verdicts.{tight}
-use Rattle.crn_cert.specs.Built.{built}
-use Rattle.crn_cert.specs.Answers.{verdicts_of}
 use Rattle.crn_ctext.proofs.KnownBefore.{AreKnown, after}
 use Rattle.crn_ctext.proofs.BlocksLinked.{joined}
 use Rattle.crn_ctext.proofs.AnswersLinked.{built_in_order, earlier_next, known_after, known_next}

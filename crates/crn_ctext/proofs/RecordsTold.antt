@@ -1,19 +1,8 @@
 -- The formed records of a block are those of a formed answer, which they say.
-use Rattle.std.proofs.Common.{◌≡◌, ◌∙◌, Bool, true, List, [], ◌∷◌, sym, ap, ap₂, subst}
-use Rattle.std.specs.List.{flat_map}
-use Rattle.crn_vec.proofs.CallerLemmas.{head_is, tail_is}
-use Rattle.crn_cert.specs.declared.answer.Verdict.{Verdict}
-use Rattle.crn_cert.specs.declared.answer.Proof.{Proof}
-use Rattle.crn_cert.specs.Questions.{Question, Q11, Q13}
+use Rattle.crn_ctext.proofs.Prelude.{◌≡◌, ◌∙◌, Bool, true, List, [], ◌∷◌, sym, ap, ap₂, subst, flat_map, head_is, tail_is, Verdict, Proof, Question, Q11, Q13, Block, proof_of, block_of, IsFormedOf, blocks_are_of_answers, Record, Parts, nodes, head_of, records_below, proof_nodes, Known, shapes_of, sizes_of, said_verdict, meaning}
 use Rattle.crn_cert.specs.Table as table
-use Rattle.crn_cert.specs.Blocks.{Block, verdict_of, proof_of, block_of}
-use Rattle.crn_cert.specs.Formed.{IsFormedOf}
-use Rattle.crn_cert.proofs.CallerLemmas.{blocks_are_of_answers}
-use Rattle.crn_ctext.specs.Records.{Record}
+use Rattle.crn_cert.specs.Blocks.{verdict_of}
 use Rattle.crn_ctext.specs.Documents as documents
-use Rattle.crn_ctext.specs.Documents.{Parts}
-use Rattle.crn_ctext.specs.Answers.{nodes, head_of, records_below, proof_nodes}
-use Rattle.crn_ctext.specs.Meaning.{Known, shapes_of, sizes_of, verdict_of as said_verdict, meaning}
 use Rattle.crn_ctext.proofs.Forms.{head_record, row_records}
 use Rattle.crn_ctext.proofs.BlockLaws.{PairsFor}
 use Rattle.crn_ctext.proofs.KnownBefore.{AreKnown, after, pairs_known}

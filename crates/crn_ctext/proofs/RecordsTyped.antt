@@ -1,22 +1,11 @@
 -- Records that fit the forms of a question are those of a block of the table that fits.
-use Rattle.std.proofs.Common.{◌≡◌, ◌++◌, ℕ, suc, List, [], ◌∷◌, map, refl, sym, ap₂, subst, inl, inr}
-use Rattle.std.specs.Prelude.{ℤ, Option, Some, None}
-use Rattle.std.specs.List.{AllZip, flat_map}
-use Rattle.crn_vec.specs.Lists.{IsIn}
-use Rattle.crn_cert.specs.Questions.{Question}
+use Rattle.crn_ctext.proofs.Prelude.{◌≡◌, ◌++◌, ℕ, suc, List, [], ◌∷◌, map, refl, sym, ap₂, subst, inl, inr, ℤ, Option, Some, None, AllZip, flat_map, IsIn, Question, Record, Form, head_word, below, IsOneOf, shapes_of, HeadKind, Datum, OneAnd, Walk, FreeSeveral, Shelves, Side, WideOf, Row, fields, FitsFields, FitsHead, FitsRow}
 use Rattle.crn_ctext.specs.Records as records
-use Rattle.crn_ctext.specs.Records.{Record, Form}
-use Rattle.crn_ctext.specs.Answers.{head_word}
-use Rattle.crn_ctext.specs.Blocks.{below}
-use Rattle.crn_ctext.specs.Documents.{IsOneOf}
-use Rattle.crn_ctext.specs.Meaning.{shapes_of}
-use Rattle.crn_cert.specs.declared.head_kind.HeadKind.{HeadKind}
 use Rattle.crn_ctext.proofs.Forms.{numbers_of}
-use Rattle.crn_cert.specs.Data.{Datum, Field, One, CountAndPart, TwoOf, Several, OneAnd, Walk, Members, Free, FreeSeveral, Turn, Shelves, Side, Wide, WideOf, ClassWide}
+use Rattle.crn_cert.specs.Data.{Field, One, CountAndPart, TwoOf, Several, Members, Free, Turn, Wide, ClassWide}
 use Rattle.crn_cert.specs.Table as table
 use Rattle.crn_ctext.proofs.Forms.{words, kinds}
-use Rattle.crn_cert.specs.Table.{Row, Sizes, fields}
-use Rattle.crn_cert.specs.Blocks.{FitsFields, FitsHead, FitsRow}
+use Rattle.crn_cert.specs.Table.{Sizes}
 use Rattle.crn_ctext.proofs.Forms.{row_records}
 use Rattle.crn_ctext.proofs.Forms.{ways, ways_of, way_of, forms_at, forms_from, forms, row_form}
 use Rattle.crn_ctext.proofs.BlockLaws.{RecordsAreBlocks}

@@ -1,26 +1,12 @@
 -- The forms of the records below a head are those of the table.
-use Rattle.std.proofs.Common.{◌≡◌, ◌+◌, ◌-◌, ◌++◌, ◌∙◌, ℕ, zero, suc, Bool, true, false, List, [], ◌∷◌, length, map, refl, sym, ap, ap₂, subst, arith}
-use Rattle.std.specs.Prelude.{ℤ, pos, replicate, codes}
-use Rattle.std.specs.List.{range_with_len}
-use Rattle.std.proofs.lemmas.List.{append-nil}
-use Rattle.crn_vec.specs.Deficiency.{class_members}
-use Rattle.crn_cert.specs.Questions.{Question, Q1, Q2, Q3, Q4, Q5, Q6, Q7, Q8, Q9, Q10, Q11, Q12, Q13, Q14, Q15, on}
-use Rattle.crn_cert.specs.Valid.{linkage, linkage_count, class_places}
-use Rattle.crn_ctext.specs.Records.{Form}
-use Rattle.crn_ctext.specs.Kinds.{free_form}
-use Rattle.crn_ctext.specs.Questions.{class_forms, heads, rows as landed_rows}
-use Rattle.crn_ctext.specs.Blocks.{below, place_of}
-use Rattle.crn_ctext.specs.Meaning.{Known, pairs_of, has_vector, sizes_of, shapes_of}
-use Rattle.crn_cert.specs.declared.head_kind.HeadKind.{HeadKind}
-use Rattle.crn_cert.specs.declared.head_kind.HeadKind.TheVariants.{Classes, Strong, Rank, Deficiency, Yes, YesWeak, YesVec, YesSignal, No, NoReaction, NoVec, NoNumber, NoTerminal, NoClass, NoSum, NoDependence, NoCycle, NoPair, NotRegular, OnlyZero, Plane, NotApplicable, Wide, Budget, Rests}
-use Rattle.crn_cert.specs.Data.{Datum, Members, FreeSeveral, Side}
-use Rattle.crn_cert.specs.Table.{Row, row, rows, rank_rows, rank_in, class_rows, fields, sizes_of as table_sizes}
-use Rattle.crn_cert.specs.Blocks.{FitsHead}
+use Rattle.crn_ctext.proofs.Prelude.{◌≡◌, ◌+◌, ◌-◌, ◌++◌, ◌∙◌, ℕ, zero, suc, Bool, true, false, List, [], ◌∷◌, length, map, refl, sym, ap, ap₂, subst, arith, ℤ, pos, replicate, codes, range_with_len, append-nil, class_members, Question, Q1, Q2, Q3, Q4, Q5, Q6, Q7, Q8, Q9, Q10, Q11, Q12, Q13, Q14, Q15, on, linkage, linkage_count, class_places, Form, free_form, class_forms, heads, landed_rows, below, place_of, Known, pairs_of, has_vector, sizes_of, shapes_of, HeadKind, Classes, Strong, Rank, Deficiency, Yes, YesWeak, YesVec, YesSignal, No, NoReaction, NoVec, NoNumber, NoTerminal, NoClass, NoSum, NoDependence, NoCycle, NoPair, NotRegular, OnlyZero, Plane, NotApplicable, Rests, Datum, FreeSeveral, Side, Row, row, rank_rows, rank_in, class_rows, fields, table_sizes, FitsHead, AllOf, given, fields_in, head_back}
+use Rattle.crn_cert.specs.declared.head_kind.HeadKind.TheVariants.{Wide, Budget}
+use Rattle.crn_cert.specs.Data.{Members}
+use Rattle.crn_cert.specs.Table.{rows}
 use Rattle.crn_ctext.proofs.Forms.{head_record}
 use Rattle.crn_ctext.proofs.Forms.{row_form}
 use Rattle.crn_ctext.proofs.BlockLaws.{PairsFor, RowsAsBefore}
 use Rattle.crn_ctext.proofs.HeadsDerived.{counts}
-use Rattle.crn_cert.proofs.CallerLemmas.{AllOf, given, fields_in, head_back}
 
 abbrev pub HeadOf : Known → Question → HeadKind → Type 0
 HeadOf known q kind = AllOf (fields_in (fields q (table_sizes known.net known.earlier) kind))

@@ -1,30 +1,9 @@
 -- The course of a document is settled, if the tests of meaning are decided.
-use Rattle.std.proofs.Common.{◌≡◌, ◌⊎◌, ◌==◌, ◌≤◌, ◌+◌, ◌++◌, ℕ, zero, suc, Bool, true, false, List, [], ◌∷◌, length, map, refl, sym, ap, subst, ◌∙◌, inl, inr, arith}
-use Rattle.std.specs.Prelude.{ℤ, replicate, codes, decimal}
-use Rattle.std.proofs.lemmas.List.{append_cancel_left}
-use Rattle.std.proofs.lemmas.Fmt.{decimal_injective}
-use Rattle.crn_vec.specs.Lists.{IsIn}
-use Rattle.crn_vec.specs.Network.{Net, IsNetwork}
-use Rattle.crn_vec.specs.declared.signs.Sign.{Sign}
-use Rattle.crn_vec.specs.declared.signs.Sign.TheVariants.{Zero, Plus, Minus}
-use Rattle.crn_vec.specs.declared.limits.TheConstants.{MAX_REACTIONS}
-use Rattle.crn_text.specs.Canonical.{canonical}
-use Rattle.crn_text.specs.Spells.{Spells}
-use Rattle.crn_text.proofs.CallerLemmas.{spells_its_network, judged, no_fault, spelling_unique}
-use Rattle.crn_ctext.specs.Records.{Record, Form}
-use Rattle.crn_ctext.specs.Kinds.{node_forms, section_form, table_form, vector_form, end_form}
-use Rattle.crn_cert.specs.Questions.{Question}
-use Rattle.crn_ctext.specs.Questions.{heads, first_number}
-use Rattle.crn_ctext.specs.Course.{Course, Give, ◌>>=◌, due, find, test, ends, test_own}
-use Rattle.crn_ctext.specs.Courses.{IsSettled}
-use Rattle.crn_cert.specs.Tests.{Test as Claim}
-use Rattle.crn_vec.specs.Problems.{all_zero}
-use Rattle.crn_ctext.specs.Blocks.{Problem, Meaning, either, asks, asks_node, asks_all, claims, Node, Split, Flat, CutA, CutB, node_of, leaf, asks_leaf, goes_on, if_signed, asks_tree, asks_trees, sections, below, has_tree, AfterBlocks, asks_block, after_sections, asks_blocks, asks_table, lists_of, asks_lines, title, network_line, ended, IsNetworkOf, ReadOf, course}
+use Rattle.crn_ctext.proofs.Prelude.{◌≡◌, ◌⊎◌, ◌==◌, ◌≤◌, ◌+◌, ◌++◌, ℕ, zero, suc, Bool, true, false, List, [], ◌∷◌, length, map, refl, sym, ap, subst, ◌∙◌, inl, inr, arith, ℤ, replicate, codes, decimal, append_cancel_left, decimal_injective, IsIn, Net, IsNetwork, Sign, Zero, Plus, Minus, MAX_REACTIONS, canonical, Spells, spells_its_network, judged, no_fault, spelling_unique, Record, Form, node_forms, section_form, table_form, vector_form, end_form, Question, heads, first_number, Course, Give, ◌>>=◌, due, find, test, ends, test_own, IsSettled, Claim, all_zero, Problem, Meaning, either, asks, asks_node, asks_all, claims, Node, Split, Flat, CutA, CutB, node_of, leaf, asks_leaf, goes_on, if_signed, asks_tree, asks_trees, sections, below, has_tree, AfterBlocks, asks_block, after_sections, asks_blocks, asks_table, lists_of, asks_lines, title, network_line, ended, IsNetworkOf, ReadOf, course, BadHeader, BadLeaf, BadNetwork, Fault, NodeNotAllowed, TreeEndsEarly, WrongOrder, WrongShape}
 use Rattle.crn_ctext.proofs.Decided.{IsDecided, if_decided, nat_decided, bool_decided, bytes_decided, some_decided}
 use Rattle.crn_ctext.proofs.Courses.{settled_then, settled_with, GivesOnly, gives_only_then}
 use Rattle.crn_ctext.proofs.LinesRead.{HaveWords, reads_settled}
 use Rattle.crn_ctext.proofs.FormWords.{heads_have, below_have, nodes_have, sections_have, table_has, vectors_have, end_has}
-use Rattle.crn_cert.specs.Faults.{BadHeader, BadLeaf, BadNetwork, Fault, NodeNotAllowed, TreeEndsEarly, WrongOrder, WrongShape}
 
 -- ---- what is asked of the meaning
 

@@ -1,14 +1,5 @@
 -- What is written in the place of a record: the record, or for a cut leaf the number of its list in a table.
-use Rattle.std.proofs.Common.{◌≡◌, ◌⊎◌, ◌≤◌, ◌++◌, ◌∙◌, ℕ, zero, suc, Bool, true, false, cond, if◌then◌else◌, List, [], ◌∷◌, length, map, refl, sym, ap, ap₂, subst, inl, inr, arith}
-use Rattle.std.specs.Prelude.{ℤ, slice_index_or}
-use Rattle.std.specs.List.{AllByRecursion, AllZip, filter, list_any}
-use Rattle.std.specs.Str.{bytes_eq}
-use Rattle.std.proofs.lemmas.Bool.{cases_Bool}
-use Rattle.std.proofs.lemmas.Slice.Eq.{bytes_eq-Decides}
-use Rattle.crn_vec.specs.Lists.{IsIn}
-use Rattle.crn_vec.proofs.CallerLemmas.{any_true}
-use Rattle.crn_ctext.specs.Records.{Record, Says, record_text}
-use Rattle.crn_ctext.specs.Documents.{is_cut_leaf, cut_lists, IsNamed, IsShareable, leaf_written, first_leaf, later_leaves, written}
+use Rattle.crn_ctext.proofs.Prelude.{◌≡◌, ◌⊎◌, ◌≤◌, ◌++◌, ◌∙◌, ℕ, zero, suc, Bool, true, false, cond, if◌then◌else◌, List, [], ◌∷◌, length, map, refl, sym, ap, ap₂, subst, inl, inr, arith, ℤ, slice_index_or, AllByRecursion, AllZip, filter, list_any, bytes_eq, cases_Bool, bytes_eq-Decides, IsIn, any_true, Record, Says, record_text, is_cut_leaf, cut_lists, IsNamed, IsShareable, leaf_written, first_leaf, later_leaves, written}
 use Rattle.crn_ctext.proofs.Texts.{AreShort}
 
 -- the versions: the first has no shared lists

@@ -1,21 +1,5 @@
 -- What is written in the place of formed records determines them, and the leaves by which it is written.
-use Rattle.std.proofs.Common.{◌≡◌, ◌⊎◌, ◌++◌, ◌∙◌, ℕ, zero, suc, Bool, true, false, cond, if◌then◌else◌, List, [], ◌∷◌, map, refl, sym, ap, ap₂, subst, inl, inr, arith}
-use Rattle.std.specs.Prelude.{ℤ, pos, codes, slice_index, slice_index_or}
-use Rattle.std.specs.List.{AllByRecursion, AllZip, filter, list_any}
-use Rattle.std.specs.Str.{bytes_eq}
-use Rattle.std.proofs.lemmas.Bool.{cases_Bool}
-use Rattle.std.proofs.lemmas.Slice.Eq.{bytes_eq-Decides}
-use Rattle.std.proofs.lemmas.List.{append_cancel_left}
-use Rattle.crn_vec.specs.Lists.{IsIn}
-use Rattle.crn_vec.specs.declared.signs.Sign.{Sign}
-use Rattle.crn_vec.specs.declared.signs.Sign.TheVariants.{Zero, Plus, Minus}
-use Rattle.crn_vec.proofs.CallerLemmas.{all_in}
-use Rattle.crn_cert.specs.Questions.{Question}
-use Rattle.crn_ctext.specs.Records.{Record, Form, Fits, kind_of}
-use Rattle.crn_ctext.specs.Kinds.{known_words, record_form, free_form}
-use Rattle.crn_ctext.specs.Questions.{heads}
-use Rattle.crn_ctext.specs.Blocks.{Problem, Meaning, sections, below, word_of}
-use Rattle.crn_ctext.specs.Documents.{one_word, section, is_cut_leaf, cut_lists, naming_word, IsNamed, leaf_written, first_leaf, later_leaves, written, leaf_forms, IsOneOf, IsTree, AreTrees, AreFormed}
+use Rattle.crn_ctext.proofs.Prelude.{◌≡◌, ◌⊎◌, ◌++◌, ◌∙◌, ℕ, zero, suc, Bool, true, false, cond, if◌then◌else◌, List, [], ◌∷◌, map, refl, sym, ap, ap₂, subst, inl, inr, arith, ℤ, pos, codes, slice_index, slice_index_or, AllByRecursion, AllZip, filter, list_any, bytes_eq, cases_Bool, bytes_eq-Decides, append_cancel_left, IsIn, Sign, Zero, Plus, Minus, all_in, Question, Record, Form, Fits, kind_of, known_words, record_form, free_form, heads, Problem, Meaning, sections, below, word_of, one_word, section, is_cut_leaf, cut_lists, naming_word, IsNamed, leaf_written, first_leaf, later_leaves, written, leaf_forms, IsOneOf, IsTree, AreTrees, AreFormed}
 use Rattle.crn_ctext.proofs.FormKinds.{IsRowKind, HaveKinds, in_passes, heads_kinds, below_kinds, fits_no_cut}
 use Rattle.crn_ctext.proofs.Shared.{IsWrittenFor, named_at, shared_written}
 use Rattle.crn_ctext.proofs.BlocksWritten.{parted}

@@ -1,18 +1,5 @@
 -- The lines of a document of plain records are short, and no byte ends one.
-use Rattle.std.proofs.Common.{◌≡◌, ◌+◌, ◌*◌, ◌<◌, ◌≤◌, ◌==◌, ◌^◌, ◌++◌, ℕ, zero, suc, Bool, true, false, if◌then◌else◌, List, [], ◌∷◌, length, map, get_or, refl, ap, subst, inl, inr, arith}
-use Rattle.std.specs.Prelude.{ℤ, pos, negsuc, codes, decimal, nat_le}
-use Rattle.std.specs.List.{AllByRecursion, list_all, join_with_byte}
-use Rattle.std.specs.Fmt.{signed_decimal}
-use Rattle.std.proofs.lemmas.List.{length-append}
-use Rattle.std.proofs.lemmas.List.Elements.{All-nil}
-use Rattle.std.proofs.lemmas.Bool.{cases_Bool}
-use Rattle.std.proofs.lemmas.Bool.Decides.{nat_tests}
-use Rattle.std.proofs.lemmas.Fmt.{length-decimal-le_wide}
-use Rattle.crn_vec.specs.Network.{Net, IsNetwork, IsPartialNetwork, IsVector, JoinsTwo}
-use Rattle.crn_vec.proofs.CallerLemmas.{all_at, and_cases}
-use Rattle.crn_text.proofs.CallerLemmas.{side_text, held, good_terms, side_length, held_length}
-use Rattle.crn_io.specs.Lines.{IsLine}
-use Rattle.crn_ctext.specs.Records.{Record, record_text}
+use Rattle.crn_ctext.proofs.Prelude.{◌≡◌, ◌+◌, ◌*◌, ◌<◌, ◌≤◌, ◌==◌, ◌^◌, ◌++◌, ℕ, zero, suc, Bool, true, false, if◌then◌else◌, List, [], ◌∷◌, length, map, get_or, refl, ap, subst, inl, inr, arith, ℤ, pos, negsuc, codes, decimal, nat_le, AllByRecursion, list_all, join_with_byte, signed_decimal, length-append, All-nil, cases_Bool, nat_tests, length-decimal-le_wide, Net, IsNetwork, IsPartialNetwork, IsVector, JoinsTwo, all_at, and_cases, side_text, held, good_terms, side_length, held_length, IsLine, Record, record_text}
 use Rattle.crn_ctext.proofs.Digits.{is_digit, spells}
 use Rattle.crn_ctext.proofs.Written.{IsShortLine}
 use Rattle.crn_ctext.proofs.DocumentsWritten.{network_lines, text_lines}

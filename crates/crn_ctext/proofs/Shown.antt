@@ -1,9 +1,5 @@
 -- A proof without the spares of its lists, and its trees apart, since other records say them.
-use Rattle.std.proofs.Common.{◌≡◌, ◌∙◌, List, [], ◌∷◌, refl, sym, ap}
-use Rattle.crn_cert.specs.declared.answer.Proof.{Proof}
-use Rattle.crn_cert.specs.declared.answer.Proof.TheVariants.{Nothing, One, Two}
-use Rattle.crn_cert.specs.Trees.{Plan}
-use Rattle.crn_cert.specs.Verdicts.{tight_proof}
+use Rattle.crn_ctext.proofs.Prelude.{◌≡◌, ◌∙◌, List, [], ◌∷◌, refl, sym, ap, Proof, Nothing, One, Two, Plan, tight_proof}
 
 abbrev pub shown : Proof → Proof × List Plan
 shown (One tree) = (Nothing, tree ∷ [])

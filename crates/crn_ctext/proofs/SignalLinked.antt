@@ -1,34 +1,8 @@
 -- Answers on signals that have trees, one or two, and their records.
-use Rattle.std.proofs.Common.{◌≡◌, ◌⊎◌, ◌<◌, ◌+◌, ◌++◌, ◌∙◌, ℕ, Bool, true, false, List, [], ◌∷◌, length, refl, sym, ap, ap₂, subst, inl, inr, arith}
-use Rattle.std.specs.Prelude.{ℤ, pos, negsuc, Option, Some, None}
-use Rattle.std.specs.Option.{IsSomeAnd}
-use Rattle.std.proofs.lemmas.List.{append-nil}
-use Rattle.crn_vec.specs.Network.{Net}
-use Rattle.crn_vec.specs.NetSystems.{reaction_system}
-use Rattle.crn_vec.specs.Signals.{Shape, signals}
-use Rattle.crn_vec.specs.NetSignals.{IsShapeOf}
-use Rattle.crn_vec.specs.declared.signs.Sign.{Sign}
-use Rattle.crn_cert.specs.declared.answer.Gap.TheVariants.{Wide, Budget, Rests}
-use Rattle.crn_cert.specs.declared.answer.Verdict.{Verdict}
-use Rattle.crn_cert.specs.declared.answer.Verdict.TheVariants.{Yes, YesVec, YesSignal, No, NotApplicable, Unknown}
-use Rattle.crn_cert.specs.declared.answer.Proof.{Proof}
-use Rattle.crn_cert.specs.declared.answer.Proof.TheVariants.{Nothing, One, Two}
-use Rattle.crn_cert.specs.Questions.{Earlier, Q2, Q4, Q12, Q13, on, terminal_of, vector_given, IsYes}
-use Rattle.crn_cert.specs.Tests.{AllHold}
-use Rattle.crn_cert.specs.Trees.{Plan, node_count, IsFormedTree}
-use Rattle.crn_cert.specs.Nodes.{Said, Splits, Flats, CutsA, CutsB, Fits as FitsNode}
-use Rattle.crn_cert.specs.TreeTests.{tree_tests}
-use Rattle.crn_cert.specs.Says.{IsTrueOf, by_turn}
-use Rattle.crn_cert.specs.Formed.{IsFormedOf}
-use Rattle.crn_cert.specs.Parts.{IsSignalTree, AreSignalTrees}
-use Rattle.crn_cert.specs.Valid.{IsSignalNode, IsNodeOf, IsValid}
-use Rattle.crn_cert.proofs.CallerLemmas.{shape_count, hold_append, hold_parts, signal_trees_formed}
-use Rattle.crn_ctext.specs.Records.{Record}
-use Rattle.crn_ctext.specs.Blocks.{Problem}
-use Rattle.crn_ctext.specs.Documents.{IsTree, AreTrees, IsGoodLeaf}
+use Rattle.crn_ctext.proofs.Prelude.{◌≡◌, ◌⊎◌, ◌<◌, ◌+◌, ◌++◌, ◌∙◌, ℕ, Bool, true, false, List, [], ◌∷◌, length, refl, sym, ap, ap₂, subst, inl, inr, arith, ℤ, pos, negsuc, Option, Some, None, IsSomeAnd, append-nil, Net, reaction_system, Shape, signals, IsShapeOf, Sign, Wide, Budget, Verdict, Unknown, Proof, Nothing, One, Two, Earlier, Q2, Q4, Q12, Q13, on, terminal_of, vector_given, IsYes, AllHold, Plan, node_count, IsFormedTree, Said, Splits, Flats, CutsA, CutsB, FitsNode, tree_tests, IsTrueOf, by_turn, IsFormedOf, IsSignalTree, AreSignalTrees, IsSignalNode, IsNodeOf, IsValid, shape_count, hold_append, hold_parts, signal_trees_formed, Record, Problem, IsTree, AreTrees, IsGoodLeaf, proof_nodes, records, nodes, Known, is_yes, shapes_of, signal_problem, signal_problems, meaning}
+use Rattle.crn_cert.specs.declared.answer.Gap.TheVariants.{Rests}
+use Rattle.crn_cert.specs.declared.answer.Verdict.TheVariants.{Yes, YesVec, YesSignal, No, NotApplicable}
 use Rattle.crn_ctext.specs.Documents as documents
-use Rattle.crn_ctext.specs.Answers.{proof_nodes, records, nodes}
-use Rattle.crn_ctext.specs.Meaning.{Known, is_yes, shapes_of, signal_problem, signal_problems, meaning}
 use Rattle.crn_ctext.proofs.Shown.{shown}
 use Rattle.crn_ctext.proofs.KnownBefore.{IsStrong, pairs_known}
 use Rattle.crn_ctext.proofs.RecordsDerived.{bare}

@@ -1,26 +1,6 @@
 -- The tests of signals and of the nodes of their trees are decided in a network, whatever the records hold.
-use Rattle.std.proofs.Common.{◌≡◌, ◌<◌, ◌∙◌, ℕ, true, List, [], length, refl, sym, ap, subst, inl, inr}
-use Rattle.std.specs.Prelude.{ℤ, pos, negsuc, ◌-ℤ◌, Option, Some, None}
-use Rattle.std.specs.Option.{IsSomeAnd}
-use Rattle.crn_vec.specs.declared.signs.Sign.{Sign}
-use Rattle.crn_vec.specs.declared.signs.Sign.TheVariants.{Zero, Plus, Minus}
-use Rattle.crn_vec.specs.Network.{Net, IsNetwork}
-use Rattle.crn_vec.specs.Vectors.{dot, entry, HasSign}
-use Rattle.crn_vec.specs.Rank.{combination_at}
-use Rattle.crn_vec.specs.CutPairs.{IsOnSide, IsCutPair}
-use Rattle.crn_vec.specs.Sums.{SumsTo}
-use Rattle.crn_vec.specs.Deficiency.{vectors}
-use Rattle.crn_vec.specs.NetSystems.{reaction_system}
-use Rattle.crn_vec.specs.Problems.{Signed, opposite}
-use Rattle.crn_vec.specs.Concordance.{sign}
-use Rattle.crn_vec.specs.Signals.{Shape, shelf_at, shelf_of, HasPairSign, signals}
-use Rattle.crn_vec.specs.NetSignals.{top_at, AreTops, complex_of, IsSignalOver, IsSignalOf, IsShapeOf}
-use Rattle.crn_vec.proofs.CallerLemmas.{shapes_are_one, sums_one, some_is, none_some}
-use Rattle.crn_cert.specs.Questions.{Earlier, Q12, on, vector_given}
-use Rattle.crn_cert.specs.Says.{by_turn}
-use Rattle.crn_cert.specs.Nodes.{Said, Splits, Flats, CutsA, CutsB, Fits}
-use Rattle.crn_cert.specs.Valid.{IsSignalNode, OfVector, IsNodeOf}
-use Rattle.crn_cert.proofs.CallerLemmas.{side_sum, shape_with}
+use Rattle.crn_ctext.proofs.Prelude.{◌≡◌, ◌<◌, ◌∙◌, ℕ, true, List, [], length, refl, sym, ap, subst, inl, inr, ℤ, pos, negsuc, ◌-ℤ◌, Option, Some, None, IsSomeAnd, Sign, Zero, Plus, Minus, Net, IsNetwork, dot, entry, HasSign, combination_at, IsOnSide, IsCutPair, SumsTo, vectors, reaction_system, Signed, opposite, sign, Shape, shelf_at, shelf_of, HasPairSign, signals, top_at, AreTops, complex_of, IsSignalOver, IsSignalOf, IsShapeOf, shapes_are_one, sums_one, some_is, none_some, Earlier, Q12, on, vector_given, by_turn, Said, Splits, Flats, CutsA, CutsB, IsSignalNode, OfVector, IsNodeOf, side_sum, shape_with}
+use Rattle.crn_cert.specs.Nodes.{Fits}
 use Rattle.crn_ctext.proofs.Decided.{IsDecided, both_decided, moved, nat_decided, lt_decided, bool_decided, int_decided, int_le_decided}
 use Rattle.crn_ctext.proofs.TestsDecided.{each_below}
 use Rattle.crn_ctext.proofs.TablesDecided.{zip_decided, cut_decided}

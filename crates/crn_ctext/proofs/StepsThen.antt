@@ -1,13 +1,6 @@
 -- One step of a reader after another.
-use Rattle.std.proofs.Common.{◌≡◌, ◌≤◌, ◌+◌, ◌++◌, ℕ, List, [], ◌∷◌, length, Option, Some, None, refl, sym, ap, subst, ◌∙◌, append_assoc, arith}
-use Rattle.std.proofs.lemmas.List.{length-append}
-use Rattle.crn_io.specs.Pull.{Consumes}
-use Rattle.crn_io.proofs.CallerLemmas.{Consumes-then}
-use Rattle.crn_io.specs.Lines.{Place, IsLineAt, beginning}
-use Rattle.crn_ctext.specs.Course.{Course, Give, Line, Test, End, ◌>>=◌, Gives, FailsFirst}
-use Rattle.crn_io.specs.Next.{KeptLines, place}
-use Rattle.crn_io.specs.declared.lines.TheConstants.{MAX_AHEAD, MAX_DOCUMENT}
-use Rattle.crn_ctext.specs.Steps.{IsRest, StepGives, StepEnds, StepFails, StepAwaits, cut}
+use Rattle.crn_ctext.proofs.Prelude.{◌≡◌, ◌≤◌, ◌+◌, ◌++◌, ℕ, List, [], ◌∷◌, length, refl, sym, ap, subst, ◌∙◌, append_assoc, arith, length-append, Consumes, Consumes-then, Place, IsLineAt, beginning, Course, Give, Line, Test, End, ◌>>=◌, Gives, FailsFirst, KeptLines, place, MAX_AHEAD, MAX_DOCUMENT, IsRest, StepGives, StepEnds, StepFails, StepAwaits, cut}
+use Rattle.std.proofs.Common.{Option, Some, None}
 use Rattle.crn_ctext.proofs.Awaited.{awaits_before, awaits_then, awaits_after}
 use Rattle.crn_ctext.proofs.Courses.{gives_then, fails_before, fails_then}
 

@@ -1,17 +1,8 @@
 -- The tests of trees of influence tables, and of pairs that show a table discordant, are decided, whatever the records hold.
-use Rattle.std.proofs.Common.{◌≡◌, ◌≤◌, ◌<◌, ◌++◌, ◌∙◌, ℕ, zero, suc, true, List, [], ◌∷◌, length, drop, refl, sym, ap, inl, inr, arith}
-use Rattle.std.specs.Prelude.{ℤ, pos, negsuc, ◌≢◌, neg_ℤ}
-use Rattle.std.specs.List.{AllZip}
-use Rattle.std.proofs.lemmas.Bool.{cases_lt}
-use Rattle.std.proofs.lemmas.List.{length-append, drop_at}
-use Rattle.crn_vec.specs.Vectors.{Mat, entry, dot, column}
-use Rattle.crn_vec.specs.Elementary.{InDualSpace}
-use Rattle.crn_vec.specs.declared.signs.Sign.{Sign}
+use Rattle.crn_ctext.proofs.Prelude.{◌≡◌, ◌≤◌, ◌<◌, ◌++◌, ◌∙◌, ℕ, zero, suc, true, List, [], ◌∷◌, length, drop, refl, sym, ap, inl, inr, arith, ℤ, pos, negsuc, ◌≢◌, neg_ℤ, AllZip, cases_lt, length-append, drop_at, Mat, entry, dot, column, InDualSpace, Sign, Pos, Neg, NonNeg, MayWeigh, HasWeight, AreRuling, IsCut, is_signed, HasPositive, HasNegative, IsNought, GoesWith, IsDiscordant, shares, image, listed, length-listed, entry-listed, weights_decide_cuts, cut_long}
 use Rattle.crn_vec.specs.declared.signs.Kind.{Kind}
-use Rattle.crn_vec.specs.declared.signs.Kind.TheVariants.{Pos, Neg, NonNeg, Zero, Free}
-use Rattle.crn_vec.specs.Systems.{MayWeigh, HasWeight, AreRuling, IsCut, is_signed, kind_at}
-use Rattle.crn_vec.specs.Concordance.{HasPositive, HasNegative, IsNought, GoesWith, IsDiscordant, shares, image}
-use Rattle.crn_vec.proofs.CallerLemmas.{listed, length-listed, entry-listed, weights_decide_cuts, cut_long}
+use Rattle.crn_vec.specs.declared.signs.Kind.TheVariants.{Zero, Free}
+use Rattle.crn_vec.specs.Systems.{kind_at}
 use Rattle.crn_ctext.proofs.Decided.{IsDecided, both_decided, one_decided, not_decided, if_decided, moved, nat_decided, bool_decided, int_decided, int_le_decided, all_decided}
 use Rattle.crn_ctext.proofs.TestsDecided.{some_below}
 

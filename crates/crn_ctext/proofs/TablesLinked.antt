@@ -1,35 +1,9 @@
 -- Answers on concordance that have a tree, and their records.
-use Rattle.std.proofs.Common.{◌≡◌, ◌⊎◌, ◌<◌, ◌+◌, ◌++◌, ◌∙◌, ℕ, List, [], ◌∷◌, length, refl, sym, ap, subst, inl, inr, arith}
-use Rattle.std.specs.List.{AllZip, range_with_len}
-use Rattle.std.proofs.lemmas.List.{append-nil, length-map}
-use Rattle.std.proofs.lemmas.List.FromFn.{length-range_with_len}
-use Rattle.crn_vec.specs.Network.{Net}
-use Rattle.crn_vec.specs.Vectors.{column}
-use Rattle.crn_vec.specs.Deficiency.{vectors}
-use Rattle.crn_vec.specs.NetSystems.{reaction_system}
-use Rattle.crn_vec.specs.Problems.{Signed}
-use Rattle.crn_vec.specs.Influence.{plain_table, strong_table}
-use Rattle.crn_vec.specs.declared.signs.Sign.{Sign}
-use Rattle.crn_cert.specs.declared.answer.Gap.TheVariants.{Wide, Budget, Rests}
-use Rattle.crn_cert.specs.declared.answer.Verdict.{Verdict}
-use Rattle.crn_cert.specs.declared.answer.Verdict.TheVariants.{Yes, NoPair, Unknown}
-use Rattle.crn_cert.specs.declared.answer.Proof.{Proof}
-use Rattle.crn_cert.specs.declared.answer.Proof.TheVariants.{Nothing, One, Two}
-use Rattle.crn_cert.specs.Questions.{Earlier, Question, Q14, Q15}
-use Rattle.crn_cert.specs.Tests.{AllHold}
-use Rattle.crn_cert.specs.Trees.{Plan, Both, Three, RulesA, RulesB, Level, IsFormedTree}
-use Rattle.crn_cert.specs.Nodes.{Fits as FitsNode}
-use Rattle.crn_cert.specs.TreeTests.{tree_tests}
-use Rattle.crn_cert.specs.Table.{sizes_of, table_tree}
-use Rattle.crn_cert.specs.Blocks.{FitsTree, trees_of}
-use Rattle.crn_cert.specs.Formed.{IsFormedOf}
-use Rattle.crn_cert.specs.Valid.{IsValid}
-use Rattle.crn_ctext.specs.Records.{Record}
-use Rattle.crn_ctext.specs.Blocks.{Problem}
-use Rattle.crn_ctext.specs.Documents.{IsTree, AreTrees, IsGoodLeaf}
+use Rattle.crn_ctext.proofs.Prelude.{◌≡◌, ◌⊎◌, ◌<◌, ◌+◌, ◌++◌, ◌∙◌, ℕ, List, [], ◌∷◌, length, refl, sym, ap, subst, inl, inr, arith, AllZip, range_with_len, append-nil, length-map, length-range_with_len, Net, column, vectors, reaction_system, Signed, plain_table, strong_table, Sign, Wide, Budget, Verdict, Unknown, Proof, Nothing, One, Two, Earlier, Question, Q14, Q15, AllHold, Plan, Both, Three, RulesA, RulesB, Level, IsFormedTree, FitsNode, tree_tests, table_tree, FitsTree, trees_of, IsFormedOf, IsValid, Record, Problem, IsTree, AreTrees, IsGoodLeaf, proof_nodes, records, nodes, Known, shapes_of, problem_over, table_problem, meaning}
+use Rattle.crn_cert.specs.declared.answer.Gap.TheVariants.{Rests}
+use Rattle.crn_cert.specs.declared.answer.Verdict.TheVariants.{Yes, NoPair}
+use Rattle.crn_cert.specs.Table.{sizes_of}
 use Rattle.crn_ctext.specs.Documents as documents
-use Rattle.crn_ctext.specs.Answers.{proof_nodes, records, nodes}
-use Rattle.crn_ctext.specs.Meaning.{Known, shapes_of, problem_over, table_problem, meaning}
 use Rattle.crn_ctext.proofs.Shown.{shown}
 use Rattle.crn_ctext.proofs.RecordsDerived.{bare}
 use Rattle.crn_ctext.proofs.Joined.{parts, answer}

@@ -1,11 +1,7 @@
 -- The tests of the two deficiency theorems are decided, whatever the earlier verdicts say.
-use Rattle.std.proofs.Common.{◌≡◌, ◌≤◌, ◌-◌, ℕ, suc, Bool, true, List, inl, inr}
-use Rattle.std.specs.Prelude.{◌≢◌, ◌↔◌, IsTrue, Option, Some, None, sum, slice_index}
-use Rattle.crn_vec.specs.Deficiency.{AreAtMostOne}
-use Rattle.crn_cert.specs.declared.answer.Verdict.{Verdict}
+use Rattle.crn_ctext.proofs.Prelude.{◌≡◌, ◌≤◌, ◌-◌, ℕ, suc, Bool, true, List, inl, inr, ◌≢◌, IsTrue, Option, Some, None, sum, slice_index, AreAtMostOne, Verdict, Earlier, IsYes, linkage_count, terminals_in, HaveOneBefore, HaveOneEach, IsFirstSplit, WithDeficiencies, IsFirstLarge}
+use Rattle.std.specs.Prelude.{◌↔◌}
 use Rattle.crn_cert.specs.declared.answer.Verdict.TheVariants.{Yes, YesVec}
-use Rattle.crn_cert.specs.Questions.{Earlier, IsYes}
-use Rattle.crn_cert.specs.Valid.{linkage_count, terminals_in, HaveOneBefore, HaveOneEach, IsFirstSplit, WithDeficiencies, IsFirstLarge}
 use Rattle.crn_ctext.proofs.Decided.{IsDecided, both_decided, not_decided, if_decided, moved, nat_decided, le_decided, bool_decided, all_decided}
 use Rattle.crn_ctext.proofs.TestsDecided.{each_below}
 

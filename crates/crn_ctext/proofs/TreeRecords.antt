@@ -1,21 +1,5 @@
 -- Trees of a sign problem as records: those of a formed tree are formed, they are valid if and only if its leaves are true, and formed records are those of a formed tree.
-use Rattle.std.proofs.Common.{◌↔◌, ◌≡◌, ◌⊎◌, ◌<◌, ◌+◌, ◌++◌, ◌∙◌, ℕ, zero, suc, true, false, List, [], ◌∷◌, length, refl, sym, ap, ap₂, subst, inl, inr, arith, append_assoc}
-use Rattle.std.specs.Prelude.{ℤ, codes, slice_index, slice_index_or}
-use Rattle.std.proofs.lemmas.List.{append-nil, length-append}
-use Rattle.crn_vec.specs.declared.signs.Sign.{Sign}
-use Rattle.crn_vec.specs.declared.signs.Sign.TheVariants.{Zero, Plus, Minus}
-use Rattle.crn_vec.specs.Problems.{all_zero}
-use Rattle.crn_cert.specs.Ranges.{AreFree}
-use Rattle.crn_cert.specs.Trees.{Plan, Both, Three, RulesA, RulesB, Level, node_count, IsFormedTree}
-use Rattle.crn_cert.specs.Nodes.{Said, Splits, Flats, CutsA, CutsB}
-use Rattle.crn_cert.specs.Tests.{AllHold}
-use Rattle.crn_cert.specs.TreeTests.{tree_tests}
-use Rattle.crn_cert.proofs.CallerLemmas.{hold_append, hold_parts}
-use Rattle.crn_ctext.specs.Records.{Record, Form, Fits}
-use Rattle.crn_ctext.specs.Kinds.{record_form, free_form}
-use Rattle.crn_ctext.specs.Blocks.{Problem, word_of}
-use Rattle.crn_ctext.specs.Documents.{one_word, leaf_forms, IsOneOf, IsTree, IsGoodLeaf}
-use Rattle.crn_ctext.specs.Answers.{nodes}
+use Rattle.crn_ctext.proofs.Prelude.{◌↔◌, ◌≡◌, ◌⊎◌, ◌<◌, ◌+◌, ◌++◌, ◌∙◌, ℕ, zero, suc, true, false, List, [], ◌∷◌, length, refl, sym, ap, ap₂, subst, inl, inr, arith, append_assoc, ℤ, codes, slice_index, slice_index_or, append-nil, length-append, Sign, Zero, Plus, Minus, all_zero, AreFree, Plan, Both, Three, RulesA, RulesB, Level, node_count, IsFormedTree, Said, Splits, Flats, CutsA, CutsB, AllHold, tree_tests, hold_append, hold_parts, Record, Form, Fits, record_form, free_form, Problem, word_of, one_word, leaf_forms, IsOneOf, IsTree, IsGoodLeaf, nodes}
 use Rattle.crn_ctext.proofs.RanksLinked.{free_fits, free_row, record_is}
 use Rattle.crn_ctext.proofs.AnswersApart.{tree_apart, leaf_no_split, first_same}
 use Rattle.crn_ctext.proofs.TreesRead.{valid_tree_is_formed}

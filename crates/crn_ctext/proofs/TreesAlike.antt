@@ -1,19 +1,8 @@
 -- Two sign problems whose leaves have tests that hold together have trees that give the same and fail first in the same place.
-use Rattle.std.proofs.Common.{◌≡◌, ◌⊎◌, ◌+◌, ◌++◌, ℕ, zero, suc, Bool, true, false, List, [], ◌∷◌, length, refl, inl, inr}
-use Rattle.std.specs.Prelude.{◌↔◌, ℤ, Option}
-use Rattle.crn_io.specs.Lines.{Place}
-use Rattle.crn_io.specs.Next.{KeptLines, place}
-use Rattle.crn_vec.specs.declared.signs.Sign.{Sign}
-use Rattle.crn_vec.specs.declared.signs.Sign.TheVariants.{Zero, Plus, Minus}
-use Rattle.crn_cert.specs.Nodes.{Said, Flats, CutsA, CutsB}
-use Rattle.crn_ctext.specs.Course.{Course, Give, Line, Test, End, ◌>>=◌, ◌>>◌, test, Gives, FailsFirst}
-use Rattle.crn_ctext.specs.Steps.{Awaits, StepGives, StepFails, StepAwaits, cut}
-use Rattle.crn_vec.specs.Problems.{all_zero}
-use Rattle.crn_ctext.specs.Blocks.{Node, Split, Flat, CutA, CutB, leaf, asks_leaf, goes_on, if_signed, either, asks_tree}
-use Rattle.crn_ctext.specs.Meaning.{problem_with}
+use Rattle.crn_ctext.proofs.Prelude.{◌≡◌, ◌⊎◌, ◌+◌, ◌++◌, ℕ, zero, suc, Bool, true, false, List, [], ◌∷◌, length, refl, inl, inr, ℤ, Option, Place, KeptLines, place, Sign, Zero, Plus, Minus, Said, Flats, CutsA, CutsB, Course, Give, Line, Test, End, ◌>>=◌, ◌>>◌, test, Gives, FailsFirst, Awaits, StepGives, StepFails, StepAwaits, cut, all_zero, Node, Split, Flat, CutA, CutB, leaf, asks_leaf, goes_on, if_signed, either, asks_tree, problem_with, BadLeaf, Fault, NodeNotAllowed, WrongShape}
+use Rattle.std.specs.Prelude.{◌↔◌}
 use Rattle.crn_ctext.proofs.Awaited.{awaits_before, awaits_parts, awaits_then}
 use Rattle.crn_ctext.proofs.Courses.{gives_then, fails_before, fails_then}
-use Rattle.crn_cert.specs.Faults.{BadLeaf, Fault, NodeNotAllowed, WrongShape}
 
 -- what the first gives the second gives, it fails first where the first does, and awaits what the first does
 pub record IsLike {A : Type 0} (c d : Course A) : Type 0 where

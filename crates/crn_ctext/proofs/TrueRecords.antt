@@ -1,20 +1,8 @@
 -- What valid records of the built questions say is true.
-use Rattle.std.proofs.Common.{List, [], ◌∷◌, refl, sym, subst, inl, inr}
-use Rattle.crn_vec.specs.Network.{Net, IsNetwork}
-use Rattle.crn_cert.specs.declared.answer.Verdict.{Verdict}
-use Rattle.crn_cert.specs.declared.answer.Answer.{Answer}
-use Rattle.crn_cert.specs.Questions.{Question, Q1, Q2, Q3, Q4, Q5, Q6, Q7, Q8, Q9, Q10, Q11, Q12}
+use Rattle.crn_ctext.proofs.Prelude.{List, [], ◌∷◌, refl, sym, subst, inl, inr, Net, IsNetwork, Verdict, Answer, Question, Q1, Q2, Q3, Q4, Q5, Q6, Q7, Q8, Q9, Q10, Q11, Q12, AllTrueOrOpen, AreBuilt, IsIn, valid_documents_are_true, Record, meaning, verdicts_said, built, verdicts_of, AreSound}
 use Rattle.crn_cert.specs.Formed.{AreFormed}
 use Rattle.crn_cert.specs.Valid.{AreValid}
-use Rattle.crn_cert.specs.Law.{AllTrueOrOpen, AreBuilt}
-use Rattle.crn_vec.specs.Lists.{IsIn}
-use Rattle.crn_cert.proofs.CallerLemmas.{valid_documents_are_true}
-use Rattle.crn_ctext.specs.Records.{Record}
 use Rattle.crn_ctext.specs.Documents as documents
-use Rattle.crn_ctext.specs.Meaning.{meaning, verdicts_said}
-use Rattle.crn_cert.specs.Built.{built}
-use Rattle.crn_cert.specs.Answers.{verdicts_of}
-use Rattle.crn_ctext.specs.Linked.{AreSound}
 use Rattle.crn_ctext.proofs.ShortAnswers.{valid_are_formed}
 use Rattle.crn_ctext.proofs.AnswersLinked.{records_valid}
 use Rattle.crn_ctext.proofs.RecordsLinked.{records_answered}

@@ -1,22 +1,8 @@
 -- The records of answers, block by block: which of them are no cut leaves, and how they are written one after another.
-use Rattle.std.proofs.Common.{Some, slice_get, take_all, ◌≡◌, ℕ, zero, suc, ◌+◌, ◌-◌, ◌<◌, ℤ, Bool, true, false, List, [], ◌∷◌, ◌++◌, length, map, take, get_or, codes, refl, sym, ap, ◌∙◌, append_assoc, add-one, arith}
-use Rattle.std.specs.List.{AllByRecursion, flat_map}
-use Rattle.std.proofs.lemmas.List.{append-nil}
-use Rattle.crn_cert.specs.Questions.{Question, Q1, Q2, Q3, Q4, Q5, Q6, Q7, Q8, Q9, Q10, Q11, Q12, Q13, Q14, Q15, number}
-use Rattle.crn_cert.specs.Built.{built}
-use Rattle.crn_cert.proofs.CallerLemmas.{numbered}
-use Rattle.crn_cert.specs.declared.answer.Verdict.{Verdict}
-use Rattle.crn_cert.specs.declared.answer.Verdict.TheVariants.{Classes, Strong, Rank, Deficiency, Yes, YesWeak, YesVec, YesSignal, No, NoReaction, NoVec, NoNumber, NoTerminal, NoClass, NoSum, NoDependence, NoCycle, NoPair, NotRegular, OnlyZero, Plane, NotApplicable, Unknown}
-use Rattle.crn_cert.specs.declared.answer.RankProof.{RankProof}
-use Rattle.crn_cert.specs.declared.answer.Proof.{Proof}
+use Rattle.crn_ctext.proofs.Prelude.{slice_get, take_all, ◌≡◌, ℕ, zero, suc, ◌+◌, ◌-◌, ◌<◌, Bool, true, false, List, [], ◌∷◌, ◌++◌, length, map, take, get_or, refl, sym, ap, ◌∙◌, append_assoc, add-one, arith, AllByRecursion, flat_map, append-nil, Question, Q1, Q2, Q3, Q4, Q5, Q6, Q7, Q8, Q9, Q10, Q11, Q12, Q13, Q14, Q15, number, built, numbered, Verdict, Unknown, RankProof, Proof, Answer, Record, Shapes, head_of, head_with, verdict_records, later_records, rank_records, side_records, proof_records, proof_nodes, records_below, records, small_record, record_lines, written, one_word, shapes_with, leaves_after, headings, block, blocks, question_at, head_words, head_numbers, before_one}
+use Rattle.std.proofs.Common.{Some, ℤ, codes}
+use Rattle.crn_cert.specs.declared.answer.Verdict.TheVariants.{Classes, Strong, Rank, Deficiency, Yes, YesWeak, YesVec, YesSignal, No, NoReaction, NoVec, NoNumber, NoTerminal, NoClass, NoSum, NoDependence, NoCycle, NoPair, NotRegular, OnlyZero, Plane, NotApplicable}
 use Rattle.crn_cert.specs.declared.answer.Proof.TheVariants as proof
-use Rattle.crn_cert.specs.declared.answer.Answer.{Answer}
-use Rattle.crn_ctext.specs.Records.{Record}
-use Rattle.crn_ctext.specs.Questions.{Shapes}
-use Rattle.crn_ctext.specs.Answers.{head_of, head_with, verdict_records, later_records, rank_records, side_records, proof_records, proof_nodes, records_below, records, small_record}
-use Rattle.crn_ctext.specs.Documents.{record_lines, written, one_word}
-use Rattle.crn_ctext.specs.Inner.Written.{shapes_with, leaves_after, headings, block, blocks, question_at, head_words, head_numbers}
-use Rattle.crn_vec.proofs.CallerLemmas.{before_one}
 use Rattle.crn_ctext.proofs.WrittenLines.{head_is, lines_append, element_at}
 use Rattle.crn_ctext.proofs.WrittenLeaves.{IsPlain, leaves_append, written_lines, plain_written, plain_leaves}
 

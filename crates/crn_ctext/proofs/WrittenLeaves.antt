@@ -1,12 +1,6 @@
 -- Records with the numbers of their cut leaves, as they are written one after another.
-use Rattle.std.proofs.Common.{◌≡◌, ℕ, zero, suc, ◌==◌, ℤ, pos, Bool, true, false, if◌then◌else◌, List, [], ◌∷◌, ◌++◌, codes, refl, sym, ap, ◌∙◌}
-use Rattle.std.specs.Prelude.{decimal}
-use Rattle.std.specs.List.{AllByRecursion}
-use Rattle.std.proofs.Math.Dec.{eqb-suc-zero}
-use Rattle.std.proofs.lemmas.List.{append-nil}
-use Rattle.crn_ctext.specs.Records.{Record, line}
-use Rattle.crn_ctext.specs.Documents.{record_lines, one_word, is_cut_leaf, leaf_written, first_leaf, later_leaves, written, naming_word}
-use Rattle.crn_ctext.specs.Inner.Written.{leaves_after}
+use Rattle.crn_ctext.proofs.Prelude.{◌≡◌, ℕ, zero, suc, ◌==◌, Bool, true, false, if◌then◌else◌, List, [], ◌∷◌, ◌++◌, refl, sym, ap, ◌∙◌, decimal, AllByRecursion, eqb-suc-zero, append-nil, Record, line, record_lines, one_word, is_cut_leaf, leaf_written, first_leaf, later_leaves, written, naming_word, leaves_after}
+use Rattle.std.proofs.Common.{ℤ, pos, codes}
 use Rattle.crn_ctext.proofs.WrittenLines.{line_of_word, lines_append}
 
 written_by : (b : Bool) (x r : Record) (ts ts' es es' : List Record) (lt le : List ℕ) (ys : List Record) → ts' ≡ ts ++ written lt ys → es' ≡ es ++ written le ys

@@ -1,24 +1,8 @@
 -- The lines of records, as they are written: words, then numbers.
-use Rattle.std.proofs.Common.{◌≡◌, ℕ, zero, suc, Some, slice_get, add-one, ◌+◌, ◌<◌, ◌≤◌, ℤ, pos, List, [], ◌∷◌, ◌++◌, length, map, take, drop, get_or, codes, decimal, refl, sym, ap, ◌∙◌, append_assoc, arith, ap₂}
-use Rattle.std.specs.List.{flat_map, join_with_byte}
-use Rattle.std.specs.Fmt.{signed_decimal, digits}
-use Rattle.std.proofs.lemmas.List.{append-nil}
-use Rattle.std.proofs.lemmas.List.Concat.{flat_map-append}
-use Rattle.crn_io.specs.Device.{SinkSeen}
-use Rattle.crn_io.specs.Write.{WroteAll}
-use Rattle.crn_io.proofs.CallerLemmas.{WroteAll-none, flat_map_step, flat_map_whole}
-use Rattle.crn_vec.specs.Network.{Net}
-use Rattle.crn_text.specs.Canonical.{canonical}
-use Rattle.crn_cert.specs.Questions.{Question}
-use Rattle.crn_cert.specs.declared.answer.Gap.TheVariants.{Wide, Budget, Rests}
-use Rattle.crn_cert.specs.declared.answer.Verdict.{Verdict}
-use Rattle.crn_cert.specs.declared.answer.Verdict.TheVariants.{Classes, Strong, Rank, Deficiency, Yes, YesWeak, YesVec, YesSignal, No, NoReaction, NoVec, NoNumber, NoTerminal, NoClass, NoSum, NoDependence, NoCycle, NoPair, NotRegular, OnlyZero, Plane, NotApplicable, Unknown}
-use Rattle.crn_cert.specs.declared.answer.RankProof.{RankProof}
-use Rattle.crn_ctext.specs.Records.{Record, record_text, number_text, numbers_text, line}
-use Rattle.crn_ctext.specs.Answers.{head_of, head_with, head_word, small_record, rank_records, side_records}
-use Rattle.crn_ctext.specs.Documents.{record_lines, one_word, opening, table_records}
-use Rattle.crn_ctext.specs.Parts.{part_head}
-use Rattle.crn_ctext.specs.Inner.Written.{words_text, question_at, head_words, head_numbers, pair_at}
+use Rattle.crn_ctext.proofs.Prelude.{◌≡◌, ℕ, zero, suc, slice_get, add-one, ◌+◌, ◌<◌, ◌≤◌, List, [], ◌∷◌, ◌++◌, length, map, take, drop, get_or, refl, sym, ap, ◌∙◌, append_assoc, arith, ap₂, flat_map, join_with_byte, signed_decimal, digits, append-nil, flat_map-append, SinkSeen, WroteAll, WroteAll-none, flat_map_step, flat_map_whole, Net, canonical, Question, Wide, Budget, Verdict, Unknown, RankProof, Record, record_text, number_text, numbers_text, line, head_of, head_with, head_word, small_record, rank_records, side_records, record_lines, one_word, opening, table_records, part_head, words_text, question_at, head_words, head_numbers, pair_at}
+use Rattle.std.proofs.Common.{Some, ℤ, pos, codes, decimal}
+use Rattle.crn_cert.specs.declared.answer.Gap.TheVariants.{Rests}
+use Rattle.crn_cert.specs.declared.answer.Verdict.TheVariants.{Classes, Strong, Rank, Deficiency, Yes, YesWeak, YesVec, YesSignal, No, NoReaction, NoVec, NoNumber, NoTerminal, NoClass, NoSum, NoDependence, NoCycle, NoPair, NotRegular, OnlyZero, Plane, NotApplicable}
 
 pieces : (a v n b d t : List ℕ) → (((a ++ v) ++ n) ++ (((b ++ d) ++ n) ++ [])) ++ t ≡ ((((a ++ v) ++ (n ++ b)) ++ d) ++ n) ++ t
 pieces a v n b d t = simp (append_assoc, append-nil)

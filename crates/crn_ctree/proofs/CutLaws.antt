@@ -1,27 +1,5 @@
 -- The weights of multipliers at the coordinates of a part, and when they rule the part of a prefix out.
-use Rattle.std.proofs.Common.{◌≡◌, ◌≢◌, ℕ, ◌+◌, ◌-◌, ◌<◌, ◌≤◌, inl, inr, List, ◌++◌, length, map, get_or, drop, replicate, true, refl, sym, ap, subst, ◌∙◌, arith}
-use Rattle.std.specs.Prelude.{ℤ, pos, neg_ℤ, ◌↔◌}
-use Rattle.std.specs.List.{range_with_len}
-use Rattle.std.proofs.lemmas.List.{get_or_append_left, get_or-append_right, length-map, length-append, length-replicate}
-use Rattle.std.proofs.lemmas.List.FromFn.{get_or-map-range_with_len, length-range_with_len}
-use Rattle.crn_vec.specs.declared.signs.Sign.{Sign}
-use Rattle.crn_vec.specs.declared.signs.Kind.{Kind}
-use Rattle.crn_vec.specs.declared.signs.Kind.TheVariants.{Free, Zero as ZeroKind}
-use Rattle.crn_vec.specs.Network.{Net, IsNetwork, reaction_vector}
-use Rattle.crn_vec.specs.NetSystems.{reaction_system}
-use Rattle.crn_vec.specs.Vectors.{Mat, dot, entry, column}
-use Rattle.crn_vec.specs.Elementary.{InDualSpace, width}
-use Rattle.crn_vec.specs.Systems.{AreRuling, IsCut, MayWeigh, is_signed, kind_at}
-use Rattle.crn_vec.specs.Concordance.{column_kind, row_kinds, kinds_a_of, kinds_b_of}
-use Rattle.crn_vec.proofs.CallerLemmas.{zip_from, kinds_at, weights_decide_cuts, networks_have_tables, lt_or, past_end, rows_count, length-rows, drop_seam}
-use Rattle.crn_cert.specs.Ranges.{AreFree}
-use Rattle.crn_ctree.specs.Problem.{problem_of, table_of}
-use Rattle.crn_ctree.specs.declared.problem.InfluenceTable.{InfluenceTable}
-use Rattle.crn_ctree.specs.declared.problem.Problem.{Problem}
-use Rattle.crn_ctree.specs.declared.problem.Problem.TheVariants.{Concordance, Signals}
-use Rattle.crn_ctree.specs.declared.cut.Part.{Part}
-use Rattle.crn_ctree.specs.declared.cut.Part.TheVariants.{A, B}
-use Rattle.crn_ctree.specs.Inner.Kinds.{kinds_of, matrix_of, weights_of}
+use Rattle.crn_ctree.proofs.Prelude.{◌≡◌, ◌≢◌, ℕ, ◌+◌, ◌-◌, ◌<◌, ◌≤◌, inl, inr, List, ◌++◌, length, map, get_or, drop, replicate, true, refl, sym, ap, subst, ◌∙◌, arith, ℤ, pos, neg_ℤ, ◌↔◌, range_with_len, get_or_append_left, get_or-append_right, length-map, length-append, length-replicate, get_or-map-range_with_len, length-range_with_len, Sign, Kind, Free, ZeroKind, Net, IsNetwork, reaction_vector, reaction_system, Mat, dot, entry, column, InDualSpace, width, AreRuling, IsCut, MayWeigh, is_signed, kind_at, column_kind, row_kinds, kinds_a_of, kinds_b_of, zip_from, kinds_at, weights_decide_cuts, networks_have_tables, lt_or, past_end, rows_count, length-rows, drop_seam, AreFree, problem_of, table_of, InfluenceTable, Problem, Concordance, Signals, Part, A, B, kinds_of, matrix_of, weights_of}
 use Rattle.crn_ctree.proofs.KindLaws.{part_b_is, table_long}
 
 -- ---- the weights

@@ -1,18 +1,6 @@
 -- The first node of a formed tree that does not fit is the first of the tree's tests that fails.
-use Rattle.std.proofs.Common.{◌≡◌, ℕ, ◌+◌, ◌⊎◌, inl, inr, List, [], ◌∷◌, ◌++◌, length, refl, sym, ap, subst, ◌∙◌, arith}
-use Rattle.std.proofs.lemmas.List.{append_assoc, append-nil}
-use Rattle.crn_vec.specs.declared.signs.Sign.{Sign}
-use Rattle.crn_vec.specs.declared.signs.Sign.TheVariants.{Zero, Plus, Minus}
-use Rattle.crn_vec.specs.Problems.{Signed}
-use Rattle.crn_cert.specs.Trees.{Plan, Both, Three, RulesA, RulesB, Level, IsFormedTree, node_count}
-use Rattle.crn_cert.specs.Nodes.{Said, Splits, Flats, CutsA, CutsB, nodes, Fits, rest_after, Passing, done, then}
-use Rattle.crn_cert.specs.Tests.{Test, test, AllHold, FailsFirst}
-use Rattle.crn_cert.specs.TreeTests.{tree_tests}
-use Rattle.crn_cert.proofs.CallerLemmas.{hold_append}
-use Rattle.crn_ctree.specs.Due.{first}
-use Rattle.crn_ctree.specs.Laws.{code_at, FirstFaultsAreThoseOfTests}
+use Rattle.crn_ctree.proofs.Prelude.{◌≡◌, ℕ, ◌+◌, ◌⊎◌, inl, inr, List, [], ◌∷◌, ◌++◌, length, refl, sym, ap, subst, ◌∙◌, arith, append_assoc, append-nil, Sign, Zero, Plus, Minus, Signed, Plan, Both, Three, RulesA, RulesB, Level, IsFormedTree, node_count, Said, Splits, Flats, CutsA, CutsB, nodes, Fits, rest_after, Passing, done, then, Test, test, AllHold, FailsFirst, tree_tests, hold_append, first, code_at, FirstFaultsAreThoseOfTests, Fault, BadLeaf, NodeNotAllowed, fault_number}
 use Rattle.crn_ctree.proofs.NodeLaws.{children_zero, children_some}
-use Rattle.crn_cert.specs.Faults.{Fault, BadLeaf, NodeNotAllowed, fault_number}
 
 -- ---- lists of tests
 

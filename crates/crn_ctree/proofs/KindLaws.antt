@@ -1,24 +1,6 @@
 -- The kinds of the coordinates of a part at a prefix.
-use Rattle.std.proofs.Common.{◌≡◌, ℕ, zero, suc, ◌-◌, ◌<◌, ◌≤◌, List, [], ◌∷◌, length, map, get_or, take, drop, Bool, true, false, cond, refl, sym, ap, ap₂, ◌∙◌, arith}
-use Rattle.std.specs.Prelude.{ℤ, pos, negsuc, neg_ℤ, ◌-ℤ◌, ◌||◌}
-use Rattle.std.proofs.lemmas.Int.{ints}
-use Rattle.std.proofs.lemmas.List.{take_all, get_or-map, length-map}
-use Rattle.crn_vec.specs.declared.signs.Sign.{Sign}
-use Rattle.crn_vec.specs.declared.signs.Sign.TheVariants.{Zero, Plus, Minus}
-use Rattle.crn_vec.specs.declared.signs.Kind.{Kind}
-use Rattle.crn_vec.specs.declared.signs.Kind.TheVariants.{Free}
-use Rattle.crn_vec.specs.Network.{Net, minus, sides_of, reaction_vector}
-use Rattle.crn_vec.specs.Problems.{opposite, all_zero}
-use Rattle.crn_vec.specs.Concordance.{sign, product, products, is_plus, is_minus, some_sign, kind_of_sum, column_kind}
-use Rattle.crn_vec.specs.Influence.{strong_table}
-use Rattle.crn_vec.proofs.CallerLemmas.{plus-opposite, minus-opposite, sum-opposite, cond-opposite, products_none}
-use Rattle.crn_vec.specs.NetSystems.{reaction_system}
-use Rattle.crn_ctree.specs.Problem.{problem_of, table_of}
-use Rattle.crn_ctree.specs.declared.problem.Problem.{Problem}
-use Rattle.crn_ctree.specs.declared.problem.Problem.TheVariants.{Concordance, Signals}
-use Rattle.crn_ctree.specs.declared.problem.InfluenceTable.{InfluenceTable}
-use Rattle.crn_ctree.specs.declared.problem.InfluenceTable.TheVariants.{Plain, Strong}
-use Rattle.crn_ctree.specs.Inner.Kinds.{column_from, opposite_kind}
+use Rattle.crn_ctree.proofs.Prelude.{◌≡◌, ℕ, zero, suc, ◌-◌, ◌<◌, ◌≤◌, List, [], ◌∷◌, length, map, get_or, take, drop, Bool, true, false, cond, refl, sym, ap, ap₂, ◌∙◌, arith, ℤ, pos, negsuc, neg_ℤ, ◌-ℤ◌, ◌||◌, ints, get_or-map, length-map, Sign, Zero, Plus, Minus, Kind, Free, Net, minus, sides_of, reaction_vector, opposite, all_zero, sign, product, products, is_plus, is_minus, some_sign, kind_of_sum, column_kind, strong_table, plus-opposite, minus-opposite, sum-opposite, cond-opposite, products_none, reaction_system, problem_of, table_of, Problem, Concordance, Signals, InfluenceTable, Plain, Strong, column_from, opposite_kind}
+use Rattle.std.proofs.lemmas.List.{take_all}
 
 -- ---- the column of a reaction, species by species
 

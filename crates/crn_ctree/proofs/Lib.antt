@@ -10,3 +10,4 @@ mod FirstFails
 mod SignalTrees
 mod SignalLaws
 mod SpotLaws
+mod Prelude

@@ -1,11 +1,5 @@
 -- The nodes that leave nothing due are just those of a valid tree.
-use Rattle.std.proofs.Common.{◌≡◌, ℕ, zero, suc, ◌<◌, List, [], ◌∷◌, ◌++◌, length, map, Bool, true, false, refl, sym, ap, subst, ◌∙◌, arith}
-use Rattle.std.proofs.lemmas.List.{append_assoc, append-nil}
-use Rattle.crn_vec.specs.declared.signs.Sign.{Sign}
-use Rattle.crn_vec.specs.declared.signs.Sign.TheVariants.{Zero, Plus, Minus}
-use Rattle.crn_vec.specs.Problems.{Signed, children, all_zero, options_below}
-use Rattle.crn_cert.specs.Trees.{Plan, Both, Three, RulesA, RulesB, Level, IsValid}
-use Rattle.crn_cert.specs.Nodes.{Said, Splits, Flats, CutsA, CutsB, nodes, Passing, done, then, AreThoseOfTrees}
+use Rattle.crn_ctree.proofs.Prelude.{◌≡◌, ℕ, zero, suc, ◌<◌, List, [], ◌∷◌, ◌++◌, length, map, Bool, true, false, refl, sym, ap, subst, ◌∙◌, arith, append_assoc, append-nil, Sign, Zero, Plus, Minus, Signed, children, all_zero, options_below, Plan, Both, Three, RulesA, RulesB, Level, IsValid, Said, Splits, Flats, CutsA, CutsB, nodes, Passing, done, then, AreThoseOfTrees}
 
 pub passing_then : (w : Signed) (due mid last : List (List Sign)) (xs ys : List Said) → Passing w due xs mid → Passing w mid ys last → Passing w due (xs ++ ys) last
 passing_then w due mid last xs ys done h = h

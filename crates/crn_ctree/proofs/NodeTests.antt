@@ -1,31 +1,7 @@
 -- The numbers of a cut, closed prefixes of tables, and shared vectors.
-use Rattle.std.proofs.Common.{◌≡◌, ◌+◌, Bool, true, List, length, map, sym, subst, ◌∙◌, arith}
-use Rattle.std.proofs.lemmas.Bool.{eq-eqb, eqb-true}
-use Rattle.std.specs.Prelude.{ℤ, IsTrue, ◌==◌, ◌&&◌, ◌↔◌}
-use Rattle.crn_vec.specs.declared.signs.Sign.{Sign}
-use Rattle.crn_vec.specs.Network.{Net}
-use Rattle.crn_vec.specs.Problems.{all_zero}
-use Rattle.crn_vec.proofs.CallerLemmas.{and_cases, and_true, rows_count}
-use Rattle.crn_cert.specs.Ranges.{AreFree}
-use Rattle.crn_cert.specs.Nodes.{AreNumbersFor, Fits, Said, CutsA, CutsB}
-use Rattle.std.specs.Prelude.{Result, Ok, Err}
-use Rattle.crn_ctree.specs.Gives.{said_by, HasShape, NodeGives, SharedGives}
-use Rattle.crn_ctree.specs.Shared.{IsShared, said_with}
-use Rattle.crn_ctree.specs.declared.shared.SharedCut.{SharedCut}
+use Rattle.crn_ctree.proofs.Prelude.{◌≡◌, ◌+◌, Bool, true, List, length, map, sym, subst, ◌∙◌, arith, eq-eqb, eqb-true, ℤ, IsTrue, ◌==◌, ◌&&◌, ◌↔◌, Sign, Net, all_zero, and_cases, and_true, rows_count, AreFree, AreNumbersFor, Fits, Said, CutsA, CutsB, Result, Ok, Err, said_by, HasShape, NodeGives, SharedGives, IsShared, said_with, SharedCut, Node, Step, TreeFault, TreeEndsEarly, WrongShape, Signed, problem_of, InfluenceTable, Problem, Concordance, Signals, matrix_of, part_of, reaction_system, Shape, complex_row, pair_row, shelf_matrix, signals, length-append, length-map}
 use Rattle.crn_ctree.specs.declared.shared.SharedCut.TheVariants.{A, B}
-use Rattle.crn_ctree.specs.declared.node.Node.{Node}
-use Rattle.crn_ctree.specs.declared.node.Step.{Step}
-use Rattle.crn_ctree.specs.declared.fault.TreeFault.{TreeFault}
-use Rattle.crn_ctree.specs.declared.fault.TreeFault.TheVariants.{BadLeaf, NodeNotAllowed, TreeEndsEarly, WrongShape}
-use Rattle.crn_vec.specs.Problems.{Signed}
-use Rattle.crn_ctree.specs.Problem.{problem_of}
-use Rattle.crn_ctree.specs.declared.problem.InfluenceTable.{InfluenceTable}
-use Rattle.crn_ctree.specs.declared.problem.Problem.{Problem}
-use Rattle.crn_ctree.specs.declared.problem.Problem.TheVariants.{Concordance, Signals}
-use Rattle.crn_ctree.specs.Inner.Kinds.{matrix_of, part_of}
-use Rattle.crn_vec.specs.NetSystems.{reaction_system}
-use Rattle.crn_vec.specs.Signals.{Shape, complex_row, pair_row, shelf_matrix, signals}
-use Rattle.std.proofs.lemmas.List.{length-append, length-map}
+use Rattle.crn_ctree.specs.declared.fault.TreeFault.TheVariants.{BadLeaf, NodeNotAllowed}
 
 -- multipliers of a cut are as many numbers of a certificate as its part has rows: of a table
 pub free_a : (net : Net) (table : InfluenceTable) (u : List ℤ) → AreFree (length net.names) u → AreNumbersFor (problem_of net (Concordance table)) (CutsA u)

@@ -1,25 +1,5 @@
 -- When two lists show a table discordant, by the signs of the sums.
-use Rattle.std.proofs.Common.{◌≡◌, ℕ, zero, suc, ◌<◌, ◌⊎◌, inl, inr, List, [], ◌∷◌, length, get_or, map, true, false, refl, sym, ap, subst, ◌∙◌, arith}
-use Rattle.std.specs.Prelude.{ℤ, pos, negsuc}
-use Rattle.std.specs.List.{AllByRecursion, AllZip}
-use Rattle.std.proofs.lemmas.Int.{ints}
-use Rattle.std.proofs.lemmas.Bool.{false≢true}
-use Rattle.std.proofs.lemmas.List.{get_or-map, length-map, ext_get_or}
-use Rattle.std.proofs.lemmas.List.FromFn.{get_or-map-range_with_len}
-use Rattle.crn_vec.specs.declared.signs.Sign.{Sign}
-use Rattle.crn_vec.specs.declared.signs.Sign.TheVariants.{Zero}
-use Rattle.crn_vec.specs.Network.{Net, IsNetwork}
-use Rattle.crn_vec.specs.Deficiency.{vectors}
-use Rattle.crn_vec.specs.NetSystems.{reaction_system, by_species}
-use Rattle.crn_vec.specs.Vectors.{dot, entry, column}
-use Rattle.crn_vec.specs.Problems.{all_zero}
-use Rattle.crn_vec.specs.Concordance.{IsDiscordant, IsNought, HasPositive, HasNegative, image, sign, IsTable, column_kind}
-use Rattle.crn_vec.proofs.CallerLemmas.{networks_have_tables, rows_count, zeros_signs, some_or_zeros, some_not_zero, columns_have, columns_go}
-use Rattle.crn_vec.specs.Systems.{HasKind}
-use Rattle.crn_ctree.specs.Inner.Pairs.{AreOfColumns}
-use Rattle.crn_ctree.specs.Problem.{table_of}
-use Rattle.crn_ctree.specs.declared.problem.InfluenceTable.{InfluenceTable}
-use Rattle.crn_ctree.specs.declared.problem.InfluenceTable.TheVariants.{Plain, Strong}
+use Rattle.crn_ctree.proofs.Prelude.{◌≡◌, ℕ, zero, suc, ◌<◌, ◌⊎◌, inl, inr, List, [], ◌∷◌, length, get_or, map, true, false, refl, sym, ap, subst, ◌∙◌, arith, ℤ, pos, negsuc, AllByRecursion, AllZip, ints, false≢true, get_or-map, length-map, ext_get_or, get_or-map-range_with_len, Sign, Zero, Net, IsNetwork, vectors, reaction_system, by_species, dot, entry, column, all_zero, IsDiscordant, IsNought, HasPositive, HasNegative, image, sign, IsTable, column_kind, networks_have_tables, rows_count, zeros_signs, some_or_zeros, some_not_zero, columns_have, columns_go, HasKind, AreOfColumns, table_of, InfluenceTable, Plain, Strong}
 
 -- ---- the sum of the reaction vectors
 

@@ -1,11 +1,6 @@
 -- The path of options represents the prefixes still due.
-use Rattle.std.proofs.Common.{◌≡◌, ◌≢◌, Bool, true, false, cond, List, [], ◌∷◌, ◌++◌, refl, sym, ap, ◌∙◌, append_assoc}
-use Rattle.std.proofs.lemmas.List.{append-nil}
-use Rattle.crn_vec.specs.declared.signs.Sign.{Sign}
-use Rattle.crn_vec.specs.declared.signs.Sign.TheVariants.{Zero, Plus, Minus}
-use Rattle.crn_vec.specs.Problems.{all_zero, children}
-use Rattle.crn_ctree.specs.Due.{first, rest}
-use Rattle.crn_ctree.specs.Paths.{later, due_after, due_by}
+use Rattle.crn_ctree.proofs.Prelude.{◌≡◌, ◌≢◌, Bool, true, false, cond, List, [], ◌∷◌, ◌++◌, refl, sym, ap, ◌∙◌, append-nil, Sign, Zero, Plus, Minus, all_zero, children, first, rest, later, due_after, due_by}
+use Rattle.std.proofs.Common.{append_assoc}
 
 -- the last option of a path and what is after it
 pub popped : (prefix q : List Sign) (s : Sign) → due_after prefix (q ++ s ∷ []) ≡ later (prefix ++ q) s ++ due_after prefix q

@@ -1,24 +1,6 @@
 -- When a shelving, numbers of the species, a level and weights are a signal over a shape, row by row.
-use Rattle.std.proofs.Common.{inl, inr, ◌≡◌, ◌≢◌, ℕ, ◌+◌, ◌<◌, ◌≤◌, ◌^◌, List, [], ◌∷◌, length, map, get_or, slice_set, sym, ap, subst, ◌∙◌, arith}
-use Rattle.std.specs.Prelude.{ℤ, pos, ◌-ℤ◌, Option, Some, unsigned_abs}
-use Rattle.std.specs.List.{AllZip, AllByRecursion}
+use Rattle.crn_ctree.proofs.Prelude.{inl, inr, ◌≡◌, ◌≢◌, ℕ, ◌+◌, ◌<◌, ◌≤◌, ◌^◌, List, [], ◌∷◌, length, map, get_or, slice_set, sym, ap, subst, ◌∙◌, arith, ℤ, pos, ◌-ℤ◌, Option, Some, unsigned_abs, AllZip, AllByRecursion, ints, ext_get_or, get_or-map, get_or-set_same, get_or-set_other, length-map, MAX_AMOUNT, MAX_SPECIES, WIDE_SOLUTION, Sign, Zero, Kind, Net, minus, reaction_system, AreWithin, HasSign, dot, entry, HasKind, image, sign, Pair, Shape, complex_at, shelf_at, shelf_of, HasPairSign, IsSignal, IsShape, top_kind, pair_kind, dot_none, mul-sub, past_end, lt_or, eq_or, kind_has, has_kind, pair_has, has_pair, top_full, pair_full, narrow_within, dot_within, IsNarrow, AreOnShelves, AreRightRises}
 use lib.IntN.{*ℤ_comm}
-use Rattle.std.proofs.lemmas.Int.{ints}
-use Rattle.std.proofs.lemmas.List.{ext_get_or, get_or-map, get_or-set_same, get_or-set_other, length-map}
-use Rattle.crn_vec.specs.declared.limits.TheConstants.{MAX_AMOUNT, MAX_SPECIES, WIDE_SOLUTION}
-use Rattle.crn_vec.specs.declared.signs.Sign.{Sign}
-use Rattle.crn_vec.specs.declared.signs.Sign.TheVariants.{Zero}
-use Rattle.crn_vec.specs.declared.signs.Kind.{Kind}
-use Rattle.crn_vec.specs.Network.{Net, minus}
-use Rattle.crn_vec.specs.NetSystems.{reaction_system}
-use Rattle.crn_vec.specs.Vectors.{AreWithin, HasSign, dot, entry}
-use Rattle.crn_vec.specs.Systems.{HasKind}
-use Rattle.crn_vec.specs.Concordance.{image, sign}
-use Rattle.crn_vec.specs.Signals.{Pair, Shape, complex_at, shelf_at, shelf_of, HasPairSign, IsSignal, IsShape, top_kind, pair_kind}
-use Rattle.crn_vec.proofs.CallerLemmas.{dot_none, mul-sub, past_end, lt_or, eq_or, kind_has, has_kind, pair_has, has_pair, top_full, pair_full}
-use Rattle.crn_shape.proofs.CallerLemmas.{narrow_within, dot_within}
-use Rattle.crn_cert.specs.Ranges.{IsNarrow}
-use Rattle.crn_ctree.specs.Inner.Signals.{AreOnShelves, AreRightRises}
 
 -- ---- sizes
 

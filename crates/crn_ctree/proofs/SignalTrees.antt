@@ -1,23 +1,6 @@
 -- The tests of the trees of question 13 are those by the shape of the network and of the vector of question 12.
-use Rattle.std.proofs.Common.{◌≡◌, ℕ, ◌+◌, inl, inr, List, [], ◌∷◌, ◌++◌, refl, sym, ap, subst, ◌∙◌}
-use Rattle.std.specs.Prelude.{ℤ, Option, ◌↔◌}
-use Rattle.std.specs.Option.{IsSomeAnd}
-use Rattle.crn_vec.specs.declared.signs.Sign.{Sign}
-use Rattle.crn_vec.specs.declared.signs.Sign.TheVariants.{Zero, Plus, Minus}
-use Rattle.crn_vec.specs.Network.{Net}
-use Rattle.crn_vec.specs.NetSystems.{reaction_system}
-use Rattle.crn_vec.specs.Signals.{Shape, signals}
-use Rattle.crn_vec.specs.NetSignals.{IsShapeOf}
-use Rattle.crn_vec.proofs.CallerLemmas.{shapes_are_one}
-use Rattle.crn_cert.specs.Says.{by_turn}
-use Rattle.crn_cert.specs.Tests.{Test, FailsFirst}
-use Rattle.crn_cert.specs.Trees.{Plan, Both, Three, RulesA, RulesB, Level, node_count}
-use Rattle.crn_cert.specs.Nodes.{Said, Fits}
-use Rattle.crn_cert.specs.TreeTests.{tree_tests}
-use Rattle.crn_cert.specs.Valid.{IsSignalNode, IsNodeOf}
-use Rattle.crn_ctree.specs.Laws.{SignalNodesAreOfShape, FirstSignalFaultsAreThoseOfTests, code_at}
+use Rattle.crn_ctree.proofs.Prelude.{◌≡◌, ℕ, ◌+◌, inl, inr, List, [], ◌∷◌, ◌++◌, refl, sym, ap, subst, ◌∙◌, ℤ, Option, ◌↔◌, IsSomeAnd, Sign, Zero, Plus, Minus, Net, reaction_system, Shape, signals, IsShapeOf, shapes_are_one, by_turn, Test, FailsFirst, Plan, Both, Three, RulesA, RulesB, Level, node_count, Said, Fits, tree_tests, IsSignalNode, IsNodeOf, SignalNodesAreOfShape, FirstSignalFaultsAreThoseOfTests, code_at, fault_number}
 use Rattle.crn_ctree.proofs.FirstFails.{first_faults}
-use Rattle.crn_cert.specs.Faults.{fault_number}
 
 -- ---- the test of a node
 

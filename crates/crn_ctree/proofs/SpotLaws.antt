@@ -1,34 +1,5 @@
 -- Lists of signs by the places at which they are not zero: the kinds of columns, and which multipliers are cuts.
-use Rattle.std.proofs.Common.{◌≡◌, ◌≢◌, ℕ, zero, suc, ◌+◌, ◌<◌, ◌≤◌, ◌⊎◌, inl, inr, List, [], ◌∷◌, length, map, get_or, drop, Bool, drop-cons, true, false, cond, refl, sym, ap, ap₂, subst, ◌∙◌, arith}
-use Rattle.std.specs.Prelude.{ℤ, pos, negsuc, ◌↔◌, ◌||◌, IsTrue}
-use Rattle.std.proofs.lemmas.Int.{ints}
-use Rattle.std.proofs.Math.Bool.{or-false}
-use Rattle.std.proofs.lemmas.Bool.{eq-eqb, lt-ltb, le-ltb, false≢true}
-use Rattle.std.proofs.lemmas.List.{get_or-map, length-map}
-use Rattle.crn_vec.specs.declared.signs.Sign.{Sign}
-use Rattle.crn_vec.specs.declared.signs.Sign.TheVariants.{Zero, Plus, Minus}
-use Rattle.crn_vec.specs.declared.signs.Kind.{Kind}
-use Rattle.crn_vec.specs.declared.signs.Kind.TheVariants.{Pos, Neg, NonNeg, Free, Zero as ZeroKind}
-use Rattle.crn_vec.specs.Network.{Net, sides_of, reaction_vector}
-use Rattle.crn_vec.specs.Influence.{plain_table, strong_table}
-use Rattle.crn_vec.specs.Vectors.{Mat, entry}
-use Rattle.crn_vec.specs.Elementary.{width}
-use Rattle.crn_vec.specs.Problems.{all_zero}
-use Rattle.crn_vec.specs.Concordance.{column_kind, kind_of_sum, is_plus, is_minus, some_sign, product, products, sign}
-use Rattle.crn_vec.specs.Systems.{IsCut, MayWeigh, is_signed, kind_at}
-use Rattle.crn_cert.specs.Nodes.{Fits}
-use Rattle.crn_ctree.specs.Gives.{is_cut}
-use Rattle.crn_ctree.specs.Problem.{problem_of, table_of}
-use Rattle.crn_ctree.specs.declared.problem.InfluenceTable.{InfluenceTable}
-use Rattle.crn_ctree.specs.declared.problem.InfluenceTable.TheVariants.{Plain, Strong}
-use Rattle.crn_ctree.specs.declared.problem.Problem.{Problem}
-use Rattle.crn_ctree.specs.declared.problem.Problem.TheVariants.{Concordance}
-use Rattle.crn_ctree.specs.declared.cut.Part.{Part}
-use Rattle.crn_ctree.specs.declared.spots.Spot.{Spot}
-use Rattle.crn_ctree.specs.declared.cut.Part.TheVariants.{A, B}
-use Rattle.crn_ctree.specs.Inner.Kinds.{column_from, cut_by, kinds_of, matrix_of, opposite_kind, weights_of}
-use Rattle.crn_ctree.specs.Inner.Spots.{AllWeigh, AreBelow, SomeSigned, column_numbers, columns_of, row_spots, rows_by, spots_from, spots_kind}
-use Rattle.crn_vec.proofs.CallerLemmas.{lt_or, past_end, weigh_zero}
+use Rattle.crn_ctree.proofs.Prelude.{◌≡◌, ◌≢◌, ℕ, zero, suc, ◌+◌, ◌<◌, ◌≤◌, ◌⊎◌, inl, inr, List, [], ◌∷◌, length, map, get_or, drop, Bool, drop-cons, true, false, cond, refl, sym, ap, ap₂, subst, ◌∙◌, arith, ℤ, pos, negsuc, ◌↔◌, ◌||◌, IsTrue, ints, or-false, eq-eqb, lt-ltb, le-ltb, false≢true, get_or-map, length-map, Sign, Zero, Plus, Minus, Kind, Pos, Neg, NonNeg, Free, ZeroKind, Net, sides_of, reaction_vector, plain_table, strong_table, Mat, entry, width, all_zero, column_kind, kind_of_sum, is_plus, is_minus, some_sign, product, products, sign, IsCut, MayWeigh, is_signed, kind_at, Fits, is_cut, problem_of, table_of, InfluenceTable, Plain, Strong, Problem, Concordance, Part, Spot, A, B, column_from, cut_by, kinds_of, matrix_of, opposite_kind, weights_of, AllWeigh, AreBelow, SomeSigned, column_numbers, columns_of, row_spots, rows_by, spots_from, spots_kind, lt_or, past_end, weigh_zero}
 use Rattle.crn_ctree.proofs.KindLaws.{column_closed, column_more, strong_column}
 use Rattle.crn_ctree.proofs.CutLaws.{CountsTo, weights_long, cut_from, cut_weighs, cut_counts}
 

@@ -1,24 +1,6 @@
 -- After nodes that fit one after another, nothing is due if and only if they are those of a valid tree; then the
 -- table is concordant, or the vector of the shape has no signal.
-use Rattle.std.proofs.Common.{◌≡◌, ◌≢◌, List, [], ◌∷◌, ◌++◌, refl, sym, subst}
-use Rattle.crn_vec.specs.declared.signs.Sign.{Sign}
-use Rattle.crn_vec.specs.Problems.{Signed}
-use Rattle.crn_vec.specs.Visits.{root}
-use Rattle.crn_cert.specs.Nodes.{Said, Passing, done, then, rest_after}
-use Rattle.crn_ctree.specs.Gives.{IsTaken}
-use Rattle.crn_ctree.specs.Laws.{CompleteIfAndOnlyIfValid, CompleteTreesShow}
-use Rattle.crn_vec.specs.NetSystems.{reaction_system}
-use Rattle.std.specs.Prelude.{ℤ}
-use Rattle.crn_vec.specs.Network.{Net, IsNetwork}
-use Rattle.crn_vec.specs.Concordance.{IsConcordant, concordance}
-use Rattle.crn_vec.specs.Confluence.{IsRegular}
-use Rattle.crn_vec.specs.Signals.{Shape, signals}
-use Rattle.crn_vec.specs.NetSignals.{IsShapeOf, HasNoSignal}
-use Rattle.crn_vec.proofs.CallerLemmas.{tables_are_steady, tables_feasible, signals_are_steady, signals_feasible}
-use Rattle.crn_cert.proofs.CallerLemmas.{leaves_nothing}
-use Rattle.crn_ctree.specs.Problem.{problem_of, table_of}
-use Rattle.crn_ctree.specs.declared.problem.InfluenceTable.{InfluenceTable}
-use Rattle.crn_ctree.specs.declared.problem.Problem.TheVariants.{Concordance, Signals}
+use Rattle.crn_ctree.proofs.Prelude.{◌≡◌, ◌≢◌, List, [], ◌∷◌, ◌++◌, refl, sym, subst, Sign, Signed, root, Said, Passing, done, then, rest_after, IsTaken, CompleteIfAndOnlyIfValid, CompleteTreesShow, reaction_system, ℤ, Net, IsNetwork, IsConcordant, concordance, IsRegular, Shape, signals, IsShapeOf, HasNoSignal, tables_are_steady, tables_feasible, signals_are_steady, signals_feasible, leaves_nothing, problem_of, table_of, InfluenceTable, Concordance, Signals}
 use Rattle.crn_ctree.proofs.PairLaws.{is_table}
 use Rattle.crn_ctree.proofs.NodeLaws.{passing_then, those_of_trees}
 

@@ -1,25 +1,5 @@
 -- What callers need beside the contracts: verdicts that are true or open, answers that rest on the rank, and right classes.
-use Rattle.std.proofs.Common.{◌≡◌, ℕ, [], length, refl, arith}
-use Rattle.crn_vec.specs.Network.{Net, IsNetwork}
-use Rattle.crn_vec.specs.Linkage.{AreRightLabels}
-use Rattle.crn_cert.specs.declared.answer.Gap.TheVariants.{Rests}
-use Rattle.crn_cert.specs.declared.answer.Verdict.{Verdict}
-use Rattle.crn_cert.specs.declared.answer.Verdict.TheVariants.{Strong, Unknown}
-use Rattle.crn_cert.specs.declared.answer.Proof.TheVariants.{Nothing, Strong as StrongTrees}
-use Rattle.crn_cert.specs.declared.answer.Answer.{Answer}
-use Rattle.crn_cert.specs.Questions.{Earlier, Question, Q2, Q5, Q6, Q9, on, IsOpen}
-use Rattle.crn_cert.specs.Ranges.{IsFrom, AreFrom}
-use Rattle.crn_cert.specs.Says.{AreLinkageClasses, AreStrongClasses}
-use Rattle.crn_cert.specs.ClassTests.{AreNumbered, AreFromTrees, AreToTrees, DoLevelsFall, AreAllExits, zeros_in}
-use Rattle.crn_cert.specs.Formed.{IsFormed}
-use Rattle.crn_cert.specs.Parts.{IsForest}
-use Rattle.crn_cert.specs.Valid.{IsValid}
-use Rattle.crn_cert.specs.Licensed.{IsTrueOrLicensed}
-use Rattle.crn_cert.specs.Law.{IsTrueOrOpen}
-use Rattle.crn_cert.proofs.CallerLemmas.{valid_answers_are_true}
-use Rattle.crn_graph.specs.declared.linkage_data.LinkageData.{LinkageData}
-use Rattle.crn_graph.specs.declared.strong_data.StrongData.{StrongData}
-use Rattle.crn_cert.specs.Answered.{IsAnswer}
+use Rattle.crn_defi.proofs.Prelude.{◌≡◌, ℕ, [], length, refl, arith, Net, IsNetwork, AreRightLabels, Rests, Verdict, Strong, Unknown, Nothing, StrongTrees, Answer, Earlier, Question, Q2, Q5, Q6, Q9, on, IsOpen, IsFrom, AreFrom, AreLinkageClasses, AreStrongClasses, AreNumbered, AreFromTrees, AreToTrees, DoLevelsFall, AreAllExits, zeros_in, IsFormed, IsForest, IsValid, IsTrueOrLicensed, IsTrueOrOpen, valid_answers_are_true, LinkageData, StrongData, IsAnswer}
 
 pub true_or_open : (net : Net) (budget : ℕ) (earlier : Earlier) (q : Question) (v : Verdict) → IsTrueOrLicensed net budget earlier q v → IsTrueOrOpen net q v
 true_or_open net budget earlier q (Unknown gap) h = tt

@@ -1,27 +1,8 @@
 -- The ranks and deficiencies of the linkage classes, one after another.
-use Rattle.std.proofs.Common.{◌≡◌, ℕ, zero, suc, ◌+◌, ◌-◌, ◌<◌, ◌≤◌, ◌==◌, List, [], ◌∷◌, ◌++◌, length, get_or, ap, subst, arith}
-use Rattle.std.specs.Prelude.{ℤ, min}
-use Rattle.std.specs.List.{AllByRecursion}
-use Rattle.crn_vec.specs.Network.{Net, IsNetwork}
-use Rattle.crn_vec.specs.Rank.{IsRank}
-use Rattle.crn_vec.specs.Deficiency.{IsLabelled, class_reactions, class_vectors, class_members, IsClassDeficiency}
-use Rattle.crn_cert.specs.declared.answer.RankProof.{RankProof}
-use Rattle.crn_cert.specs.Questions.{Earlier}
-use Rattle.crn_cert.specs.Ranges.{IsFrom}
-use Rattle.crn_cert.specs.Tests.{AllHold}
-use Rattle.crn_cert.specs.RankTests.{rank_tests}
-use Rattle.crn_vec.specs.Vectors.{Mat}
-use Rattle.crn_vec.specs.Elementary.{NamesWide}
-use Rattle.crn_vec.specs.NetSystems.{class_system}
-use Rattle.crn_vec.proofs.CallerLemmas.{filter_few}
-use Rattle.crn_rank.specs.Rank.{AreMembers, member_matrix, ProvesRank}
-use Rattle.crn_cert.specs.Parts.{IsRankProof, IsClassProof, AreClassProofs}
-use Rattle.crn_cert.specs.Valid.{linkage, class_places, IsClassNumber, AreClassNumbers, class_rank_tests}
-use Rattle.crn_cert.proofs.CallerLemmas.{hold_append}
-use Rattle.crn_defi.specs.Inner.ClassRanks.{reactions_of, IsClass, IsClassRank, AreClassRanks}
+use Rattle.crn_defi.proofs.Prelude.{◌≡◌, ℕ, zero, suc, ◌+◌, ◌-◌, ◌<◌, ◌≤◌, ◌==◌, List, [], ◌∷◌, ◌++◌, length, get_or, ap, subst, arith, ℤ, min, AllByRecursion, Net, IsNetwork, IsRank, IsLabelled, class_reactions, class_vectors, class_members, IsClassDeficiency, RankProof, Earlier, IsFrom, AllHold, rank_tests, Mat, NamesWide, class_system, filter_few, AreMembers, member_matrix, ProvesRank, IsRankProof, IsClassProof, AreClassProofs, linkage, class_places, IsClassNumber, class_rank_tests, hold_append, reactions_of, IsClass, IsClassRank, AreClassRanks, rank_from}
+use Rattle.crn_cert.specs.Valid.{AreClassNumbers}
 use Rattle.crn_defi.proofs.Places.{class_reaction, class_some, vectors_are, reactions_count, reactions_ascend, reactions_inside}
 use Rattle.crn_defi.proofs.Counted.{class_rank_leaves}
-use Rattle.crn_space.proofs.CallerLemmas.{rank_from}
 
 -- ---- one class
 

@@ -1,18 +1,5 @@
 -- How many linkage classes there are, and what the ranks of a network and of its linkage classes leave of the complexes.
-use Rattle.std.proofs.Common.{◌≡◌, ℕ, ◌+◌, ◌<◌, ◌≤◌, ◌==◌, inl, inr, List, [], ◌∷◌, length, get_or, sym, subst, ◌∙◌, arith}
-use Rattle.std.specs.List.{range_with_len}
-use Rattle.std.proofs.lemmas.List.{length-map}
-use Rattle.crn_vec.specs.Lists.{IsIn}
-use Rattle.crn_vec.specs.Network.{Net, IsNetwork, JoinsTwo, reaction_vector}
-use Rattle.crn_vec.specs.Linkage.{SameClass}
-use Rattle.crn_vec.specs.Walks.{IsNumberOf}
-use Rattle.crn_vec.specs.Rank.{IsIndependent, IsRank}
-use Rattle.crn_vec.specs.Deficiency.{vectors, IsComplex, IsLabelled, class_reactions, class_vectors, class_members}
-use Rattle.crn_vec.proofs.CallerLemmas.{all_in, all_from}
-use Rattle.crn_vec.proofs.CallerLemmas.{filter_distinct}
-use Rattle.crn_cert.specs.Says.{AreLinkageClasses}
-use Rattle.crn_defi.specs.Inner.ClassRanks.{IsClass}
-use Rattle.crn_space.proofs.CallerLemmas.{few_together, one_label, number_of_classes as classes_number, rank_leaves as leaves, range_distinct, taken, taken_vectors, taken_in}
+use Rattle.crn_defi.proofs.Prelude.{◌≡◌, ℕ, ◌+◌, ◌<◌, ◌≤◌, ◌==◌, inl, inr, List, [], ◌∷◌, length, get_or, sym, subst, ◌∙◌, arith, range_with_len, length-map, IsIn, Net, IsNetwork, JoinsTwo, reaction_vector, SameClass, IsNumberOf, IsIndependent, IsRank, vectors, IsComplex, IsLabelled, class_reactions, class_vectors, class_members, all_in, all_from, filter_distinct, AreLinkageClasses, IsClass, few_together, one_label, classes_number, leaves, range_distinct, taken, taken_vectors, taken_in}
 use Rattle.crn_defi.proofs.Places.{complexes_at, size_is, in_class, class_reaction}
 
 -- ---- how many classes there are

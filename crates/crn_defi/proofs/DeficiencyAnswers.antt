@@ -1,31 +1,5 @@
 -- The answer on deficiencies that ranks of the linkage classes or a stop give.
-use Rattle.std.proofs.Common.{◌≡◌, ℕ, ◌+◌, ◌<◌, ◌≤◌, List, length, get_or, refl, sym, subst, ◌∙◌, arith}
-use Rattle.std.specs.Prelude.{Option, Some}
-use Rattle.std.specs.Option.{IsSome}
-use Rattle.std.proofs.lemmas.List.{length-map}
-use Rattle.crn_vec.specs.Kept.{KeptNums}
-use Rattle.crn_vec.specs.Network.{Net, IsNetwork, reaction_vector}
-use Rattle.crn_vec.specs.Elementary.{NamesWide}
-use Rattle.crn_vec.specs.Linkage.{IsLabelCount}
-use Rattle.crn_vec.specs.Rank.{IsRank}
-use Rattle.crn_vec.specs.Deficiency.{vectors, class_reactions, AreDeficiencies, IsClassDeficiency}
-use Rattle.crn_vec.specs.NetSystems.{class_system}
-use Rattle.crn_cert.specs.declared.answer.RankProof.{RankProof}
-use Rattle.crn_cert.specs.declared.answer.Answer.{Answer}
-use Rattle.crn_cert.specs.declared.answer.Gap.TheVariants.{Wide}
-use Rattle.crn_cert.specs.declared.answer.Verdict.TheVariants.{Deficiency, Unknown}
-use Rattle.crn_cert.specs.declared.answer.Proof.TheVariants.{Nothing, Ranks}
-use Rattle.crn_cert.specs.Questions.{Earlier, Q5, Q6, on, rank_of}
-use Rattle.crn_cert.specs.Ranges.{IsFrom}
-use Rattle.crn_cert.specs.Says.{AreLinkageClasses}
-use Rattle.crn_cert.specs.Data.{IsBasisOf}
-use Rattle.crn_cert.specs.Formed.{IsFormed, IsWideGap}
-use Rattle.crn_cert.specs.Valid.{linkage, linkage_count, IsValid, IsLeft}
-use Rattle.crn_cert.specs.Licensed.{IsClassWide}
-use Rattle.crn_cert.specs.Answered.{IsAnswer}
-use Rattle.crn_cert.specs.Given.{GiveRank}
-use Rattle.crn_cert.proofs.CallerLemmas.{wide_basis, classes_are_formed}
-use Rattle.crn_defi.specs.Inner.ClassRanks.{reactions_of, IsClass, AreClassRanks}
+use Rattle.crn_defi.proofs.Prelude.{◌≡◌, ℕ, ◌+◌, ◌<◌, ◌≤◌, List, length, get_or, refl, sym, subst, ◌∙◌, arith, Option, Some, IsSome, length-map, KeptNums, Net, IsNetwork, reaction_vector, NamesWide, IsLabelCount, IsRank, vectors, class_reactions, AreDeficiencies, IsClassDeficiency, class_system, RankProof, Answer, Wide, Deficiency, Unknown, Nothing, Ranks, Earlier, Q5, Q6, on, rank_of, IsFrom, AreLinkageClasses, IsBasisOf, IsFormed, IsWideGap, linkage, linkage_count, IsValid, IsLeft, IsClassWide, IsAnswer, GiveRank, wide_basis, classes_are_formed, reactions_of, IsClass, AreClassRanks}
 use Rattle.crn_defi.proofs.Places.{reactions_count}
 use Rattle.crn_defi.proofs.Counted.{number_of_classes}
 use Rattle.crn_defi.proofs.ClassRanks.{class_proofs, class_numbers, class_tests, class_each, class_bounds}

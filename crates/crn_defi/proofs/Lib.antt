@@ -10,3 +10,4 @@ mod Splits
 mod Callers
 mod TestFacts
 pub mod CallerLemmas
+mod Prelude

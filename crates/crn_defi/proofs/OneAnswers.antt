@@ -1,32 +1,5 @@
 -- The answer on the Deficiency One Theorem that terminal strong classes and deficiencies give.
-use Rattle.std.proofs.Common.{◌≡◌, ◌≢◌, ℕ, zero, suc, ◌+◌, ◌-◌, ◌<◌, ◌≤◌, List, [], ◌∷◌, length, get_or, refl, sym, ap, subst, ◌∙◌, arith}
-use Rattle.std.specs.Prelude.{sum}
-use Rattle.std.specs.List.{range_with_len}
-use Rattle.std.proofs.lemmas.List.Sums.{count_by-le-length, sum_by-cons}
-use Rattle.std.proofs.lemmas.List.FromFn.{length-range_with_len}
-use Rattle.crn_vec.specs.Kept.{KeptNums}
-use Rattle.crn_vec.specs.Network.{Net}
-use Rattle.crn_vec.specs.Linkage.{IsLabelCount}
-use Rattle.crn_vec.specs.Deficiency.{AreDeficiencies, AreAtMostOne}
-use Rattle.crn_graph.proofs.CallerLemmas.{one_labels, one_count}
-use Rattle.crn_cert.specs.declared.answer.Verdict.{Verdict}
-use Rattle.crn_cert.specs.declared.answer.Verdict.TheVariants.{Classes, Strong, Deficiency, Yes, NoTerminal, NoClass, NoSum, Unknown}
-use Rattle.crn_cert.specs.declared.answer.Gap.TheVariants.{Rests}
-use Rattle.crn_cert.specs.declared.answer.Proof.TheVariants.{Nothing}
-use Rattle.crn_cert.specs.declared.answer.Answer.{Answer}
-use Rattle.crn_cert.specs.Verdicts.{tight}
-use Rattle.crn_cert.specs.Questions.{Earlier, Q1, Q2, Q6, Q10, on, count_of, deficiencies_of, IsOpen}
-use Rattle.crn_cert.specs.Formed.{IsFormed}
-use Rattle.crn_cert.specs.Valid.{linkage, exits, terminals_in, HaveOneBefore, HaveOneEach, IsFirstLarge, WithDeficiencies, IsValid}
-use Rattle.crn_cert.specs.Licensed.{IsTrueOrLicensed}
-use Rattle.crn_cert.specs.ClassTests.{DoLevelsFall}
-use Rattle.crn_cert.specs.Law.{IsTrueOrOpen}
-use Rattle.crn_cert.proofs.CallerLemmas.{valid_answers_are_true}
-use Rattle.crn_cert.specs.Answered.{IsAnswer}
-use Rattle.crn_cert.specs.Given.{GiveClasses}
-use Rattle.crn_cert.specs.Valid.{is_terminal_in, terminals_of}
-use Rattle.crn_defi.specs.Inner.Terminals.{HaveOneUpTo, IsFirstWithMore, IsVerdictOn, IsFewOrOpen, IsVerdictAfter}
-use Rattle.crn_space.proofs.CallerLemmas.{labels_few}
+use Rattle.crn_defi.proofs.Prelude.{◌≡◌, ◌≢◌, ℕ, zero, suc, ◌+◌, ◌-◌, ◌<◌, ◌≤◌, List, [], ◌∷◌, length, get_or, refl, sym, ap, subst, ◌∙◌, arith, sum, range_with_len, count_by-le-length, sum_by-cons, length-range_with_len, KeptNums, Net, IsLabelCount, AreDeficiencies, AreAtMostOne, one_labels, one_count, Verdict, Classes, Strong, Deficiency, Yes, NoTerminal, NoClass, NoSum, Unknown, Rests, Nothing, Answer, tight, Earlier, Q1, Q2, Q6, Q10, on, count_of, deficiencies_of, IsOpen, IsFormed, linkage, exits, terminals_in, HaveOneBefore, HaveOneEach, IsFirstLarge, WithDeficiencies, IsValid, IsTrueOrLicensed, DoLevelsFall, IsTrueOrOpen, valid_answers_are_true, IsAnswer, GiveClasses, is_terminal_in, terminals_of, HaveOneUpTo, IsFirstWithMore, IsVerdictOn, IsFewOrOpen, IsVerdictAfter, labels_few}
 use Rattle.crn_defi.proofs.ClassRanks.{class_short}
 use Rattle.crn_defi.proofs.TerminalCounts.{Known, terminals_some, one_terminal_each}
 

@@ -1,10 +1,5 @@
 -- A linkage class has one terminal strong class, if all its complexes that have one have the same.
-use Rattle.std.proofs.Common.{◌≡◌, ◌≢◌, ℕ, zero, suc, ◌+◌, ◌<◌, ◌≤◌, inl, inr, true, false, List, length, get_or, refl, sym, ap, subst, ◌∙◌, arith}
-use Rattle.std.proofs.lemmas.Bool.{cases_Bool}
-use Rattle.crn_vec.proofs.CallerLemmas.{eq_or}
-use Rattle.crn_cert.specs.Valid.{is_terminal_in, terminals_of}
-use Rattle.crn_cert.proofs.CallerLemmas.{terminals_yes, terminals_no}
-use Rattle.crn_defi.specs.Inner.Terminals.{AreClassNumbers, IsOfTerminal}
+use Rattle.crn_defi.proofs.Prelude.{◌≡◌, ◌≢◌, ℕ, zero, suc, ◌+◌, ◌<◌, ◌≤◌, inl, inr, true, false, List, length, get_or, refl, sym, ap, subst, ◌∙◌, arith, cases_Bool, eq_or, is_terminal_in, terminals_of, terminals_yes, terminals_no, AreClassNumbers, IsOfTerminal}
 use Rattle.crn_defi.proofs.TerminalCounts.{terminal_passes, Passing, passes_by}
 
 -- the strong class `own` is that of each of the first c complexes that is of linkage class k and of a terminal strong

@@ -1,21 +1,5 @@
 -- The complexes and reactions of a linkage class.
-use Rattle.std.proofs.Common.{◌≡◌, ◌≢◌, ◌⊎◌, ℕ, suc, ◌+◌, ◌-◌, ◌<◌, ◌≤◌, ◌==◌, inl, inr, Bool, List, [], ◌∷◌, ◌++◌, length, get_or, refl, sym, ap, ◌∙◌, arith}
-use Rattle.std.specs.Prelude.{filter}
-use Rattle.std.specs.List.{range_with_len}
-use Rattle.std.proofs.lemmas.Bool.{cases_Bool, eqb-true, eq-eqb, ne_eqb}
-use Rattle.std.proofs.lemmas.List.{length-map}
-use Rattle.crn_vec.specs.Kept.{KeptNums}
-use Rattle.crn_vec.specs.Lists.{IsIn, IsAscending}
-use Rattle.crn_vec.specs.Network.{Net, IsNetwork, reaction_vector, ends}
-use Rattle.crn_vec.specs.Deficiency.{IsLabelled, class_reactions, class_vectors, class_members}
-use Rattle.crn_vec.proofs.CallerLemmas.{in_range, filter_has, filter_from, filter_ascending, range_more}
-use Rattle.crn_vec.proofs.CallerLemmas.{filter_yes, filter_no, range_ascending, range_bounds, first_stays, first_goes}
-use Rattle.crn_cert.specs.declared.answer.Verdict.TheVariants.{Classes}
-use Rattle.crn_cert.specs.Questions.{Earlier, Q1}
-use Rattle.crn_cert.specs.RankTests.{vector_of, vectors_of}
-use Rattle.crn_cert.proofs.CallerLemmas.{class_vectors_are}
-use Rattle.crn_space.proofs.CallerLemmas.{one_label}
-use Rattle.crn_defi.specs.Inner.ClassRanks.{reactions_of, IsClass}
+use Rattle.crn_defi.proofs.Prelude.{◌≡◌, ◌≢◌, ◌⊎◌, ℕ, suc, ◌+◌, ◌-◌, ◌<◌, ◌≤◌, ◌==◌, inl, inr, Bool, List, [], ◌∷◌, ◌++◌, length, get_or, refl, sym, ap, ◌∙◌, arith, filter, range_with_len, cases_Bool, eqb-true, eq-eqb, ne_eqb, length-map, KeptNums, IsIn, IsAscending, Net, IsNetwork, reaction_vector, ends, IsLabelled, class_reactions, class_vectors, class_members, in_range, filter_has, filter_from, filter_ascending, range_more, filter_yes, filter_no, range_ascending, range_bounds, first_stays, first_goes, Classes, Earlier, Q1, vector_of, vectors_of, class_vectors_are, one_label, reactions_of, IsClass}
 
 -- ---- the complexes of a class
 

@@ -1,16 +1,6 @@
 -- The least linkage class with several terminal strong classes, in the words of the definitions and of the tests.
-use Rattle.std.proofs.Common.{ℕ, List, Option, Some, None, length}
-use Rattle.std.specs.Prelude.{MatchOption, IfSome}
-use Rattle.crn_vec.specs.Network.{Net}
-use Rattle.crn_vec.specs.Deficiency.{HasOneTerminalEach, IsFirstSplitClass}
-use Rattle.crn_cert.specs.declared.answer.Gap.TheVariants.{Rests}
-use Rattle.crn_cert.specs.declared.answer.Verdict.TheVariants.{Unknown}
-use Rattle.crn_cert.specs.Questions.{Earlier}
-use Rattle.crn_cert.specs.Ranges.{IsFrom}
-use Rattle.crn_cert.specs.Valid.{HaveOneEach, IsFirstSplit}
-use Rattle.crn_cert.specs.ClassTests.{DoLevelsFall}
-use Rattle.crn_cert.specs.Given.{GiveClasses}
-use Rattle.crn_defi.specs.Inner.Terminals.{HaveOneUpTo, IsFirstWithMore}
+use Rattle.crn_defi.proofs.Prelude.{ℕ, List, None, length, MatchOption, IfSome, Net, HasOneTerminalEach, IsFirstSplitClass, Rests, Unknown, Earlier, IsFrom, HaveOneEach, IsFirstSplit, DoLevelsFall, GiveClasses, HaveOneUpTo, IsFirstWithMore}
+use Rattle.std.proofs.Common.{Option, Some}
 use Rattle.crn_defi.proofs.TerminalCounts.{Known, one_terminal_each}
 use Rattle.crn_defi.proofs.OneAnswers.{one_earlier, earlier_of, earlier_gives, split_given}
 

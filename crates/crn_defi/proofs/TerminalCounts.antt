@@ -1,21 +1,5 @@
 -- The terminal strong classes of each linkage class.
-use Rattle.std.proofs.Common.{◌≡◌, ℕ, zero, suc, ◌-◌, ◌<◌, ◌≤◌, ◌==◌, ◌⊎◌, inl, inr, Bool, true, List, [], ◌∷◌, length, get_or, refl, sym, ap, subst, ◌∙◌, arith}
-use Rattle.std.specs.Prelude.{filter, count_by}
-use Rattle.std.specs.List.{list_any, range_with_len}
-use Rattle.std.proofs.lemmas.Bool.{eqb-true, eq-eqb}
-use Rattle.std.proofs.lemmas.List.Sums.{length-filter}
-use Rattle.crn_vec.specs.Lists.{IsIn}
-use Rattle.crn_vec.specs.Network.{Net, IsNetwork}
-use Rattle.crn_vec.specs.Linkage.{SameClass}
-use Rattle.crn_vec.specs.Strong.{ReactsTo, Reaches, SameStrong, IsTerminal, LeavesClass}
-use Rattle.crn_vec.specs.Deficiency.{IsComplex, IsLabelled, HasTerminalClasses, HasOneTerminalEach}
-use Rattle.crn_vec.proofs.CallerLemmas.{leads_keeps, reaction_in, inside_at, in_range, filter_has, filter_from, and_cases, and_true}
-use Rattle.crn_vec.proofs.CallerLemmas.{range_bounds, any_has, any_some}
-use Rattle.crn_cert.specs.Says.{AreLinkageClasses, AreStrongClasses}
-use Rattle.crn_cert.specs.ClassTests.{of_class, DoLevelsFall}
-use Rattle.crn_cert.specs.Valid.{is_in_both, is_terminal_in, terminals_of}
-use Rattle.crn_defi.specs.Inner.Terminals.{AreClassNumbers, HaveOneUpTo}
-use Rattle.crn_space.proofs.CallerLemmas.{one_label}
+use Rattle.crn_defi.proofs.Prelude.{◌≡◌, ℕ, zero, suc, ◌-◌, ◌<◌, ◌≤◌, ◌==◌, ◌⊎◌, inl, inr, Bool, true, List, [], ◌∷◌, length, get_or, refl, sym, ap, subst, ◌∙◌, arith, filter, count_by, list_any, range_with_len, eqb-true, eq-eqb, length-filter, IsIn, Net, IsNetwork, SameClass, ReactsTo, Reaches, SameStrong, IsTerminal, LeavesClass, IsComplex, IsLabelled, HasTerminalClasses, HasOneTerminalEach, leads_keeps, reaction_in, inside_at, in_range, filter_has, filter_from, and_cases, and_true, range_bounds, any_has, any_some, AreLinkageClasses, AreStrongClasses, of_class, DoLevelsFall, is_in_both, is_terminal_in, terminals_of, AreClassNumbers, HaveOneUpTo, one_label}
 
 -- ---- tests of lists
 

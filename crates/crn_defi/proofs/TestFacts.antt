@@ -1,22 +1,5 @@
 -- What the tests show of the networks that they hand to the public functions.
-use Rattle.std.proofs.Common.{ℕ, ◌≤◌, List, [], ◌∷◌, length, refl, subst, arith}
-use Rattle.std.specs.Prelude.{ℤ}
-use Rattle.std.specs.List.{range_with_len}
-use Rattle.crn_vec.specs.Kept.{KeptNums}
-use Rattle.crn_vec.specs.Network.{Net, IsNetwork}
-use Rattle.crn_vec.specs.Rank.{IsRank}
-use Rattle.crn_vec.specs.Deficiency.{vectors}
-use Rattle.crn_vec.proofs.CallerLemmas.{range_ascending, range_bounds}
-use Rattle.crn_cert.specs.declared.answer.Answer.{Answer}
-use Rattle.crn_cert.specs.declared.answer.RankProof.{RankProof}
-use Rattle.crn_cert.specs.declared.answer.Verdict.TheVariants.{Classes, Rank}
-use Rattle.crn_cert.specs.Questions.{Earlier, Q1, Q5, Q6}
-use Rattle.crn_cert.specs.Law.{IsTrueOrOpen}
-use Rattle.crn_cert.proofs.CallerLemmas.{all_vectors}
-use Rattle.crn_rank.specs.Rank.{AreMembers, ProvesRank}
-use Rattle.crn_cert.specs.Answered.{IsAnswer}
-use Rattle.crn_cert.specs.Given.{GiveRank}
-use Rattle.crn_space.proofs.CallerLemmas.{rank_from}
+use Rattle.crn_defi.proofs.Prelude.{ℕ, ◌≤◌, List, [], ◌∷◌, length, refl, subst, arith, ℤ, range_with_len, KeptNums, Net, IsNetwork, IsRank, vectors, range_ascending, range_bounds, Answer, RankProof, Classes, Rank, Earlier, Q1, Q5, Q6, IsTrueOrOpen, all_vectors, AreMembers, ProvesRank, IsAnswer, GiveRank, rank_from}
 use Rattle.crn_defi.proofs.Callers.{true_or_open}
 
 -- ---- the rank

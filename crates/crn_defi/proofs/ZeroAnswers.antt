@@ -1,18 +1,6 @@
 -- The answer on the Deficiency Zero Theorem that the deficiency gives.
-use Rattle.std.proofs.Common.{◌≡◌, ◌≢◌, ℕ, zero, suc, ◌+◌, ◌≤◌, Bool, true, false, length, refl, sym, subst, arith}
-use Rattle.std.specs.Prelude.{List, ◌↔◌, IsTrue}
-use Rattle.crn_vec.specs.Network.{Net}
-use Rattle.crn_vec.specs.Strong.{IsWeaklyReversible}
-use Rattle.crn_vec.specs.Rank.{IsRank}
-use Rattle.crn_vec.specs.Deficiency.{vectors, IsDeficiency}
-use Rattle.crn_cert.specs.declared.answer.Verdict.TheVariants.{YesWeak, NoNumber}
-use Rattle.crn_cert.specs.declared.answer.Proof.TheVariants.{Nothing}
-use Rattle.crn_cert.specs.Questions.{Earlier, Q4, Q5, Q9, on, rank_of, IsYes}
-use Rattle.crn_cert.specs.Says.{AreLinkageClasses}
-use Rattle.crn_cert.specs.Valid.{IsLeft}
-use Rattle.crn_cert.specs.Answered.{IsAnswer}
-use Rattle.crn_cert.specs.Formed.{IsFormedOf}
-use Rattle.crn_cert.specs.Given.{GiveRank}
+use Rattle.crn_defi.proofs.Prelude.{◌≡◌, ◌≢◌, ℕ, zero, suc, ◌+◌, ◌≤◌, Bool, true, false, length, refl, sym, subst, arith, ◌↔◌, IsTrue, Net, IsWeaklyReversible, IsRank, vectors, IsDeficiency, YesWeak, NoNumber, Nothing, Earlier, Q4, Q5, Q9, on, rank_of, IsYes, AreLinkageClasses, IsLeft, IsAnswer, IsFormedOf, GiveRank}
+use Rattle.std.specs.Prelude.{List}
 use Rattle.crn_defi.proofs.Counted.{number_of_classes}
 use Rattle.crn_defi.proofs.DeficiencyAnswers.{left_is, rank_known}
 

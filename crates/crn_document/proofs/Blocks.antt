@@ -1,51 +1,8 @@
 -- The tests of a block, in the words of a document's course, and what is known after it.
-use Rattle.std.proofs.Common.{◌≡◌, ◌≤◌, ◌+◌, ◌-◌, ◌++◌, ◌∙◌, ℕ, zero, suc, Bool, true, false, ◌==◌, ◌&&◌, List, [], ◌∷◌, length, map, replicate, refl, sym, subst, ap, ap₂, inl, inr, arith, Result}
-use Rattle.std.specs.Prelude.{ℤ, if◌then◌else◌, slice_index_or}
-use Rattle.std.specs.List.{AllByRecursion, AllZip, flat_map}
-use Rattle.std.proofs.lemmas.Bool.{eqb-true}
-use Rattle.std.proofs.lemmas.List.{length-map, map-append}
-use Rattle.crn_io.specs.Lines.{Place}
-use Rattle.crn_vec.specs.Network.{Net}
-use Rattle.crn_vec.specs.declared.limits.TheConstants.{MAX_COMPLEXES}
-use Rattle.crn_cert.specs.declared.answer.Verdict.{Verdict}
-use Rattle.crn_cert.specs.declared.answer.Verdict.TheVariants.{No, Yes}
-use Rattle.crn_cert.specs.declared.head_kind.HeadKind.TheVariants.{Rests}
-use Rattle.crn_cert.specs.declared.answer.Proof.{Proof}
-use Rattle.crn_cert.specs.declared.answer.Answer.{Answer}
-use Rattle.crn_cert.specs.Questions.{Earlier, Question, Q2, Q13, Q14, Q15, on, terminal_of}
-use Rattle.crn_cert.specs.Tests.{Test, AllHold, FailsFirst}
-use Rattle.crn_cert.specs.Valid.{HasVector, exits, head_tests, linkage, linkage_count, row_tests, strong, tests_of}
-use Rattle.crn_pairs.specs.Pairs.{pairs_to}
-use Rattle.crn_cert.specs.Formed.{IsFormed, IsFormedOf}
-use Rattle.crn_cert.proofs.CallerLemmas.{hold_parts}
-use Rattle.crn_ctext.specs.Records.{Record, Form, Fits}
-use Rattle.crn_ctext.specs.Questions.{decided, kind_at, later_numbers, open_kinds}
-use Rattle.crn_ctext.specs.Course.{Course, Give, ◌>>=◌, Gives}
+use Rattle.crn_document.proofs.Prelude.{◌≡◌, ◌≤◌, ◌+◌, ◌-◌, ◌++◌, ◌∙◌, ℕ, zero, suc, Bool, true, false, ◌==◌, ◌&&◌, List, [], ◌∷◌, length, map, replicate, refl, sym, subst, ap, ap₂, inl, inr, arith, Result, ℤ, if◌then◌else◌, slice_index_or, AllByRecursion, AllZip, flat_map, eqb-true, length-map, map-append, Place, Net, MAX_COMPLEXES, Verdict, No, Yes, Rests, Proof, Answer, Earlier, Question, Q2, Q13, Q14, Q15, on, terminal_of, Test, AllHold, FailsFirst, HasVector, exits, head_tests, linkage, linkage_count, row_tests, strong, tests_of, pairs_to, IsFormed, IsFormedOf, hold_parts, Record, Form, Fits, decided, kind_at, later_numbers, open_kinds, Course, Give, ◌>>=◌, Gives, AfterBlocks, Problem, asks_all, asks_trees, below, claims, has_tree, StepGives, SourceSeen, and_first, zip_long, records_formed, PairsFor, Reading, CheckStop, StepIs, step_map, step_then_is, Known, lists, problems_by, sizes_of, shapes_of, verdict_by, verdict_of, proof_by, proof_of, meaning, KeptFacts, asked, AsksForTree, IsBuilt, shown_by_tree, tree_place, tight, Part, verdict_of_head, FitAnswer, part_proofs, proof_of_head, IsKnownFor, parts_below, AreRows, MayBeRow, fixed_rows, many_rows, part_rows, row_form, rows_below, Row, Comb, Dual, M, Mu, Shelves, Side, Tie, Weights, IsHead, known_of, class_count, HeadHolds, IsAfter, IsBlock, Learns, after_at, after_by, end_course, forms_below, head_course, many_after, parts_after, rows_course, tests_course}
 use Rattle.crn_ctext.specs.Course as course
-use Rattle.crn_ctext.specs.Blocks.{AfterBlocks, Problem, asks_all, asks_trees, below, claims, has_tree}
-use Rattle.crn_ctext.specs.Steps.{StepGives}
-use Rattle.crn_io.specs.Device.{SourceSeen}
-use Rattle.crn_vec.proofs.CallerLemmas.{and_first}
-use Rattle.crn_ctext.proofs.CallerLemmas.{zip_long, records_formed, PairsFor}
-use Rattle.crn_reading.specs.declared.reading.Reading.{Reading}
-use Rattle.crn_reading.specs.declared.fault.CheckStop.{CheckStop}
-use Rattle.crn_reading.specs.Steps.{StepIs}
-use Rattle.crn_reading.proofs.CallerLemmas.{step_map, step_then_is}
-use Rattle.crn_ctext.specs.Meaning.{Known, lists, problems_by, sizes_of, shapes_of, verdict_by, verdict_of, proof_by, proof_of, meaning}
 use Rattle.crn_ctext.specs.Meaning as said
-use Rattle.crn_check.specs.Facts.{KeptFacts, asked}
-use Rattle.crn_check.specs.Check.{AsksForTree, IsBuilt, shown_by_tree, tree_place}
-use Rattle.crn_cert.specs.Verdicts.{tight}
-use Rattle.crn_document.specs.declared.parts.Part.{Part}
-use Rattle.crn_document.specs.Inner.Answer.{kind_of, verdict_of_head}
-use Rattle.crn_document.specs.Inner.Answers.{FitAnswer, part_proofs, proof_of_head}
-use Rattle.crn_document.specs.Facts.{IsKnownFor}
-use Rattle.crn_document.specs.Inner.Parts.{parts_below}
-use Rattle.crn_document.specs.Inner.Records.{AreRows, MayBeRow, fixed_rows, many_rows, part_rows, row_form, rows_below}
-use Rattle.crn_document.specs.declared.rows.Row.{Row}
-use Rattle.crn_document.specs.declared.rows.Row.TheVariants.{Comb, Dual, M, Mu, Shelves, Side, Tie, Weights}
-use Rattle.crn_document.specs.Inner.Heads.{IsHead, known_of, class_count}
-use Rattle.crn_document.specs.Inner.Blocks.{HeadHolds, IsAfter, IsBlock, Learns, after_at, after_by, end_course, forms_below, head_course, many_after, parts_after, rows_course, tests_course}
+use Rattle.crn_document.specs.Inner.Answer.{kind_of}
 use Rattle.crn_document.proofs.Fields.{part_within}
 use Rattle.crn_document.proofs.Ranks.{AreRanks}
 use Rattle.crn_document.proofs.HeadKinds.{heads_hold, tight_and_bare}

@@ -1,24 +1,5 @@
 -- Steps up to the end of a document, and its parts after the network.
-use Rattle.std.proofs.Common.{◌≡◌, ◌+◌, ◌++◌, ◌∙◌, ℕ, Bool, false, List, [], length, map, refl, sym, subst, ap, Result}
-use Rattle.std.specs.Prelude.{ℤ}
-use Rattle.crn_io.specs.Device.{SourceSeen}
-use Rattle.crn_io.specs.Next.{place}
-use Rattle.crn_vec.specs.Network.{Net}
-use Rattle.crn_cert.specs.Built.{built}
-use Rattle.crn_cert.specs.declared.answer.Verdict.{Verdict}
-use Rattle.crn_cert.specs.Questions.{Earlier}
-use Rattle.crn_ctext.specs.Records.{Record}
-use Rattle.crn_ctext.specs.Course.{Course, ◌>>=◌}
-use Rattle.crn_ctext.specs.Blocks.{AfterBlocks, ReadOf, asks_blocks, asks_table, lists_of}
-use Rattle.crn_ctext.specs.Meaning.{Known, meaning, verdicts_said}
-use Rattle.crn_ctext.specs.Steps.{StepGives}
-use Rattle.crn_reading.specs.declared.reading.Reading.{Reading}
-use Rattle.crn_reading.specs.declared.fault.CheckStop.{CheckStop}
-use Rattle.crn_document.specs.Inner.Blocks.{IsAfter, after_at, after_by}
-use Rattle.crn_document.specs.Inner.Courses.{IsSaidIn, rest_course, last_course}
-use Rattle.crn_reading.specs.Ending.{EndStepIs, LastIs}
-use Rattle.crn_document.specs.Inner.Ending.{asks_end}
-use Rattle.crn_reading.proofs.CallerLemmas.{last_is, last_then}
+use Rattle.crn_document.proofs.Prelude.{◌≡◌, ◌+◌, ◌++◌, ◌∙◌, ℕ, Bool, false, List, [], length, map, refl, sym, subst, ap, Result, ℤ, SourceSeen, place, Net, built, Verdict, Earlier, Record, Course, ◌>>=◌, AfterBlocks, ReadOf, asks_blocks, asks_table, lists_of, Known, meaning, verdicts_said, StepGives, Reading, CheckStop, IsAfter, after_at, after_by, IsSaidIn, rest_course, last_course, EndStepIs, LastIs, asks_end, last_is, last_then}
 use Rattle.crn_document.proofs.Said.{built_blocks_say}
 
 -- what follows the shared lists

@@ -1,16 +1,7 @@
 -- The codes under which a document is rejected are numbers of kinds of faults.
-use Rattle.std.proofs.Common.{ℕ, sym, subst, inl, inr, arith, Result, Ok, Err}
-use Rattle.crn_io.specs.Device.{SourceSeen}
-use Rattle.crn_io.specs.Lines.{beginning}
-use Rattle.crn_cert.specs.Faults.{Fault, BadLeaf, NodeNotAllowed, TreeEndsEarly, TreeGoesOn, BadEvidence, WrongShape, fault_number}
-use Rattle.crn_ctext.specs.Course.{IsReported}
-use Rattle.crn_ctext.specs.Courses.{none_own}
-use Rattle.crn_ctext.proofs.CallerLemmas.{fails_with_a_code, settled}
-use Rattle.crn_reading.specs.declared.fault.CheckStop.{CheckStop}
+use Rattle.crn_document.proofs.Prelude.{ℕ, sym, subst, inl, inr, arith, Result, Ok, Err, SourceSeen, beginning, Fault, NodeNotAllowed, TreeEndsEarly, TreeGoesOn, BadEvidence, fault_number, IsReported, none_own, fails_with_a_code, settled, CheckStop, CheckGives, HasFaultNumber, IsFaultNumber, Accepted, whole_course}
+use Rattle.crn_cert.specs.Faults.{BadLeaf, WrongShape}
 use Rattle.crn_reading.specs.declared.fault.CheckStop.TheVariants as stop
-use Rattle.crn_document.specs.Check.{CheckGives, HasFaultNumber, IsFaultNumber}
-use Rattle.crn_document.specs.declared.check.Accepted.{Accepted}
-use Rattle.crn_document.specs.Inner.Courses.{whole_course}
 
 kind_numbered : (fault : Fault) → IsFaultNumber (fault_number fault)
 kind_numbered BadLeaf = inr (omega arith, omega arith)

@@ -1,16 +1,7 @@
 -- One course follows another if the other gives all that it gives, fails first wherever it does, and awaits the lines that it does.
-use Rattle.std.proofs.Common.{◌⊎◌, ◌++◌, ℕ, refl, subst, inl, inr, Ok, Err, Result}
-use Rattle.crn_io.specs.Device.{SourceSeen}
-use Rattle.crn_io.specs.Lines.{Place}
-use Rattle.crn_io.specs.Next.{place}
-use Rattle.crn_cert.specs.Faults.{Fault}
-use Rattle.crn_ctext.specs.Course.{Course, Give, Line, Test, End, ◌>>=◌, Gives, FailsFirst, test}
-use Rattle.crn_ctext.proofs.CallerLemmas.{gives_then, fails_before, fails_then, gives_parts, awaits_before, awaits_then, awaits_parts}
-use Rattle.crn_ctext.specs.Steps.{Awaits, cut}
-use Rattle.crn_reading.specs.declared.reading.Reading.{Reading}
-use Rattle.crn_reading.specs.declared.fault.CheckStop.{CheckStop}
+use Rattle.crn_document.proofs.Prelude.{◌⊎◌, ◌++◌, ℕ, refl, subst, inl, inr, Ok, Err, Result, SourceSeen, Place, place, Fault, Course, Give, Line, End, ◌>>=◌, Gives, test, gives_then, fails_before, fails_then, gives_parts, awaits_before, awaits_then, awaits_parts, Awaits, cut, Reading, CheckStop, StopIs, StepIs}
+use Rattle.crn_ctext.specs.Course.{Test, FailsFirst}
 use Rattle.crn_reading.specs.declared.fault.CheckStop.TheVariants as stop
-use Rattle.crn_reading.specs.Steps.{StopIs, StepIs}
 
 -- ---- the parts of a course
 

@@ -1,30 +1,6 @@
 -- A whole document, from its first line to its end, and what is said of its text.
-use Rattle.std.proofs.Common.{◌≡◌, ◌+◌, ◌∙◌, ℕ, List, [], sym, subst, ap, inl, inr, arith, Result, Ok, Err}
-use Rattle.crn_io.specs.Device.{SourceSeen}
-use Rattle.crn_io.specs.Lines.{beginning}
-use Rattle.crn_vec.specs.Network.{Net}
-use Rattle.crn_cert.specs.Built.{built}
-use Rattle.crn_cert.specs.declared.answer.Verdict.{Verdict}
-use Rattle.crn_ctext.specs.Course.{Course, find, ◌>>=◌}
-use Rattle.crn_ctext.specs.Blocks.{ReadOf, IsNetworkOf, asks_lines}
-use Rattle.crn_ctext.specs.Courses.{none_own}
-use Rattle.crn_ctext.specs.Judged.{IsReadOf}
-use Rattle.crn_ctext.specs.Linked.{AreSound}
-use Rattle.crn_ctext.specs.Steps.{Awaits, StepGives}
-use Rattle.crn_ctext.proofs.CallerLemmas.{awaited_open, read_true, settled}
-use Rattle.crn_document.specs.Check.{CheckGives, IsAnswered, IsAccepted}
-use Rattle.crn_reading.specs.Reads.{AnswersWith, IsAnsweredBy, ReadingGives}
-use Rattle.crn_document.specs.declared.check.Accepted.{Accepted}
-use Rattle.crn_reading.specs.declared.reading.Reading.{Reading}
-use Rattle.crn_reading.specs.declared.fault.CheckStop.{CheckStop}
+use Rattle.crn_document.proofs.Prelude.{◌≡◌, ◌+◌, ◌∙◌, ℕ, List, [], sym, subst, ap, inl, inr, arith, Result, Ok, Err, SourceSeen, beginning, Net, built, Verdict, Course, find, ◌>>=◌, ReadOf, IsNetworkOf, asks_lines, none_own, IsReadOf, AreSound, Awaits, StepGives, awaited_open, read_true, settled, CheckGives, IsAnswered, IsAccepted, AnswersWith, IsAnsweredBy, ReadingGives, Accepted, Reading, CheckStop, IsNew, IsWhole, rest_course, whole_course, LastIs, count_course, network_course, title_course, last_all, last_then, text_answered, text_read, begun_none, BadNetwork}
 use Rattle.crn_reading.specs.declared.fault.CheckStop.TheVariants as stop
-use Rattle.crn_reading.specs.Steps.{IsNew}
-use Rattle.crn_document.specs.Inner.Courses.{IsWhole, rest_course, whole_course}
-use Rattle.crn_reading.specs.Ending.{LastIs}
-use Rattle.crn_reading.specs.Opening.{count_course, network_course, title_course}
-use Rattle.crn_reading.proofs.CallerLemmas.{last_all, last_then, text_answered, text_read}
-use Rattle.crn_io.proofs.CallerLemmas.{begun_none}
-use Rattle.crn_cert.specs.Faults.{BadNetwork}
 
 -- ---- the parts of a document
 

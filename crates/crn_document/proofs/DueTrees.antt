@@ -1,23 +1,6 @@
 -- The tree of a prefix is its node and the trees of the prefixes that the node leaves due.
-use Rattle.std.proofs.Common.{◌≡◌, ◌≢◌, ◌+◌, ◌-◌, ◌<◌, ◌++◌, ℕ, zero, suc, Bool, true, false, List, [], ◌∷◌, length, map, refl, sym, subst, arith, Ok, Result}
-use Rattle.std.specs.Prelude.{ℤ}
-use Rattle.std.proofs.lemmas.List.{length-append}
-use Rattle.crn_vec.specs.declared.signs.Sign.{Sign}
-use Rattle.crn_vec.specs.declared.signs.Sign.TheVariants.{Zero, Plus, Minus}
-use Rattle.crn_vec.specs.Problems.{all_zero, children, options_below}
-use Rattle.crn_vec.specs.Visits.{root}
-use Rattle.crn_io.specs.Device.{SourceSeen}
-use Rattle.crn_ctext.specs.Course.{Course, Give, ◌>>=◌, test}
-use Rattle.crn_ctext.specs.Blocks.{Problem, Node, Split, Flat, CutA, CutB, asks_leaf, asks_tree, either, goes_on, leaf}
-use Rattle.crn_ctext.specs.Steps.{StepGives}
-use Rattle.crn_ctree.specs.Due.{first, rest}
-use Rattle.crn_reading.specs.declared.reading.Reading.{Reading}
-use Rattle.crn_reading.specs.declared.fault.CheckStop.{CheckStop}
-use Rattle.crn_reading.specs.Steps.{StopIs, StepIs}
-use Rattle.crn_document.specs.Inner.Trees.{after_node, asks_due, asks_one, node_test}
-use Rattle.crn_reading.proofs.CallerLemmas.{step_gives, step_then_is, stop_first}
+use Rattle.crn_document.proofs.Prelude.{◌≡◌, ◌≢◌, ◌+◌, ◌-◌, ◌<◌, ◌++◌, ℕ, zero, suc, Bool, true, false, List, [], ◌∷◌, length, map, refl, sym, subst, arith, Ok, Result, ℤ, length-append, Sign, Zero, Plus, Minus, all_zero, children, options_below, root, SourceSeen, Course, Give, ◌>>=◌, test, Problem, Node, Split, Flat, CutA, CutB, asks_leaf, asks_tree, either, goes_on, leaf, StepGives, first, rest, Reading, CheckStop, StopIs, StepIs, after_node, asks_due, asks_one, node_test, step_gives, step_then_is, stop_first, NodeNotAllowed}
 use Rattle.crn_document.proofs.CoursesFollowed.{Follows, follows_on, follows_after, to_right, to_left, none_after, test_holds, test_breaks, step_follows, stop_follows}
-use Rattle.crn_cert.specs.Faults.{NodeNotAllowed}
 
 -- ---- prefixes
 

@@ -1,13 +1,5 @@
 -- The numbers of a record of one field, and the places of tests.
-use Rattle.std.proofs.Common.{◌≡◌, ◌≤◌, ◌<◌, ◌^◌, ◌++◌, ◌∙◌, ℕ, List, [], ◌∷◌, map, refl, sym, subst, ap, inl, inr, arith}
-use Rattle.std.specs.Prelude.{ℤ, pos, negsuc, nat_abs}
-use Rattle.std.specs.List.{AllByRecursion}
-use Rattle.std.proofs.lemmas.Int.{ints}
-use Rattle.std.proofs.lemmas.List.{append-nil}
-use Rattle.crn_cert.specs.Tests.{Test, FailsFirst}
-use Rattle.crn_ctext.specs.Records.{Record, Field, Takes, AreNarrow, AreOf, AreBetween, Fits}
-use Rattle.crn_ctext.specs.Kinds.{small, small_form}
-use Rattle.crn_document.specs.Inner.Answer.{AreSmall, AreSmallAt}
+use Rattle.crn_document.proofs.Prelude.{◌≡◌, ◌≤◌, ◌<◌, ◌^◌, ◌++◌, ◌∙◌, ℕ, List, [], ◌∷◌, map, refl, sym, subst, ap, inl, inr, arith, ℤ, pos, negsuc, nat_abs, AllByRecursion, ints, append-nil, Test, FailsFirst, Record, Field, Takes, AreNarrow, AreOf, AreBetween, Fits, small, small_form, AreSmall, AreSmallAt}
 
 -- ---- numbers
 

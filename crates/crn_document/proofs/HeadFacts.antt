@@ -1,29 +1,5 @@
 -- What the form of a head says of its numbers, of the records below it and of the answer.
-use Rattle.std.proofs.Common.{◌≡◌, ◌≤◌, ◌<◌, ◌+◌, ◌^◌, ◌⊎◌, ◌++◌, ◌∙◌, ℕ, zero, suc, List, [], ◌∷◌, length, map, refl, sym, subst, ap, ap₂, arith}
-use Rattle.std.specs.Prelude.{ℤ, pos, nat_abs}
-use Rattle.std.specs.List.{AllZip, range_with_len}
-use Rattle.std.proofs.lemmas.List.{append-nil, length-map}
-use Rattle.std.proofs.lemmas.List.FromFn.{length-map-range_with_len}
-use Rattle.crn_vec.specs.Lists.{IsAscending}
-use Rattle.crn_vec.specs.Network.{Net, IsNetwork}
-use Rattle.crn_vec.specs.declared.limits.TheConstants.{MAX_COMPLEXES}
-use Rattle.crn_vec.proofs.CallerLemmas.{abs_back}
-use Rattle.crn_cert.specs.Formed.{HeadMayBe}
-use Rattle.crn_ctext.proofs.CallerLemmas.{zip_long, record_is}
-use Rattle.crn_cert.specs.Questions.{Earlier}
-use Rattle.crn_cert.specs.Data.{IsBasisOf}
-use Rattle.crn_cert.specs.Valid.{head_tests, row_tests, linkage, linkage_count, class_places, pair_places}
-use Rattle.crn_cert.specs.Ranges.{AreFrom}
-use Rattle.crn_ctext.specs.Records.{Record, Form, AreRising, Rising, Fits, AreOf}
-use Rattle.crn_ctext.specs.Kinds.{small, just, small_form}
-use Rattle.crn_ctext.specs.Blocks.{below}
-use Rattle.crn_ctext.specs.Documents.{IsOneOf}
-use Rattle.crn_ctext.specs.Meaning.{row, lists, pairs_of, sizes_of, shapes_of, proof_of}
-use Rattle.crn_check.specs.Facts.{asked}
-use Rattle.crn_document.specs.Inner.Answer.{AreSmall, AreSmallAt, verdict_of_head}
-use Rattle.crn_document.specs.Inner.Answers.{FitAnswer, proof_of_head}
-use Rattle.crn_document.specs.Inner.Blocks.{HeadHolds, forms_below, parts_after}
-use Rattle.crn_document.specs.Inner.Heads.{known_of, head_forms, tagged, class_count}
+use Rattle.crn_document.proofs.Prelude.{◌≡◌, ◌≤◌, ◌<◌, ◌+◌, ◌^◌, ◌⊎◌, ◌++◌, ◌∙◌, ℕ, zero, suc, List, [], ◌∷◌, length, map, refl, sym, subst, ap, ap₂, arith, ℤ, pos, nat_abs, AllZip, range_with_len, append-nil, length-map, length-map-range_with_len, IsAscending, Net, IsNetwork, MAX_COMPLEXES, abs_back, HeadMayBe, zip_long, record_is, Earlier, IsBasisOf, head_tests, row_tests, linkage, linkage_count, class_places, pair_places, AreFrom, Record, Form, AreRising, Rising, Fits, AreOf, small, just, small_form, below, IsOneOf, row, lists, pairs_of, sizes_of, shapes_of, proof_of, asked, AreSmall, AreSmallAt, verdict_of_head, FitAnswer, proof_of_head, HeadHolds, forms_below, parts_after, known_of, head_forms, tagged, class_count}
 use Rattle.crn_document.proofs.Fields.{Holds, PartsWithin, form_small, naturals, one_field, one_number, small_list}
 use Rattle.crn_document.proofs.Ranks.{AreRanks}
 

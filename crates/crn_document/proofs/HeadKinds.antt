@@ -1,18 +1,6 @@
 -- The kind of a head by its place, and verdicts by their kind.
-use Rattle.std.proofs.Common.{◌≡◌, ◌≤◌, ◌-◌, ◌++◌, ◌∙◌, ℕ, zero, suc, List, [], ◌∷◌, length, refl, sym, subst, ap, arith}
-use Rattle.std.specs.Prelude.{ℤ, slice_index_or}
-use Rattle.crn_vec.specs.Network.{Net}
-use Rattle.crn_cert.proofs.CallerLemmas.{tests_by_heads}
-use Rattle.crn_cert.specs.declared.answer.Verdict.{Verdict}
-use Rattle.crn_cert.specs.declared.head_kind.HeadKind.{HeadKind}
-use Rattle.crn_cert.specs.declared.head_kind.HeadKind.TheVariants.{Classes, Strong, Rank, Deficiency, Yes, YesWeak, YesVec, YesSignal, No, NoReaction, NoVec, NoNumber, NoTerminal, NoClass, NoSum, NoDependence, NoCycle, NoPair, NotRegular, OnlyZero, Plane, NotApplicable, Wide, Budget, Rests}
-use Rattle.crn_cert.specs.Heads.{bare}
-use Rattle.crn_cert.specs.Questions.{Earlier, Question}
-use Rattle.crn_cert.specs.Tests.{AllHold}
-use Rattle.crn_cert.specs.Valid.{head_tests}
-use Rattle.crn_cert.specs.Verdicts.{tight}
-use Rattle.crn_ctext.specs.Questions.{decided, kind_at, open_kinds}
-use Rattle.crn_ctext.specs.Meaning.{verdict_by}
+use Rattle.crn_document.proofs.Prelude.{◌≡◌, ◌≤◌, ◌-◌, ◌++◌, ◌∙◌, ℕ, zero, suc, List, [], ◌∷◌, length, refl, sym, subst, ap, arith, ℤ, slice_index_or, Net, tests_by_heads, Verdict, HeadKind, Classes, Strong, Rank, Deficiency, YesWeak, YesSignal, NoReaction, NoVec, NoNumber, NoTerminal, NoClass, NoSum, NoDependence, NoCycle, NoPair, NotRegular, OnlyZero, Plane, NotApplicable, Budget, Rests, bare, Earlier, Question, AllHold, head_tests, tight, decided, kind_at, open_kinds, verdict_by}
+use Rattle.crn_cert.specs.declared.head_kind.HeadKind.TheVariants.{Yes, YesVec, No, Wide}
 
 later_kind : (xs ys : List HeadKind) (i : ℕ) → length xs ≤ i → slice_index_or ys (i - length xs) Rests ≡ slice_index_or (xs ++ ys) i Rests
 later_kind [] ys i le = ap (λ (k : ℕ). slice_index_or ys k Rests) (omega arith)

@@ -1,16 +1,6 @@
 -- What the head of each question says, and on which sizes its forms rest.
-use Rattle.std.proofs.Common.{◌≡◌, ◌≤◌, ◌+◌, ◌++◌, ◌∙◌, ℕ, List, [], ◌∷◌, length, refl, sym, subst, ap, ap₂, inl, inr, arith}
-use Rattle.std.specs.Prelude.{Bool, true, false, ℤ, codes, min}
-use Rattle.crn_vec.specs.Network.{Net}
-use Rattle.crn_cert.specs.Questions.{Earlier, Q13}
-use Rattle.crn_ctext.specs.Records.{Record, Form, CountAndPart, ClassWide, Turn, TwoOf}
-use Rattle.crn_ctext.specs.Kinds.{small, just}
-use Rattle.crn_ctext.specs.Questions.{Sizes, heads, head, yes, no, no_by, none_by, wide, wide_signal, rests, spent, open_by}
-use Rattle.crn_ctext.specs.Expect.{question_of}
-use Rattle.crn_check.specs.Facts.{KeptFacts, asked}
-use Rattle.crn_check.specs.Check.{IsBuilt}
-use Rattle.crn_document.specs.Facts.{IsKnownFor}
-use Rattle.crn_document.specs.Inner.Heads.{HasClassSizes, IsHead}
+use Rattle.crn_document.proofs.Prelude.{◌≡◌, ◌≤◌, ◌+◌, ◌++◌, ◌∙◌, ℕ, List, [], ◌∷◌, length, refl, sym, subst, ap, ap₂, inl, inr, arith, ℤ, codes, min, Net, Earlier, Q13, Record, Form, CountAndPart, ClassWide, Turn, TwoOf, small, just, Sizes, heads, head, yes, no, no_by, none_by, wide, wide_signal, rests, spent, open_by, question_of, KeptFacts, asked, IsBuilt, IsKnownFor, HasClassSizes, IsHead}
+use Rattle.std.specs.Prelude.{Bool, true, false}
 use Rattle.crn_document.proofs.Linkages.{count_few, pairs_known}
 use Rattle.crn_document.proofs.HeadFacts.{HeadFacts, FactsAt}
 use Rattle.crn_document.proofs.HeadsOfClasses.{by_linkage, by_strong, by_reversible, by_weak}

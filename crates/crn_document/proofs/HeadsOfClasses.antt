@@ -1,12 +1,5 @@
 -- What the heads of questions 1 to 4 say.
-use Rattle.std.proofs.Common.{◌≤◌, ◌-◌, ℕ, List, [], ◌∷◌, length, refl, inl, inr, arith}
-use Rattle.std.specs.Prelude.{pos, codes}
-use Rattle.crn_vec.specs.Network.{Net, IsNetwork}
-use Rattle.crn_ctext.proofs.CallerLemmas.{zip_long}
-use Rattle.crn_cert.specs.Questions.{Earlier}
-use Rattle.crn_ctext.specs.Records.{Record, Form, CountAndPart}
-use Rattle.crn_ctext.specs.Kinds.{small, small_form}
-use Rattle.crn_ctext.specs.Questions.{head, yes, no}
+use Rattle.crn_document.proofs.Prelude.{◌≤◌, ◌-◌, ℕ, List, [], ◌∷◌, length, refl, inl, inr, arith, pos, codes, Net, IsNetwork, zip_long, Earlier, Record, Form, CountAndPart, small, small_form, head, yes, no}
 use Rattle.crn_document.proofs.Fields.{one_field, one_number}
 use Rattle.crn_document.proofs.HeadFacts.{Facts, one_small, AreSmallForms, small_at, form_of, same_facts, as_form, FactsAt}
 

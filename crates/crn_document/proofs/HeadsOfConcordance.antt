@@ -1,13 +1,5 @@
 -- What the heads of questions 14 and 15 say.
-use Rattle.std.proofs.Common.{◌≡◌, ◌≤◌, ◌+◌, ℕ, List, [], ◌∷◌, length, refl, inl, inr, arith}
-use Rattle.std.specs.Prelude.{ℤ, pos, codes}
-use Rattle.crn_vec.specs.Network.{Net, IsNetwork}
-use Rattle.crn_vec.specs.declared.limits.TheConstants.{MAX_BUDGET}
-use Rattle.crn_ctext.proofs.CallerLemmas.{zip_long}
-use Rattle.crn_cert.specs.Questions.{Earlier}
-use Rattle.crn_ctext.specs.Records.{Record, Form, AreRising}
-use Rattle.crn_ctext.specs.Kinds.{small, free_form}
-use Rattle.crn_ctext.specs.Questions.{head, yes, no, wide, spent, open_by}
+use Rattle.crn_document.proofs.Prelude.{◌≡◌, ◌≤◌, ◌+◌, ℕ, List, [], ◌∷◌, length, refl, inl, inr, arith, ℤ, pos, codes, Net, IsNetwork, MAX_BUDGET, zip_long, Earlier, Record, Form, AreRising, small, free_form, head, yes, no, wide, spent, open_by}
 use Rattle.crn_document.proofs.Fields.{one_field, one_number}
 use Rattle.crn_document.proofs.HeadFacts.{Facts, one_small, wide_numbers, wide_small, wide_basis, same_facts, as_form, FactsAt}
 

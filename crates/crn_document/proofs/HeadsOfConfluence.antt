@@ -1,26 +1,5 @@
 -- What the heads of questions 11 and 12 say.
-use Rattle.std.proofs.Common.{◌≡◌, ◌≢◌, ◌≤◌, ◌<◌, ◌+◌, ◌-◌, ◌^◌, ◌++◌, ◌∙◌, ℕ, suc, List, [], ◌∷◌, drop, length, map, replicate, refl, sym, subst, ap, ap₂, inl, inr, arith}
-use Rattle.std.specs.Prelude.{ℤ, pos, codes, slice_index_or}
-use Rattle.std.specs.List.{AllZip}
-use Rattle.std.proofs.lemmas.Int.{ints}
-use Rattle.std.proofs.lemmas.List.{append-nil, length-map, length-replicate}
-use Rattle.crn_vec.specs.Network.{Net, IsNetwork}
-use Rattle.crn_vec.specs.declared.limits.TheConstants.{MAX_COMPLEXES}
-use Rattle.crn_ctext.proofs.CallerLemmas.{zip_long}
-use Rattle.crn_cert.specs.Questions.{Earlier}
-use Rattle.crn_cert.specs.Valid.{linkage, linkage_count, pair_places, side_tests}
-use Rattle.crn_cert.specs.ConfluenceTests.{tie_tests}
-use Rattle.crn_cert.specs.Ranges.{AreFree, AreFreeRows}
-use Rattle.crn_ctext.specs.Records.{Record, Form, AreRising, Several, TwoOf, Fits, AreBetween}
-use Rattle.crn_ctext.specs.Kinds.{small, just, record_form, free_form}
-use Rattle.crn_ctext.specs.Questions.{Sizes, head, yes, no_by, none_by, wide, rests, open_by, side_form, later_numbers}
-use Rattle.crn_ctext.specs.Meaning.{lists, row, sizes_of}
-use Rattle.crn_document.specs.Inner.Answer.{AreSmall}
-use Rattle.crn_document.specs.Inner.Blocks.{forms_below}
-use Rattle.crn_document.specs.declared.rows.Row.{Row}
-use Rattle.crn_document.specs.declared.rows.Row.TheVariants.{Side, Tie}
-use Rattle.crn_document.specs.Inner.Records.{row_form}
-use Rattle.crn_document.specs.Inner.Heads.{known_of}
+use Rattle.crn_document.proofs.Prelude.{◌≡◌, ◌≢◌, ◌≤◌, ◌<◌, ◌+◌, ◌-◌, ◌^◌, ◌++◌, ◌∙◌, ℕ, suc, List, [], ◌∷◌, drop, length, map, replicate, refl, sym, subst, ap, ap₂, inl, inr, arith, ℤ, pos, codes, slice_index_or, AllZip, ints, append-nil, length-map, length-replicate, Net, IsNetwork, MAX_COMPLEXES, zip_long, Earlier, linkage, linkage_count, pair_places, side_tests, tie_tests, AreFree, AreFreeRows, Record, Form, AreRising, Several, TwoOf, Fits, AreBetween, small, just, record_form, free_form, Sizes, head, yes, no_by, none_by, wide, rests, open_by, side_form, later_numbers, lists, row, sizes_of, AreSmall, forms_below, Row, Side, Tie, row_form, known_of}
 use Rattle.crn_document.proofs.Fields.{PartsWithin, one_field, one_number, small_list}
 use Rattle.crn_document.proofs.Ranks.{drop_none, free_row, free_rows, map_replicate}
 use Rattle.crn_document.proofs.HeadFacts.{Facts, one_small, IsWide, wide_numbers, wide_small, wide_basis, counts_long, ArePairs, same_facts, as_form, FactsAt, class_and_number}

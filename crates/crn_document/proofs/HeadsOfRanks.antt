@@ -1,32 +1,6 @@
 -- What the heads of questions 5 and 6 say.
-use Rattle.std.proofs.Common.{◌≡◌, ◌≤◌, ◌<◌, ◌+◌, ◌++◌, ◌∙◌, ℕ, zero, suc, List, [], ◌∷◌, length, map, refl, sym, subst, ap, ap₂, inl, inr, arith}
-use Rattle.std.specs.Prelude.{ℤ, pos, negsuc, codes, nat_abs, min, slice_index}
-use Rattle.std.specs.List.{AllZip, range_with_len}
-use Rattle.std.proofs.lemmas.Int.{ints}
-use Rattle.std.proofs.lemmas.List.{append-nil, length-map}
-use Rattle.std.proofs.lemmas.List.FromFn.{length-range_with_len}
-use Rattle.crn_vec.specs.Lists.{IsIn}
-use Rattle.crn_vec.specs.Deficiency.{class_members}
-use Rattle.crn_cert.specs.declared.answer.Gap.TheVariants.{Wide}
-use Rattle.crn_cert.specs.declared.answer.Verdict.TheVariants.{Deficiency, Unknown}
-use Rattle.crn_cert.specs.declared.answer.Proof.TheVariants.{Ranks}
-use Rattle.crn_cert.specs.declared.answer.RankProof.{RankProof}
-use Rattle.crn_vec.specs.Network.{Net, IsNetwork}
-use Rattle.crn_vec.specs.declared.limits.TheConstants.{MAX_COMPLEXES, MAX_REACTIONS}
-use Rattle.crn_cert.specs.Formed.{HeadMayBe}
-use Rattle.crn_ctext.proofs.CallerLemmas.{zip_long}
-use Rattle.crn_cert.specs.Questions.{Earlier, Q6}
-use Rattle.crn_cert.specs.Valid.{linkage, linkage_count, class_places, class_rank_tests}
-use Rattle.crn_ctext.specs.Records.{Record, Form, AreRising, ClassWide, Fits, AreOf, AreBetween}
-use Rattle.crn_ctext.specs.Kinds.{small, just}
-use Rattle.crn_ctext.specs.Questions.{Sizes, head, wide, rests, open_by, class_forms, rank_forms}
-use Rattle.crn_ctext.specs.Meaning.{lengths, nums, lists, sizes_of, shapes_of, class_proofs}
-use Rattle.crn_document.specs.Inner.Answers.{part_proofs}
-use Rattle.crn_document.specs.Inner.Parts.{class_parts}
-use Rattle.crn_document.specs.Inner.Blocks.{forms_below}
-use Rattle.crn_document.specs.declared.rows.Row.{Row}
-use Rattle.crn_document.specs.Inner.Records.{part_rows, row_form}
-use Rattle.crn_document.specs.Inner.Heads.{known_of}
+use Rattle.crn_document.proofs.Prelude.{◌≡◌, ◌≤◌, ◌<◌, ◌+◌, ◌++◌, ◌∙◌, ℕ, zero, suc, List, [], ◌∷◌, length, map, refl, sym, subst, ap, ap₂, inl, inr, arith, ℤ, pos, negsuc, codes, nat_abs, min, slice_index, AllZip, range_with_len, ints, append-nil, length-map, length-range_with_len, IsIn, class_members, Wide, Unknown, Ranks, RankProof, Net, IsNetwork, MAX_COMPLEXES, MAX_REACTIONS, HeadMayBe, zip_long, Earlier, Q6, linkage, linkage_count, class_places, class_rank_tests, Record, Form, AreRising, ClassWide, Fits, AreOf, AreBetween, small, just, Sizes, head, wide, rests, open_by, class_forms, rank_forms, lengths, nums, lists, sizes_of, shapes_of, class_proofs, part_proofs, class_parts, forms_below, Row, part_rows, row_form, known_of}
+use Rattle.crn_cert.specs.declared.answer.Verdict.TheVariants.{Deficiency}
 use Rattle.crn_document.proofs.Fields.{Holds, PartsWithin, naturals, one_field, one_number, small_list}
 use Rattle.crn_document.proofs.Linkages.{members_all, members_few, member_few}
 use Rattle.crn_document.proofs.Ranks.{class_fit, class_ranks, class_formed, class_parts_within, class_proofs_are, class_rows_are, forms_from, members_are, proofs_from, rank_formed, rank_length, rank_parts, rank_rows_are, rank_small, sizes_are}

@@ -1,27 +1,7 @@
 -- What the head of question 13 says.
-use Rattle.std.proofs.Common.{◌≡◌, ◌≤◌, ◌<◌, ◌+◌, ◌^◌, ◌++◌, ◌∙◌, ℕ, List, [], ◌∷◌, length, map, refl, sym, subst, ap, inl, inr, arith}
-use Rattle.std.specs.Prelude.{ℤ, pos, negsuc, codes, nat_abs}
-use Rattle.crn_vec.specs.Lists.{IsIn}
-use Rattle.crn_vec.specs.Network.{Net, IsNetwork}
-use Rattle.crn_vec.specs.declared.limits.TheConstants.{MAX_BUDGET}
-use Rattle.crn_cert.specs.Questions.{Earlier}
-use Rattle.crn_cert.specs.Valid.{pair_places}
-use Rattle.crn_ctext.specs.Records.{Record, Form, AreRising, Fits}
-use Rattle.crn_ctext.specs.Kinds.{small, just, record_form, free_form}
-use Rattle.crn_ctext.specs.Questions.{Sizes, head, yes, no, wide, rests, spent, open_by}
-use Rattle.crn_ctext.specs.Meaning.{lists, pairs_of, proof_by, ranks_of, sizes_of, shapes_of}
-use Rattle.crn_document.specs.Inner.Heads.{known_of, head_forms}
+use Rattle.crn_document.proofs.Prelude.{◌≡◌, ◌≤◌, ◌<◌, ◌+◌, ◌^◌, ◌++◌, ◌∙◌, ℕ, List, [], ◌∷◌, length, map, refl, sym, subst, ap, inl, inr, arith, ℤ, pos, negsuc, codes, nat_abs, IsIn, Net, IsNetwork, MAX_BUDGET, Earlier, pair_places, Record, Form, AreRising, Fits, small, just, record_form, free_form, Sizes, head, yes, no, wide, rests, spent, open_by, lists, pairs_of, proof_by, ranks_of, sizes_of, shapes_of, known_of, head_forms, Bool, true, false, IsWideGap, zip_long, spent_place, rests_place, turn_is, IsTurn, Q2, Q12, Q13, on, terminal_of, Small, Turn, kind_at, rows, wide_signal, place_of, has_vector}
 use Rattle.crn_document.proofs.Fields.{Holds, one_field, one_number}
 use Rattle.crn_document.proofs.HeadFacts.{Facts, one_small, wide_numbers, wide_small, wide_basis, same_facts, as_form, FactsAt, HeadFacts, head_with, FactsOf, ArePairs, IsWide}
-use Rattle.std.proofs.Common.{Bool, true, false}
-use Rattle.crn_cert.specs.Formed.{IsWideGap}
-use Rattle.crn_ctext.proofs.CallerLemmas.{zip_long, spent_place, rests_place, turn_is}
-use Rattle.crn_cert.specs.Says.{IsTurn}
-use Rattle.crn_cert.specs.Questions.{Q2, Q12, Q13, on, terminal_of}
-use Rattle.crn_ctext.specs.Records.{Small, Turn}
-use Rattle.crn_ctext.specs.Questions.{kind_at, rows, wide_signal}
-use Rattle.crn_ctext.specs.Blocks.{place_of}
-use Rattle.crn_ctext.specs.Meaning.{has_vector}
 use Rattle.crn_document.proofs.Linkages.{pairs_few}
 
 -- ---- a signal

@@ -1,15 +1,5 @@
 -- What the heads of questions 9 and 10 say.
-use Rattle.std.proofs.Common.{◌≡◌, ◌≤◌, ◌∙◌, ℕ, zero, suc, [], ◌∷◌, length, refl, ap, inl, inr, arith}
-use Rattle.std.specs.Prelude.{pos, codes}
-use Rattle.crn_vec.specs.Network.{Net, IsNetwork}
-use Rattle.crn_vec.specs.declared.limits.TheConstants.{MAX_COMPLEXES}
-use Rattle.crn_cert.specs.Questions.{Earlier}
-use Rattle.crn_cert.specs.Valid.{linkage_count}
-use Rattle.crn_ctext.specs.Records.{Record}
-use Rattle.crn_ctext.specs.Kinds.{small, just}
-use Rattle.crn_ctext.specs.Questions.{head, yes, no, no_by, rests, open_by}
-use Rattle.crn_ctext.specs.Meaning.{sizes_of}
-use Rattle.crn_document.specs.Inner.Heads.{known_of}
+use Rattle.crn_document.proofs.Prelude.{◌≡◌, ◌≤◌, ◌∙◌, ℕ, zero, suc, [], ◌∷◌, length, refl, ap, inl, inr, arith, pos, codes, Net, IsNetwork, MAX_COMPLEXES, Earlier, linkage_count, Record, small, just, head, yes, no, no_by, rests, open_by, sizes_of, known_of}
 use Rattle.crn_document.proofs.Fields.{one_field, one_number}
 use Rattle.crn_document.proofs.HeadFacts.{Facts, one_small, same_facts, as_form, FactsAt, class_and_number}
 

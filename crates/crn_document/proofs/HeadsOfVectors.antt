@@ -1,10 +1,5 @@
 -- What the heads of questions 7 and 8 say.
-use Rattle.std.proofs.Common.{◌≡◌, ◌≤◌, ◌+◌, ℕ, List, [], ◌∷◌, length, refl, inl, inr, arith}
-use Rattle.std.specs.Prelude.{ℤ, pos, codes}
-use Rattle.crn_vec.specs.Network.{Net, IsNetwork}
-use Rattle.crn_cert.specs.Questions.{Earlier}
-use Rattle.crn_ctext.specs.Records.{Record, AreRising}
-use Rattle.crn_ctext.specs.Questions.{head, yes, no, wide, open_by}
+use Rattle.crn_document.proofs.Prelude.{◌≡◌, ◌≤◌, ◌+◌, ℕ, List, [], ◌∷◌, length, refl, inl, inr, arith, ℤ, pos, codes, Net, IsNetwork, Earlier, Record, AreRising, head, yes, no, wide, open_by}
 use Rattle.crn_document.proofs.HeadFacts.{Facts, wide_numbers, wide_small, wide_basis, same_facts, as_form, FactsAt}
 
 dependence_wide_facts : (net : Net) (earlier : Earlier) (index : ℕ) (basis : List ℤ) → IsNetwork net → 1 ≤ index → index ≤ length net.reactions + length net.names → length basis ≡ length net.reactions → AreRising (length net.reactions + length net.names) basis → Facts net earlier 7 (codes "q7" ∷ open_by (codes "wide")) (pos 2 ∷ pos 0 ∷ pos index ∷ basis)

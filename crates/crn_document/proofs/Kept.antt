@@ -1,28 +1,7 @@
 -- What is kept after a block: the sides of question 11, and with which verdicts.
-use Rattle.std.proofs.Common.{w32, to_z, of_z, ◌≡◌, ◌∙◌, ◌<◌, ◌≤◌, ◌==◌, ◌++◌, ℕ, Bool, false, if◌then◌else◌, List, [], ◌∷◌, refl, sym, ap, subst, inl, inr, arith}
-use Rattle.std.specs.Prelude.{ℤ}
-use Rattle.std.specs.List.{AllByRecursion}
-use Rattle.std.specs.Option.{IsSome}
-use Rattle.std.proofs.lemmas.Bool.{cases_eq, eq-eqb, ne_eqb}
-use Rattle.crn_vec.specs.Kept.{KeptInts}
-use Rattle.crn_vec.specs.Network.{Net}
-use Rattle.crn_cert.specs.declared.answer.Answer.{Answer}
-use Rattle.crn_cert.specs.declared.answer.Proof.{Proof}
-use Rattle.crn_cert.specs.declared.answer.Proof.TheVariants.{Sides}
-use Rattle.crn_cert.specs.declared.answer.Verdict.{Verdict}
-use Rattle.crn_cert.specs.declared.answer.Verdict.TheVariants.{NotApplicable, Yes, YesSignal, YesVec}
-use Rattle.crn_cert.specs.Questions.{Earlier, Question, Q11, Q12, IsYes, number, on, vector_given}
-use Rattle.crn_cert.specs.Formed.{HeadMayBe, IsFormed, IsFormedOf}
-use Rattle.crn_cert.specs.FormedVerdicts.{IsFormedVerdict}
-use Rattle.crn_cert.specs.Says.{IsTurn}
-use Rattle.crn_cert.specs.Tests.{AllHold}
-use Rattle.crn_cert.specs.Valid.{HasVector, confluence_head, head_tests, tests_of}
-use Rattle.crn_check.specs.Check.{AsksForTree, HoldsNeeds, HoldsNoSignal, IsBuilt, shown_by_tree}
-use Rattle.crn_check.specs.Facts.{KeptFacts, asked}
-use Rattle.crn_check.proofs.CallerLemmas.{formed_on, sides_of_answer}
-use Rattle.crn_shape.specs.Sides.{AreSides}
-use Rattle.crn_document.specs.Inner.Blocks.{KeepSides}
-use Rattle.crn_document.specs.Facts.{IsKnownFor}
+use Rattle.crn_document.proofs.Prelude.{w32, to_z, of_z, ◌≡◌, ◌∙◌, ◌<◌, ◌≤◌, ◌==◌, ◌++◌, ℕ, Bool, false, List, [], ◌∷◌, refl, sym, ap, subst, inl, inr, arith, ℤ, AllByRecursion, IsSome, cases_eq, eq-eqb, ne_eqb, KeptInts, Net, Answer, Proof, Sides, Verdict, Yes, YesVec, Earlier, Question, Q11, Q12, IsYes, number, on, vector_given, HeadMayBe, IsFormed, IsFormedOf, IsFormedVerdict, IsTurn, AllHold, HasVector, confluence_head, head_tests, tests_of, AsksForTree, HoldsNeeds, HoldsNoSignal, IsBuilt, shown_by_tree, KeptFacts, asked, formed_on, sides_of_answer, AreSides, KeepSides, IsKnownFor}
+use Rattle.std.proofs.Common.{if◌then◌else◌}
+use Rattle.crn_cert.specs.declared.answer.Verdict.TheVariants.{NotApplicable, YesSignal}
 
 -- ---- the verdict on a question after one more
 

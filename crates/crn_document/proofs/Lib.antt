@@ -31,3 +31,4 @@ mod SignalTrees
 mod Kept
 mod Digits
 mod Naming
+mod Prelude

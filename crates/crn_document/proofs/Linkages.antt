@@ -1,36 +1,9 @@
 -- The linkage classes that are known before a block, by the verdicts on all questions before it.
-use Rattle.std.proofs.Common.{◌≡◌, ◌≤◌, ◌+◌, ◌-◌, ◌++◌, ◌∙◌, ℕ, zero, suc, Bool, List, [], ◌∷◌, length, map, drop, take, refl, sym, subst, ap, inl, inr, arith}
-use Rattle.std.specs.Prelude.{codes, filter, replicate, ◌&&◌, ◌⊎◌}
-use Rattle.std.proofs.Common.{ap₂, append_assoc, Result, Ok, Err, OnOk, Bor}
-use Rattle.std.specs.List.{AllByRecursion, range_with_len}
-use Rattle.std.proofs.lemmas.List.Elements.{filter-append}
-use Rattle.std.proofs.lemmas.List.FromFn.{length-range_with_len, length-map-range_with_len}
-use Rattle.std.proofs.lemmas.List.{length-replicate}
-use Rattle.crn_vec.specs.Lists.{IsIn, IsAscending}
-use Rattle.crn_vec.specs.Network.{Net}
-use Rattle.crn_vec.specs.declared.limits.TheConstants.{MAX_COMPLEXES, MAX_REACTIONS}
-use Rattle.crn_vec.proofs.CallerLemmas.{filter_few, above_ascending, filter_above, range_above, filter_from, range_bounds, all_from, range_more}
-use Rattle.crn_cert.specs.declared.answer.Gap.TheVariants.{Wide, Budget, Rests}
-use Rattle.crn_cert.specs.declared.answer.Verdict.{Verdict}
-use Rattle.crn_cert.specs.declared.answer.Verdict.TheVariants.{Classes, Strong, Unknown}
-use Rattle.crn_cert.specs.Built.{built}
-use Rattle.crn_cert.specs.Questions.{Earlier, Question, Q1, Q2, number, on, labels_of, count_of, terminal_of}
-use Rattle.crn_cert.specs.FormedVerdicts.{IsFormedVerdict}
-use Rattle.crn_cert.proofs.CallerLemmas.{some_number}
-use Rattle.crn_ctext.specs.Records.{Members}
-use Rattle.crn_ctext.specs.Kinds.{record_form}
-use Rattle.crn_ctext.specs.declared.expect.Due.TheVariants.{Base as DueBase}
-use Rattle.crn_check.specs.Facts.{KeptFacts, HoldsNoneFrom, HoldsOn}
-use Rattle.crn_check.specs.Check.{HoldsNeeds, IsBuilt}
-use Rattle.crn_check.proofs.CallerLemmas.{built_at, formed_on, terminal_few as terminal_fits}
-use Rattle.crn_document.specs.declared.linkage.Linkage.{Linkage}
-use Rattle.crn_document.specs.Facts.{IsKnownFor}
-use Rattle.crn_document.specs.Inner.Parts.{IsKnown, IsLinkage, before, class_counts, is_in_class, members_of}
-use Rattle.crn_document.specs.Inner.Heads.{FitsCounts, HasClassSizes, known_of}
+use Rattle.crn_document.proofs.Prelude.{◌≡◌, ◌≤◌, ◌+◌, ◌-◌, ◌++◌, ◌∙◌, ℕ, zero, suc, Bool, List, [], ◌∷◌, length, map, drop, take, refl, sym, subst, ap, inl, inr, arith, codes, filter, ap₂, append_assoc, Result, Ok, Err, OnOk, Bor, AllByRecursion, range_with_len, filter-append, length-range_with_len, length-map-range_with_len, length-replicate, IsIn, IsAscending, Net, MAX_COMPLEXES, MAX_REACTIONS, filter_few, above_ascending, filter_above, range_above, filter_from, range_bounds, all_from, range_more, Wide, Verdict, Unknown, built, Earlier, Question, Q1, Q2, number, on, labels_of, count_of, terminal_of, IsFormedVerdict, some_number, Members, record_form, DueBase, KeptFacts, HoldsNoneFrom, HoldsOn, HoldsNeeds, IsBuilt, built_at, formed_on, terminal_fits, Linkage, IsKnownFor, IsKnown, IsLinkage, before, class_counts, is_in_class, members_of, FitsCounts, HasClassSizes, known_of, IsOwnDue, ends_at, is_least_of_pair, is_within_terminal, linkage, linkage_count, class_places, pair_places, Known, lengths, pairs_by, pairs_of}
+use Rattle.std.specs.Prelude.{replicate, ◌&&◌, ◌⊎◌}
+use Rattle.crn_cert.specs.declared.answer.Gap.TheVariants.{Budget, Rests}
+use Rattle.crn_cert.specs.declared.answer.Verdict.TheVariants.{Classes, Strong}
 use Rattle.crn_document.proofs.Places.{place_of_built, needs_at, none_later}
-use Rattle.crn_document.specs.Inner.Records.{IsOwnDue}
-use Rattle.crn_cert.specs.Valid.{ends_at, is_least_of_pair, is_within_terminal, linkage, linkage_count, class_places, pair_places}
-use Rattle.crn_ctext.specs.Meaning.{Known, lengths, pairs_by, pairs_of}
 
 -- the number of classes and the labels that a verdict on linkage classes says
 linkage_fits : (net : Net) (e : Earlier) (v : Verdict) → IsFormedVerdict net e Q1 v → (length (labels_of v) ≤ length net.complexes) × (count_of v ≤ length net.complexes)

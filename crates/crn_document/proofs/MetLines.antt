@@ -1,37 +1,10 @@
 -- Lines of a tree that were met before are nodes that are due.
-use Rattle.std.proofs.Common.{◌≡◌, ◌<◌, ◌++◌, ◌∙◌, true, false, ℕ, Option, zero, suc, List, [], ◌∷◌, length, get_or, refl, sym, ap, subst, arith, Result}
-use Rattle.std.specs.Prelude.{ℤ, codes}
-use Rattle.std.proofs.lemmas.List.{length-append}
-use Rattle.std.proofs.Math.Seq.{get_or-append_seam}
-use Rattle.crn_vec.specs.declared.signs.Sign.{Sign}
-use Rattle.crn_vec.specs.Network.{Net}
-use Rattle.crn_vec.specs.Problems.{Signed}
-use Rattle.crn_io.specs.Lines.{Place}
-use Rattle.crn_cert.specs.Nodes.{Said, Splits, Flats, CutsA, CutsB}
-use Rattle.crn_ctext.specs.Kinds.{known_words, tree_words}
-use Rattle.crn_ctext.specs.Records.{Record}
-use Rattle.crn_io.specs.Next.{KeptLines}
-use Rattle.crn_ctext.specs.Course.{Gives, due}
-use Rattle.crn_ctext.specs.Steps.{StepGives}
-use Rattle.crn_ctext.specs.Blocks.{CutA, CutB}
-use Rattle.crn_ctext.specs.Expect.{IsReadAs, forms_of, is_after, misplaced, tests_of, text_of}
-use Rattle.crn_ctext.specs.declared.word.Word.{Word}
+use Rattle.crn_document.proofs.Prelude.{◌≡◌, ◌<◌, ◌++◌, ◌∙◌, true, false, ℕ, Option, zero, suc, List, [], ◌∷◌, length, get_or, refl, sym, ap, subst, arith, Result, ℤ, codes, length-append, get_or-append_seam, Sign, Net, Signed, Place, Said, Splits, Flats, CutsA, CutsB, known_words, tree_words, Record, KeptLines, Gives, due, StepGives, CutA, CutB, IsReadAs, forms_of, is_after, misplaced, text_of, Word, Expect, step_then, NodeGives, KeptCut, TreeProblem, Step, TreeFault, MetLine, NodeLine, Read, AreMet, IsCutOf, IsNodeLineAs, IsMet, IsMetAt, IsDueNodeLine, SaysPlainly, plain_node, ExpectsNode, IsSaidAs, JudgeGives, asks_node_for, reads_one, tests_give}
+use Rattle.crn_ctext.specs.Expect.{tests_of}
 use Rattle.crn_ctext.specs.declared.word.Word.TheVariants as words
-use Rattle.crn_ctext.specs.declared.expect.Expect.{Expect}
-use Rattle.crn_ctext.proofs.CallerLemmas.{step_then}
-use Rattle.crn_ctree.specs.Gives.{NodeGives}
-use Rattle.crn_ctree.specs.Known.{KeptCut}
-use Rattle.crn_ctree.specs.declared.problem.Problem.{Problem as TreeProblem}
-use Rattle.crn_ctree.specs.declared.node.Step.{Step}
-use Rattle.crn_ctree.specs.declared.fault.TreeFault.{TreeFault}
-use Rattle.crn_document.specs.declared.met.MetLine.{MetLine}
-use Rattle.crn_document.specs.declared.node.NodeLine.{NodeLine}
-use Rattle.crn_document.specs.declared.node.NodeLine.TheVariants.{Known, Read}
-use Rattle.crn_document.specs.Inner.Met.{AreMet, IsCutOf, IsNodeLineAs, IsMet, IsMetAt, IsDueNodeLine, SaysPlainly, plain_node}
-use Rattle.crn_document.specs.Inner.Trees.{ExpectsNode, IsSaidAs, JudgeGives, asks_node_for}
+use Rattle.crn_document.specs.declared.node.NodeLine.TheVariants.{Known}
 use Rattle.crn_document.proofs.NodeRecords.{node_said}
 use Rattle.crn_document.proofs.NodeWords.{node_is}
-use Rattle.crn_reading.proofs.CallerLemmas.{reads_one, tests_give}
 
 -- ---- a line that is met
 

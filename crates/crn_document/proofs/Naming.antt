@@ -1,22 +1,8 @@
 -- Lines that are splits, or name shared lists.
-use Rattle.std.proofs.Common.{◌≡◌, ◌≤◌, ◌<◌, ◌^◌, ◌++◌, ℕ, List, [], ◌∷◌, inl, inr, false, refl, sym, ap, subst, arith}
-use Rattle.std.specs.Prelude.{pos, codes, decimal}
-use Rattle.std.proofs.lemmas.Int.{ints}
-use Rattle.crn_vec.specs.Lists.{IsIn}
-use Rattle.crn_io.specs.Lines.{Place}
-use Rattle.crn_vec.proofs.CallerLemmas.{in_right}
-use Rattle.crn_ctext.specs.Records.{Record, AreBetween, BeginsWith, Fits, IsShaped, Says, record_text}
-use Rattle.crn_ctext.specs.Kinds.{head_words, row_words, known_words, node_forms, record_form, small_form, tree_words}
-use Rattle.crn_ctext.specs.Course.{Gives}
-use Rattle.crn_ctext.specs.Blocks.{reads}
-use Rattle.crn_ctext.specs.Expect.{IsReadAs, due_forms, is_after, misplaced, sizes_of, tag_of, tests_of}
-use Rattle.crn_ctext.specs.declared.expect.Due.{Due}
+use Rattle.crn_document.proofs.Prelude.{◌≡◌, ◌≤◌, ◌<◌, ◌^◌, ◌++◌, ℕ, List, [], ◌∷◌, inl, inr, false, refl, sym, ap, subst, arith, pos, codes, decimal, ints, IsIn, Place, in_right, Record, AreBetween, BeginsWith, Fits, IsShaped, Says, record_text, head_words, row_words, known_words, node_forms, record_form, small_form, tree_words, Gives, reads, IsReadAs, due_forms, is_after, misplaced, tag_of, Due, Expect, AreShort, split_known, text_says, HasNodeDue, NamesTo, TreeEndsEarly}
+use Rattle.crn_ctext.specs.Expect.{sizes_of, tests_of}
 use Rattle.crn_ctext.specs.declared.expect.Due.TheVariants as due_kinds
-use Rattle.crn_ctext.specs.declared.expect.Expect.{Expect}
 use Rattle.crn_ctext.specs.declared.word.Word.TheVariants as words
-use Rattle.crn_ctext.proofs.CallerLemmas.{AreShort, split_known, text_says}
-use Rattle.crn_document.specs.Inner.Trees.{HasNodeDue, NamesTo}
-use Rattle.crn_cert.specs.Faults.{TreeEndsEarly}
 
 -- ---- the record
 

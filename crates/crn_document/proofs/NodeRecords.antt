@@ -1,42 +1,8 @@
 -- Records of nodes, and the tests of nodes.
-use Rattle.std.proofs.Common.{◌≡◌, ◌++◌, ◌∙◌, ℕ, Bool, true, false, List, length, map, refl, sym, ap, subst, inl, inr, arith, Ok, Err, Option}
-use Rattle.std.specs.Prelude.{ℤ}
-use Rattle.std.proofs.lemmas.List.{length-append, length-map}
-use Rattle.crn_vec.specs.declared.signs.Sign.{Sign}
-use Rattle.crn_vec.specs.Network.{Net}
-use Rattle.crn_vec.specs.Signals.{complex_row, pair_row}
-use Rattle.crn_vec.proofs.CallerLemmas.{rows_count}
-use Rattle.crn_io.specs.Lines.{Place}
-use Rattle.crn_io.specs.Next.{KeptLines}
-use Rattle.crn_cert.specs.Nodes.{AreNumbersFor, Splits, Flats, CutsA, CutsB}
-use Rattle.crn_cert.specs.Ranges.{AreFree}
-use Rattle.crn_ctree.proofs.CallerLemmas.{free_a, free_shape}
-use Rattle.crn_ctext.specs.Records.{Record, Form}
-use Rattle.crn_ctext.specs.Kinds.{node_forms}
-use Rattle.crn_ctext.specs.Course.{Course, Give, ◌>>=◌, due, Gives, FailsFirst}
-use Rattle.crn_ctext.specs.Blocks.{Problem, Node, Split, Flat, CutA, CutB, asks_leaf, asks_node, node_of, reads}
-use Rattle.crn_ctext.specs.Documents.{IsOneOf}
-use Rattle.crn_ctext.specs.Expect.{is_after, misplaced, sizes_of, tag_of, due_forms}
-use Rattle.crn_ctext.specs.declared.expect.Due.{Due}
-use Rattle.crn_ctext.specs.declared.expect.Expect.{Expect}
-use Rattle.crn_ctext.specs.declared.word.Word.{Word}
-use Rattle.crn_ctext.specs.Steps.{StepGives, StepFails}
-use Rattle.crn_ctext.proofs.CallerLemmas.{gives_then, fails_before, step_then, step_fails_then}
-use Rattle.crn_ctree.specs.Gives.{IsTaken, NodeGives, code_of}
-use Rattle.crn_ctree.specs.Due.{first, rest}
-use Rattle.crn_ctree.specs.Problem.{problem_of}
-use Rattle.crn_ctree.specs.declared.problem.Problem.{Problem as TreeProblem}
-use Rattle.crn_ctree.specs.declared.problem.Problem.TheVariants.{Concordance, Signals}
-use Rattle.crn_ctree.specs.declared.node.Step.{Step}
-use Rattle.crn_ctree.specs.declared.node.Step.TheVariants.{More, Complete}
-use Rattle.crn_ctree.specs.declared.fault.TreeFault.{TreeFault}
-use Rattle.crn_ctree.specs.declared.fault.TreeFault.TheVariants.{BadLeaf, NodeNotAllowed, TreeEndsEarly, WrongShape}
-use Rattle.crn_io.specs.Device.{SourceSeen}
-use Rattle.crn_reading.specs.declared.reading.Reading.{Reading}
-use Rattle.crn_reading.specs.declared.fault.CheckStop.{CheckStop}
-use Rattle.crn_reading.specs.Steps.{CanRead, StopIs}
-use Rattle.crn_document.specs.Inner.Trees.{ExpectsNode, IsNode, IsSaidAs, JudgeGives, Leaves, TakesSome, after_node, asks_node_for, asks_one, choices_in, count_a, node_test, problem_in}
-use Rattle.crn_reading.proofs.CallerLemmas.{stop_first, tests_fail, tests_give}
+use Rattle.crn_document.proofs.Prelude.{◌≡◌, ◌++◌, ◌∙◌, ℕ, Bool, true, false, List, length, map, refl, sym, ap, subst, inl, inr, arith, Ok, Err, Option, ℤ, length-append, length-map, Sign, Net, complex_row, pair_row, rows_count, Place, KeptLines, AreNumbersFor, Splits, Flats, CutsA, CutsB, AreFree, free_a, free_shape, Record, Form, node_forms, Course, Give, ◌>>=◌, due, Gives, Problem, Node, Split, Flat, CutA, CutB, asks_leaf, asks_node, node_of, reads, IsOneOf, is_after, misplaced, tag_of, due_forms, Due, Expect, Word, StepGives, StepFails, gives_then, fails_before, step_then, step_fails_then, IsTaken, NodeGives, code_of, first, rest, problem_of, TreeProblem, Concordance, Signals, Step, More, Complete, TreeFault, BadLeaf, WrongShape, SourceSeen, Reading, CheckStop, CanRead, StopIs, ExpectsNode, IsNode, IsSaidAs, JudgeGives, Leaves, TakesSome, after_node, asks_node_for, asks_one, choices_in, count_a, node_test, problem_in, stop_first, tests_fail, tests_give}
+use Rattle.crn_ctext.specs.Course.{FailsFirst}
+use Rattle.crn_ctext.specs.Expect.{sizes_of}
+use Rattle.crn_ctree.specs.declared.fault.TreeFault.TheVariants.{NodeNotAllowed, TreeEndsEarly}
 use Rattle.crn_cert.specs.Faults as kinds
 
 -- ---- the node that is due

@@ -1,24 +1,7 @@
 -- The words and numbers of nodes, and what the check of a tree requires of them.
-use Rattle.std.proofs.Common.{◌≡◌, ◌⊎◌, ◌==◌, ◌≤◌, ◌<◌, ◌-◌, ◌^◌, ◌∙◌, ℕ, Bool, true, false, if◌then◌else◌, List, [], ◌∷◌, refl, sym, ap, subst, inl, inr, arith, Result}
-use Rattle.std.specs.Prelude.{ℤ, pos, codes, slice_index_or}
-use Rattle.std.specs.Str.{bytes_eq}
-use Rattle.std.proofs.lemmas.Slice.Eq.{bytes_eq-Decides}
-use Rattle.crn_vec.specs.Lists.{IsIn}
-use Rattle.crn_vec.specs.declared.signs.Sign.{Sign}
-use Rattle.crn_vec.specs.Problems.{Signed}
-use Rattle.crn_cert.specs.Ranges.{AreFree}
-use Rattle.crn_ctext.specs.Records.{Record, Form, Fits, kind_of}
-use Rattle.crn_ctext.specs.Kinds.{free_form, node_forms, record_form, small, small_form}
-use Rattle.crn_ctext.specs.Questions.{first_number}
-use Rattle.crn_ctext.specs.Blocks.{Node, Split, Flat, CutA, CutB, node_of, word_of}
-use Rattle.crn_ctext.specs.Documents.{IsOneOf}
-use Rattle.crn_ctext.specs.Expect.{text_of}
-use Rattle.crn_ctext.specs.declared.word.Word.{Word}
+use Rattle.crn_document.proofs.Prelude.{◌≡◌, ◌⊎◌, ◌==◌, ◌≤◌, ◌<◌, ◌-◌, ◌^◌, ◌∙◌, ℕ, Bool, true, false, List, [], ◌∷◌, refl, sym, ap, subst, inl, inr, arith, Result, ℤ, pos, codes, slice_index_or, bytes_eq, bytes_eq-Decides, IsIn, Sign, Signed, AreFree, Record, Form, Fits, kind_of, free_form, node_forms, record_form, small, small_form, first_number, Node, Split, Flat, CutA, CutB, node_of, word_of, IsOneOf, text_of, Word, Step, TreeFault, AreSmall, IsNode, JudgeGives}
+use Rattle.std.proofs.Common.{if◌then◌else◌}
 use Rattle.crn_ctext.specs.declared.word.Word.TheVariants as words
-use Rattle.crn_ctree.specs.declared.node.Step.{Step}
-use Rattle.crn_ctree.specs.declared.fault.TreeFault.{TreeFault}
-use Rattle.crn_document.specs.Inner.Answer.{AreSmall}
-use Rattle.crn_document.specs.Inner.Trees.{IsNode, JudgeGives}
 use Rattle.crn_document.proofs.Fields.{one_field, one_number}
 use Rattle.crn_document.proofs.Ranks.{free_row}
 

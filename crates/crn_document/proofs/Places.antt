@@ -1,14 +1,5 @@
 -- The questions that are answered, by their places among them.
-use Rattle.std.proofs.Common.{◌≡◌, ◌≤◌, ◌<◌, ◌-◌, ◌∙◌, ℕ, zero, suc, [], length, map, take, drop, refl, sym, subst, ap, inl, inr, arith}
-use Rattle.std.specs.Prelude.{slice_index_or}
-use Rattle.crn_cert.specs.declared.answer.Verdict.{Verdict}
-use Rattle.crn_cert.specs.Built.{built}
-use Rattle.crn_cert.specs.Questions.{Earlier, Question, Q1, number}
-use Rattle.crn_check.specs.Facts.{HoldsNoneFrom}
-use Rattle.crn_check.specs.Check.{HoldsNeeds, IsBuilt}
-use Rattle.crn_check.proofs.CallerLemmas.{built_at, needs_held, none_from}
-use Rattle.crn_document.specs.Inner.Parts.{before}
-use Rattle.crn_document.specs.Inner.Blocks.{IsAt}
+use Rattle.crn_document.proofs.Prelude.{◌≡◌, ◌≤◌, ◌<◌, ◌-◌, ◌∙◌, ℕ, zero, suc, [], length, map, take, drop, refl, sym, subst, ap, inl, inr, arith, slice_index_or, Verdict, built, Earlier, Question, Q1, number, HoldsNoneFrom, HoldsNeeds, IsBuilt, built_at, needs_held, none_from, before, IsAt}
 
 -- the question at each place
 pub at_place : (place : ℕ) → 1 ≤ place → place ≤ 15 → IsAt place (number (slice_index_or built (place - 1) Q1))

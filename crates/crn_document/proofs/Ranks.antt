@@ -1,33 +1,5 @@
 -- The records that prove ranks: their forms, the proofs that they are, and the places of their tests.
-use Rattle.std.proofs.Common.{◌≡◌, ◌≤◌, ◌<◌, ◌+◌, ◌-◌, ◌++◌, ◌∙◌, ℕ, zero, suc, Bool, true, false, cond, ◌==◌, List, [], ◌∷◌, length, map, take, drop, replicate, refl, sym, subst, ap, ap₂, append_assoc, arith}
-use Rattle.std.specs.Prelude.{ℤ, pos, codes, nat_abs, min, slice_index_or}
-use Rattle.std.specs.List.{AllByRecursion, AllZip, range_with_len, flat_map}
-use Rattle.std.proofs.lemmas.List.{length-map, map-append, length-replicate, length-append, drop-take, drop-drop}
-use Rattle.crn_vec.specs.Lists.{IsIn, IsAscending}
-use Rattle.crn_vec.specs.Kept.{KeptNums}
-use Rattle.crn_vec.specs.Network.{Net}
-use Rattle.crn_vec.specs.Deficiency.{class_members}
-use Rattle.crn_vec.specs.declared.limits.TheConstants.{MAX_COMPLEXES, MAX_REACTIONS}
-use Rattle.crn_vec.proofs.CallerLemmas.{abs_back, all_in}
-use Rattle.crn_ctext.proofs.CallerLemmas.{zip_long}
-use Rattle.crn_cert.specs.declared.answer.RankProof.{RankProof}
-use Rattle.crn_cert.specs.Questions.{Earlier}
-use Rattle.crn_cert.specs.Tests.{Test}
-use Rattle.crn_cert.specs.Ranges.{AreFree, AreFreeRows}
-use Rattle.crn_cert.specs.RankTests.{rank_tests, dual_tests, comb_tests}
-use Rattle.crn_cert.specs.Parts.{IsRankProof, AreClassProofs}
-use Rattle.crn_cert.specs.Valid.{linkage, class_places, class_rank_tests, AreClassNumbers}
-use Rattle.crn_ctext.specs.Records.{Record, Form, Fits, Free, Members}
-use Rattle.crn_ctext.specs.Kinds.{record_form, free_form}
-use Rattle.crn_ctext.specs.Questions.{Sizes, rank_forms, class_forms}
-use Rattle.crn_ctext.specs.Meaning.{lists, lengths, nums, rank_proof, class_proofs}
-use Rattle.crn_document.specs.declared.parts.Part.{Part}
-use Rattle.crn_document.specs.declared.rows.Row.{Row}
-use Rattle.crn_document.specs.declared.rows.Row.TheVariants.{Dual, Comb}
-use Rattle.crn_document.specs.Inner.Answer.{AreSmall}
-use Rattle.crn_document.specs.Inner.Answers.{part_proofs}
-use Rattle.crn_document.specs.Inner.Parts.{FitParts, class_part, class_parts, members_of}
-use Rattle.crn_document.specs.Inner.Records.{part_rows, row_form}
+use Rattle.crn_document.proofs.Prelude.{◌≡◌, ◌≤◌, ◌<◌, ◌+◌, ◌-◌, ◌++◌, ◌∙◌, ℕ, zero, suc, Bool, true, false, cond, ◌==◌, List, [], ◌∷◌, length, map, take, drop, replicate, refl, sym, subst, ap, ap₂, append_assoc, arith, ℤ, pos, codes, nat_abs, min, slice_index_or, AllByRecursion, AllZip, range_with_len, flat_map, length-map, map-append, length-replicate, length-append, drop-take, drop-drop, IsIn, IsAscending, KeptNums, Net, class_members, MAX_COMPLEXES, MAX_REACTIONS, abs_back, all_in, zip_long, RankProof, Earlier, Test, AreFree, AreFreeRows, rank_tests, dual_tests, comb_tests, IsRankProof, AreClassProofs, linkage, class_places, class_rank_tests, AreClassNumbers, Record, Form, Fits, Free, Members, record_form, free_form, Sizes, rank_forms, class_forms, lists, lengths, nums, rank_proof, class_proofs, Part, Row, Dual, Comb, AreSmall, part_proofs, FitParts, class_part, class_parts, members_of, part_rows, row_form}
 use Rattle.crn_document.proofs.Linkages.{member_few}
 use Rattle.crn_document.proofs.Fields.{PartsWithin, one_field}
 

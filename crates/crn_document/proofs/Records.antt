@@ -1,28 +1,7 @@
 -- What is due if a record is, in the words of a document's course.
-use Rattle.std.proofs.Common.{◌≡◌, ◌+◌, ◌++◌, ◌∙◌, ℕ, Bool, false, List, [], ◌∷◌, refl, sym, subst, ap, inl, inr, Result, Ok, append_assoc}
-use Rattle.std.proofs.lemmas.List.{append-nil}
-use Rattle.std.specs.List.{AllZip}
-use Rattle.std.specs.Prelude.{ℤ, pos, codes}
-use Rattle.crn_io.specs.Device.{SourceSeen}
-use Rattle.crn_ctext.specs.Records.{Record, Form, Fits, Several}
-use Rattle.crn_ctext.specs.Kinds.{just, record_form, small}
-use Rattle.crn_ctext.specs.Course.{Course, Give, due, ◌>>=◌}
-use Rattle.crn_ctext.specs.Blocks.{reads, asks, asks_all}
-use Rattle.crn_ctext.specs.Documents.{IsOneOf}
-use Rattle.crn_ctext.specs.Expect.{AreSizes, MayBeDue, due_forms, forms_of, is_after, misplaced, sizes_of, tag_of}
-use Rattle.crn_ctext.specs.Questions.{Sizes}
+use Rattle.crn_document.proofs.Prelude.{◌≡◌, ◌+◌, ◌++◌, ◌∙◌, ℕ, Bool, false, List, [], ◌∷◌, refl, sym, subst, ap, inl, inr, Result, Ok, append_assoc, append-nil, AllZip, ℤ, pos, codes, SourceSeen, Record, Form, Fits, Several, just, record_form, small, Course, Give, due, ◌>>=◌, reads, asks, asks_all, IsOneOf, AreSizes, MayBeDue, due_forms, forms_of, is_after, misplaced, tag_of, Sizes, Due, Expect, asks_for, IsSaid, Expects, IsOwnDue, IsPartDue, IsRowDue, IsRow, AreRows, StepGives, lists, Reading, CheckStop, IsVersion, StepIs, step_gives, step_then_is, step_map, Fault, WrongOrder}
+use Rattle.crn_ctext.specs.Expect.{sizes_of}
 use Rattle.crn_ctext.specs.declared.expect.Due.TheVariants as due_kinds
-use Rattle.crn_ctext.specs.declared.expect.Due.{Due}
-use Rattle.crn_ctext.specs.declared.expect.Expect.{Expect}
-use Rattle.crn_reading.specs.Records.{asks_for, IsSaid}
-use Rattle.crn_document.specs.Inner.Records.{Expects, IsOwnDue, IsPartDue, IsRowDue, IsRow, AreRows}
-use Rattle.crn_ctext.specs.Steps.{StepGives}
-use Rattle.crn_ctext.specs.Meaning.{lists}
-use Rattle.crn_reading.specs.declared.reading.Reading.{Reading}
-use Rattle.crn_reading.specs.declared.fault.CheckStop.{CheckStop}
-use Rattle.crn_reading.specs.Steps.{IsVersion, StepIs}
-use Rattle.crn_reading.proofs.CallerLemmas.{step_gives, step_then_is, step_map}
-use Rattle.crn_cert.specs.Faults.{Fault, WrongOrder}
 
 abbrev course_by : ℕ → ℕ → Bool → List Form → Fault → Course Record
 course_by version n after forms mis = due false >>= (λ line. reads version n after forms mis line)

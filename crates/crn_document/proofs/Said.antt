@@ -1,20 +1,5 @@
 -- What the blocks of a document say is what is known after them.
-use Rattle.std.proofs.Common.{◌≡◌, ◌+◌, ◌++◌, ◌∙◌, ℕ, false, List, [], ◌∷◌, length, map, refl, sym, ap, append_assoc}
-use Rattle.std.specs.Prelude.{ℤ}
-use Rattle.std.proofs.lemmas.List.{append-nil, map-append}
-use Rattle.crn_io.specs.Lines.{Place}
-use Rattle.crn_vec.specs.Network.{Net}
-use Rattle.crn_ctext.proofs.CallerLemmas.{gives_parts}
-use Rattle.crn_cert.specs.declared.answer.Verdict.{Verdict}
-use Rattle.crn_cert.specs.Built.{built}
-use Rattle.crn_cert.specs.Questions.{Earlier, Question}
-use Rattle.crn_ctext.specs.Records.{Record}
-use Rattle.crn_ctext.specs.Kinds.{section_form}
-use Rattle.crn_ctext.specs.Questions.{heads}
-use Rattle.crn_ctext.specs.Course.{Course, Give, ◌>>=◌, Gives}
-use Rattle.crn_ctext.specs.Blocks.{AfterBlocks, asks, asks_all, asks_block, asks_blocks, asks_trees, after_sections, below, claims, has_tree, sections}
-use Rattle.crn_ctext.specs.Meaning.{Known, learn_of, meaning, sizes_of, verdict_of, verdicts_said}
-use Rattle.crn_document.specs.Inner.Blocks.{after_at, end_course, head_course, rows_course}
+use Rattle.crn_document.proofs.Prelude.{◌≡◌, ◌+◌, ◌++◌, ◌∙◌, ℕ, false, List, [], ◌∷◌, length, map, refl, sym, ap, append_assoc, ℤ, append-nil, map-append, Place, Net, gives_parts, Verdict, built, Earlier, Question, Record, section_form, heads, Course, Give, ◌>>=◌, Gives, AfterBlocks, asks, asks_all, asks_block, asks_blocks, asks_trees, after_sections, below, claims, has_tree, sections, Known, learn_of, meaning, sizes_of, verdict_of, verdicts_said, after_at, end_course, head_course, rows_course}
 use Rattle.crn_document.proofs.Sections.{question_course}
 
 give_is : {A : Type 0} (x y : A) (at end : Place) → Gives (Give x) at y end → x ≡ y

@@ -1,23 +1,5 @@
 -- The lines that open sections, and the blocks of the questions one after another.
-use Rattle.std.proofs.Common.{◌≡◌, ◌≢◌, ◌+◌, ℕ, Bool, true, false, ◌==◌, List, [], ◌∷◌, length, map, refl, sym, subst, ap, arith, Ok}
-use Rattle.std.specs.Prelude.{ℤ, if◌then◌else◌}
-use Rattle.std.proofs.lemmas.Bool.{ne_eqb}
-use Rattle.crn_io.specs.Device.{SourceSeen}
-use Rattle.crn_vec.specs.Network.{Net}
-use Rattle.crn_cert.specs.Questions.{Earlier, Question}
-use Rattle.crn_ctext.specs.Records.{Record, Form}
-use Rattle.crn_ctext.specs.Kinds.{section_form}
-use Rattle.crn_ctext.specs.Questions.{opens}
-use Rattle.crn_ctext.specs.Course.{Course, Give, ◌>>=◌}
-use Rattle.crn_ctext.specs.Blocks.{AfterBlocks, asks, asks_all, asks_block, asks_blocks, after_sections, sections}
-use Rattle.crn_ctext.specs.Meaning.{Known, meaning}
-use Rattle.crn_check.specs.Facts.{asked}
-use Rattle.crn_reading.specs.declared.reading.Reading.{Reading}
-use Rattle.crn_reading.specs.declared.fault.CheckStop.{CheckStop}
-use Rattle.crn_ctext.specs.Steps.{StepGives}
-use Rattle.crn_document.specs.Inner.Blocks.{IsOpened, after_by, still_by_tree}
-use Rattle.crn_reading.specs.Steps.{StepIs, StopIs}
-use Rattle.crn_reading.proofs.CallerLemmas.{step_gives, step_map, stop_first}
+use Rattle.crn_document.proofs.Prelude.{◌≡◌, ◌≢◌, ◌+◌, ℕ, Bool, true, false, ◌==◌, List, [], ◌∷◌, length, map, refl, sym, subst, ap, arith, Ok, ℤ, if◌then◌else◌, ne_eqb, SourceSeen, Net, Earlier, Question, Record, Form, section_form, opens, Course, Give, ◌>>=◌, AfterBlocks, asks, asks_all, asks_block, asks_blocks, after_sections, sections, Known, meaning, asked, Reading, CheckStop, StepGives, IsOpened, after_by, still_by_tree, StepIs, StopIs, step_gives, step_map, stop_first}
 
 -- ---- sections
 

@@ -1,30 +1,7 @@
 -- The tree for the vector of question 12 with a turn is the tree over the shape of that vector.
-use Rattle.std.proofs.Common.{◌≡◌, ◌+◌, ℕ, Bool, true, false, List, [], ◌∷◌, length, refl, subst, Result, Ok, Err}
-use Rattle.std.specs.Prelude.{ℤ, pos, negsuc}
-use Rattle.crn_io.specs.Device.{SourceSeen}
-use Rattle.crn_vec.specs.Network.{Net}
-use Rattle.crn_vec.specs.NetSystems.{reaction_system}
-use Rattle.crn_vec.specs.declared.signs.Sign.{Sign}
-use Rattle.crn_vec.specs.Signals.{Shape, signals}
-use Rattle.crn_vec.specs.NetSignals.{HasNoSignal, IsShapeOf}
-use Rattle.crn_vec.specs.Confluence.{IsRegular}
-use Rattle.crn_cert.specs.Nodes.{Fits, Said}
-use Rattle.crn_cert.specs.Questions.{Q2, Q12, on, terminal_of, vector_given}
-use Rattle.crn_cert.specs.Says.{IsTurn, by_turn}
-use Rattle.crn_cert.specs.Valid.{HasVector, IsNodeOf, OfVector}
-use Rattle.crn_ctext.specs.Course.{Course}
-use Rattle.crn_ctext.specs.Blocks.{Problem, asks_tree}
-use Rattle.crn_ctext.specs.Meaning.{Known, pairs_of, problem_with, signal_problem, signal_problems}
-use Rattle.crn_ctext.proofs.CallerLemmas.{HoldTogether, IsLike, step_awaits_like, step_fails_like, step_gives_like, trees_like}
-use Rattle.crn_ctree.proofs.CallerLemmas.{signal_nodes}
-use Rattle.crn_check.specs.Facts.{KeptFacts}
-use Rattle.crn_reading.specs.declared.reading.Reading.{Reading}
-use Rattle.crn_reading.specs.declared.fault.CheckStop.{CheckStop}
+use Rattle.crn_document.proofs.Prelude.{◌≡◌, ◌+◌, ℕ, Bool, true, false, List, [], ◌∷◌, length, refl, subst, Result, Ok, Err, ℤ, pos, negsuc, SourceSeen, Net, reaction_system, Sign, Shape, signals, HasNoSignal, IsShapeOf, IsRegular, Said, Q2, Q12, on, terminal_of, vector_given, IsTurn, by_turn, HasVector, IsNodeOf, OfVector, Course, Problem, asks_tree, Known, pairs_of, problem_with, signal_problem, signal_problems, HoldTogether, IsLike, step_awaits_like, step_fails_like, step_gives_like, trees_like, signal_nodes, KeptFacts, Reading, CheckStop, known_of, IsKnownFor, vector_or_none, StepIs, StopIs}
+use Rattle.crn_cert.specs.Nodes.{Fits}
 use Rattle.crn_reading.specs.declared.fault.CheckStop.TheVariants as stop
-use Rattle.crn_document.specs.Inner.Heads.{known_of}
-use Rattle.crn_document.specs.Facts.{IsKnownFor}
-use Rattle.crn_document.specs.Inner.Signals.{vector_or_none}
-use Rattle.crn_reading.specs.Steps.{StepIs, StopIs}
 use Rattle.crn_document.proofs.SignalsKnown.{of_vector, sizes, some_vector, vector_has, vector_known}
 
 -- what a step did by one course it did by a course that gives and fails as the first does

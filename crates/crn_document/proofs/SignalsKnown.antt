@@ -1,29 +1,7 @@
 -- What earlier answers give question 13: the strong classes, the confluence vector, and what trees without a signal show.
-use Rattle.std.proofs.Common.{◌≡◌, ◌∙◌, ◌+◌, ◌-◌, ℕ, true, List, [], length, refl, sym, ap, ap₂, subst, inl, inr}
-use Rattle.std.specs.Prelude.{ℤ, pos, negsuc, Option, Some, None}
-use Rattle.std.specs.List.{AllByRecursion}
-use Rattle.std.specs.Option.{IsSome, IsSomeAnd}
-use Rattle.crn_vec.specs.Network.{Net}
-use Rattle.crn_vec.specs.Strong.{IsWeaklyReversible}
-use Rattle.crn_vec.specs.Confluence.{IsRegular, HasConfluenceLine, IsNormalVector, negative}
-use Rattle.crn_vec.specs.Signals.{Shape}
-use Rattle.crn_vec.specs.NetSignals.{HasNoSignal, IsShapeOf, opposite_shape}
-use Rattle.crn_vec.proofs.CallerLemmas.{length-scale, negatives_have_opposite_shapes, reaction_in, shapes_are_one, weakly_reversible_by_reactions}
-use Rattle.crn_cert.specs.declared.answer.Verdict.{Verdict}
-use Rattle.crn_cert.specs.declared.answer.Verdict.TheVariants.{No, NoReaction, Yes, YesVec}
-use Rattle.crn_cert.specs.Questions.{Earlier, Q2, Q4, Q12, Q13, on, terminal_of, vector_given}
-use Rattle.crn_cert.specs.Ranges.{IsNarrow}
-use Rattle.crn_cert.specs.FormedVerdicts.{IsFormedVerdict}
-use Rattle.crn_cert.specs.Law.{IsTrueOrOpen}
-use Rattle.crn_cert.specs.Says.{IsTrueOf, IsTurn, by_turn}
-use Rattle.crn_cert.specs.Valid.{HasVector, OfVector}
-use Rattle.crn_cert.proofs.CallerLemmas.{shape_count, shapes_exist, none_at_all}
-use Rattle.crn_ctext.specs.Meaning.{is_yes, pairs_of}
-use Rattle.crn_check.specs.Facts.{HoldsOn, KeptFacts}
-use Rattle.crn_check.proofs.CallerLemmas.{formed_on, sound_on, strong_true, weak_true}
-use Rattle.crn_document.specs.Inner.Heads.{known_of}
-use Rattle.crn_document.specs.Facts.{IsKnownFor}
-use Rattle.crn_document.specs.Inner.Signals.{vector_or_none}
+use Rattle.crn_document.proofs.Prelude.{◌≡◌, ◌∙◌, ◌+◌, ◌-◌, ℕ, true, List, [], length, refl, sym, ap, ap₂, subst, inl, inr, ℤ, pos, negsuc, Some, None, AllByRecursion, IsSome, IsSomeAnd, Net, IsWeaklyReversible, IsRegular, HasConfluenceLine, IsNormalVector, negative, Shape, HasNoSignal, IsShapeOf, opposite_shape, length-scale, negatives_have_opposite_shapes, reaction_in, shapes_are_one, weakly_reversible_by_reactions, Verdict, No, Yes, YesVec, Earlier, Q2, Q4, Q12, Q13, on, terminal_of, vector_given, IsNarrow, IsFormedVerdict, IsTrueOrOpen, IsTrueOf, IsTurn, by_turn, HasVector, OfVector, shape_count, shapes_exist, none_at_all, is_yes, pairs_of, HoldsOn, KeptFacts, formed_on, sound_on, strong_true, weak_true, known_of, IsKnownFor, vector_or_none}
+use Rattle.std.specs.Prelude.{Option}
+use Rattle.crn_cert.specs.declared.answer.Verdict.TheVariants.{NoReaction}
 use Rattle.crn_document.proofs.Linkages.{pairs_known}
 
 -- the verdicts at which question 13 looks are known

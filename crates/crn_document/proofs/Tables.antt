@@ -1,25 +1,5 @@
 -- Records that are read and not kept: the shared lists of a document, and the lines that open sections.
-use Rattle.std.proofs.Common.{◌≡◌, ◌+◌, ◌++◌, ◌∙◌, ℕ, suc, false, List, [], ◌∷◌, replicate, refl, sym, subst, ap, inl, inr, arith, append_assoc, Result, Ok}
-use Rattle.std.proofs.lemmas.List.{append-nil}
-use Rattle.std.specs.Prelude.{ℤ, pos, negsuc}
-use Rattle.std.proofs.lemmas.Int.{ints}
-use Rattle.crn_io.specs.declared.lines.TheConstants.{MAX_NUMBERS, MAX_SHARED}
-use Rattle.crn_io.specs.Device.{SourceSeen}
-use Rattle.crn_ctext.specs.Records.{Record, Form, FreeSeveral}
-use Rattle.crn_ctext.specs.Meaning.{lists}
-use Rattle.crn_ctree.specs.Shared.{IsShared}
-use Rattle.crn_ctext.specs.Kinds.{small, table_form, vector_form}
-use Rattle.crn_ctext.specs.Questions.{first_number}
-use Rattle.crn_ctext.specs.Course.{Course, Give, ◌>>=◌}
-use Rattle.crn_ctext.specs.Blocks.{asks, asks_all, asks_table}
-use Rattle.crn_ctext.specs.Steps.{StepGives}
-use Rattle.crn_reading.specs.declared.reading.Reading.{Reading}
-use Rattle.crn_reading.specs.declared.fault.CheckStop.{CheckStop}
-use Rattle.crn_document.specs.declared.plain.Plain.TheVariants.{Table, Vector}
-use Rattle.crn_document.specs.Inner.Plain.{IsPlain}
-use Rattle.crn_reading.specs.Steps.{IsVersion, StopIs, StepIs}
-use Rattle.crn_document.specs.Inner.Table.{AreListed, IsCount, IsTable, MovesBy}
-use Rattle.crn_reading.proofs.CallerLemmas.{step_gives, step_then_is, step_map, stop_first}
+use Rattle.crn_document.proofs.Prelude.{◌≡◌, ◌+◌, ◌++◌, ◌∙◌, ℕ, suc, false, List, [], ◌∷◌, replicate, refl, sym, subst, ap, inl, inr, arith, append_assoc, Result, Ok, append-nil, ℤ, pos, negsuc, ints, MAX_NUMBERS, MAX_SHARED, SourceSeen, Record, Form, FreeSeveral, lists, IsShared, small, table_form, vector_form, first_number, Course, Give, ◌>>=◌, asks, asks_all, asks_table, StepGives, Reading, CheckStop, Table, Vector, IsPlain, IsVersion, StopIs, StepIs, AreListed, IsCount, IsTable, MovesBy, step_gives, step_then_is, step_map, stop_first}
 use Rattle.crn_document.proofs.Records.{rows_after, first_row}
 use Rattle.crn_document.proofs.Fields.{Holds, one_field}
 

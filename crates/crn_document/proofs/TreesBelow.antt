@@ -1,17 +1,5 @@
 -- The trees that follow the records below a head.
-use Rattle.std.proofs.Common.{◌≡◌, ◌∙◌, ℕ, zero, suc, Bool, true, false, ap, List, [], ◌∷◌, refl, sym, subst, inl, inr, Ok, Result}
-use Rattle.std.specs.Prelude.{ℤ}
-use Rattle.crn_io.specs.Device.{SourceSeen}
-use Rattle.crn_cert.specs.Questions.{Q4, Q13, Q14, Q15, on}
-use Rattle.crn_ctext.specs.Blocks.{Problem, asks_tree, asks_trees, has_tree}
-use Rattle.crn_ctext.specs.Meaning.{Known, is_yes, problems_by, signal_problems}
-use Rattle.crn_check.specs.Facts.{asked}
-use Rattle.crn_check.specs.Check.{AsksForTree, IsBuilt, tree_place}
-use Rattle.crn_reading.specs.declared.reading.Reading.{Reading}
-use Rattle.crn_reading.specs.declared.fault.CheckStop.{CheckStop}
-use Rattle.crn_reading.specs.Steps.{StepIs, StopIs}
-use Rattle.crn_ctext.specs.Steps.{StepGives}
-use Rattle.crn_reading.proofs.CallerLemmas.{step_gives, step_map, step_then_is, stop_first}
+use Rattle.crn_document.proofs.Prelude.{◌≡◌, ◌∙◌, ℕ, zero, suc, Bool, true, false, ap, List, [], ◌∷◌, refl, sym, subst, inl, inr, Ok, Result, ℤ, SourceSeen, Q4, Q13, Q14, Q15, on, Problem, asks_tree, asks_trees, has_tree, Known, is_yes, problems_by, signal_problems, asked, AsksForTree, IsBuilt, tree_place, Reading, CheckStop, StepIs, StopIs, StepGives, step_gives, step_map, step_then_is, stop_first}
 
 no_signals : (known : Known) (place : ℕ) → (place ≡ 2 → ⊥) → problems_by Q13 known place ≡ []
 no_signals known zero other = refl

@@ -1,23 +1,5 @@
 -- The answers of the reactions together.
-use Rattle.std.proofs.Common.{◌≡◌, ℕ, ◌+◌, ◌-◌, ◌<◌, ◌≤◌, inl, inr, List, [], ◌∷◌, ◌++◌, length, map, get_or, refl, sym, ap, subst, ◌∙◌, add-one, arith}
-use Rattle.std.specs.Prelude.{sum}
-use Rattle.std.proofs.lemmas.List.{get_or_append_left, get_or-append_right, length-append, map-append}
-use Rattle.std.proofs.lemmas.List.Sums.{sum_by_push}
-use Rattle.crn_vec.specs.declared.limits.TheConstants.{MAX_BUDGET}
-use Rattle.crn_vec.specs.Network.{Net, IsNetwork}
-use Rattle.crn_vec.specs.Visits.{PassesBudget}
-use Rattle.crn_vec.proofs.CallerLemmas.{all_push, eq_or}
-use Rattle.crn_cert.specs.Ranges.{IsFrom}
-use Rattle.crn_cert.specs.Trees.{Plan, Level, IsValid, AreNarrow, node_count, places}
-use Rattle.crn_cert.proofs.CallerLemmas.{count_places}
-use Rattle.crn_endo_check.specs.declared.endo.Endo.{Endo}
-use Rattle.crn_endo_check.specs.declared.endo.Endo.TheVariants.{Yes, No, Wide, Spent, Large}
-use Rattle.crn_endo_check.specs.Slopes.{IsSmallEnough, slopes}
-use Rattle.crn_endo_check.specs.Endo.{AreValidTrees, NamesReaction}
-use Rattle.crn_endo_check.proofs.CallerLemmas.{slope_basis, trees_formed}
-use Rattle.crn_endo.specs.Answer.{AreRefutedWithin, IsEndoAnswer, all_nodes}
-use Rattle.crn_endo.specs.Inner.Decided.{AreDone, EndsAnswer, IsDecidedAt}
-use Rattle.crn_endo.specs.declared.answer.Decided.TheVariants.{Refuted}
+use Rattle.crn_endo.proofs.Prelude.{◌≡◌, ℕ, ◌+◌, ◌-◌, ◌<◌, ◌≤◌, inl, inr, List, [], ◌∷◌, ◌++◌, length, map, get_or, refl, sym, ap, subst, ◌∙◌, add-one, arith, sum, get_or_append_left, get_or-append_right, length-append, map-append, sum_by_push, MAX_BUDGET, Net, IsNetwork, PassesBudget, all_push, eq_or, IsFrom, Plan, Level, IsValid, AreNarrow, node_count, places, count_places, Endo, Yes, No, Wide, Spent, Large, IsSmallEnough, slopes, AreValidTrees, NamesReaction, slope_basis, trees_formed, AreRefutedWithin, IsEndoAnswer, all_nodes, AreDone, EndsAnswer, IsDecidedAt, Refuted}
 
 pub none_done : (net : Net) (budget : ℕ) → AreDone net budget 0 budget []
 none_done net budget = record {

@@ -5,3 +5,4 @@ mod NodeCounts
 mod Answered
 mod WeakWords
 mod Steps
+mod Prelude

@@ -1,31 +1,6 @@
 -- What the search for a slope against one reaction gives.
-use Rattle.std.proofs.Common.{◌≡◌, ℕ, zero, suc, ◌<◌, List, [], ◌∷◌, ◌++◌, map, take, sym, ap, subst, ◌∙◌, arith, to_z, of_z}
-use Rattle.std.specs.Prelude.{ℤ, pos, negsuc, neg_ℤ, ◌-ℤ◌, unsigned_abs, FitsSigned}
-use Rattle.std.specs.Int.{w128}
-use Rattle.std.specs.List.{AllByRecursion}
-use Rattle.std.proofs.lemmas.Int.{ints, fits_signed_from_abs}
-use Rattle.crn_vec.specs.declared.limits.TheConstants.{WIDE_SOLUTION}
-use Rattle.crn_vec.specs.declared.signs.Sign.{Sign}
-use Rattle.crn_vec.specs.declared.signs.Sign.TheVariants.{Zero, Plus, Minus}
-use Rattle.crn_vec.specs.declared.signs.Kind.{Kind}
-use Rattle.crn_vec.specs.Kept.{KeptInts}
-use Rattle.crn_vec.specs.Vectors.{Mat, entry}
-use Rattle.crn_vec.specs.Network.{Net, IsNetwork}
-use Rattle.crn_vec.proofs.CallerLemmas.{held}
-use Rattle.crn_cert.specs.Ranges.{IsNarrow}
-use Rattle.crn_cert.specs.Trees.{Plan}
-use Rattle.crn_cert.proofs.CallerLemmas.{count_places}
-use Rattle.crn_farkas.specs.Decision.{IsSmallSolution}
-use Rattle.crn_sign.specs.Search.{IsSearchEnd}
-use Rattle.crn_sign.specs.declared.end.SearchEnd.TheVariants.{Found, Refuted}
-use Rattle.crn_endo_check.specs.declared.endo.Endo.TheVariants.{No}
-use Rattle.crn_endo_check.specs.Endo.{NamesReaction}
-use Rattle.crn_endo_check.specs.Endotactic.{IsAgainst}
-use Rattle.crn_endo_check.specs.Slopes.{slopes}
-use Rattle.crn_endo_check.specs.SlopeLaws.{slope_by}
-use Rattle.crn_endo_check.proofs.CallerLemmas.{slopes_feasible}
-use Rattle.crn_endo.specs.Inner.Decided.{IsDecidedAt}
-use Rattle.crn_endo.specs.declared.answer.Decided.TheVariants.{Refuted as RefutedBy, Ended}
+use Rattle.crn_endo.proofs.Prelude.{◌≡◌, ℕ, zero, suc, ◌<◌, List, [], ◌∷◌, ◌++◌, map, take, sym, ap, subst, ◌∙◌, arith, to_z, of_z, ℤ, pos, negsuc, neg_ℤ, ◌-ℤ◌, unsigned_abs, FitsSigned, w128, AllByRecursion, ints, fits_signed_from_abs, WIDE_SOLUTION, Sign, Zero, Plus, Minus, Kind, KeptInts, Mat, entry, Net, IsNetwork, held, IsNarrow, Plan, count_places, IsSmallSolution, IsSearchEnd, Found, No, NamesReaction, IsAgainst, slopes, slope_by, slopes_feasible, IsDecidedAt, RefutedBy, Ended}
+use Rattle.crn_sign.specs.declared.end.SearchEnd.TheVariants.{Refuted}
 
 narrow_prefix : (n : ℕ) (v : List ℤ) → ((k : ℕ) → unsigned_abs (entry v k) < WIDE_SOLUTION) → AllByRecursion IsNarrow (take n v)
 narrow_prefix zero [] h = tt

@@ -1,27 +1,5 @@
 -- What one option more requires, coordinate by coordinate.
-use Rattle.std.proofs.Common.{◌≡◌, ◌≢◌, ℕ, zero, suc, ◌+◌, ◌-◌, ◌<◌, ◌≤◌, inl, inr, List, [], ◌∷◌, ◌++◌, length, map, replicate, get_or, Bool, true, false, cond, refl, sym, ap, subst, ◌∙◌, arith}
-use Rattle.std.specs.Prelude.{◌==◌, not}
-use Rattle.std.specs.List.{range_with_len}
-use Rattle.std.proofs.lemmas.Bool.{false≢true, eq-eqb, ne_eqb}
-use Rattle.std.proofs.lemmas.List.{get_or_append_left, get_or-append_right, get_or-replicate, length-append, length-replicate}
-use Rattle.std.proofs.lemmas.List.FromFn.{get_or-map-range_with_len, length-map-range_with_len}
-use Rattle.crn_vec.specs.declared.signs.Sign.{Sign}
-use Rattle.crn_vec.specs.declared.signs.Sign.TheVariants.{Zero, Plus, Minus}
-use Rattle.crn_vec.specs.declared.signs.Kind.{Kind}
-use Rattle.crn_vec.specs.declared.signs.Kind.TheVariants.{Pos, Free}
-use Rattle.crn_vec.specs.Concordance.{is_plus, kind_of_sign, row_kinds}
-use Rattle.crn_vec.specs.Elementary.{width}
-use Rattle.crn_vec.specs.Lists.{AreDistinct, IsIn}
-use Rattle.crn_vec.specs.Network.{Net}
-use Rattle.crn_vec.specs.Systems.{kind_at}
-use Rattle.crn_vec.proofs.CallerLemmas.{at_in, eq_or, filter_distinct, filter_from, lt_or, range_bounds}
-use Rattle.crn_sign.specs.declared.bits.Bits.{Bits}
-use Rattle.crn_sign.specs.declared.problem.Asked.{Asked}
-use Rattle.crn_sign.specs.Options.{AskKindsBy, IsPut, asked_kind, bit_of, kind_in, weakened}
-use Rattle.crn_sign.proofs.CallerLemmas.{put_here, put_other}
-use Rattle.crn_endo_check.specs.Endotactic.{reaction_at}
-use Rattle.crn_endo_check.specs.Slopes.{at_least_zero_if, fall_kind, is_reactant, later, option_of, others, reactants, rise_kind, slope_kinds, slope_matrix}
-use Rattle.crn_endo.specs.Inner.Asked.{AreRaised, AskFirmly, ShowsWeak, firm_kind}
+use Rattle.crn_endo.proofs.Prelude.{◌≡◌, ◌≢◌, ℕ, zero, suc, ◌+◌, ◌-◌, ◌<◌, ◌≤◌, inl, inr, List, [], ◌∷◌, ◌++◌, length, map, replicate, get_or, Bool, true, false, cond, refl, sym, ap, subst, ◌∙◌, arith, ◌==◌, not, range_with_len, false≢true, eq-eqb, ne_eqb, get_or_append_left, get_or-append_right, get_or-replicate, length-append, length-replicate, get_or-map-range_with_len, length-map-range_with_len, Sign, Zero, Plus, Minus, Kind, Pos, Free, is_plus, kind_of_sign, row_kinds, width, AreDistinct, IsIn, Net, kind_at, at_in, eq_or, filter_distinct, filter_from, lt_or, range_bounds, Bits, Asked, AskKindsBy, IsPut, asked_kind, bit_of, kind_in, weakened, put_here, put_other, reaction_at, at_least_zero_if, fall_kind, is_reactant, later, option_of, others, reactants, rise_kind, slope_kinds, slope_matrix, AreRaised, AskFirmly, ShowsWeak, firm_kind}
 
 -- ---- options
 

@@ -1,13 +1,5 @@
 -- The visits of the reactions' problems together say which reaction an answer is spent at.
-use Rattle.std.proofs.Common.{◌≡◌, ℕ, zero, suc, ◌+◌, ◌-◌, ◌<◌, ◌≤◌, inl, inr, true, false, List, length, sym, ap, subst, ◌∙◌, arith}
-use Rattle.std.proofs.lemmas.Bool.{false≢true}
-use Rattle.crn_vec.specs.declared.signs.Sign.{Sign}
-use Rattle.crn_vec.specs.Network.{Net}
-use Rattle.crn_vec.specs.Visits.{IsVisitList, root}
-use Rattle.crn_vec.proofs.CallerLemmas.{are_one, below_or, eq_or, longer_by, lt_or}
-use Rattle.crn_endo_check.specs.declared.endo.Endo.TheVariants.{Yes, No, Wide, Spent, Large}
-use Rattle.crn_endo_check.specs.Slopes.{slopes}
-use Rattle.crn_endo.specs.Answer.{AreRefuted, AreRefutedWithin, FindWithin, PassTogether, PassingVisitsAreSpent}
+use Rattle.crn_endo.proofs.Prelude.{◌≡◌, ℕ, zero, suc, ◌+◌, ◌-◌, ◌<◌, ◌≤◌, inl, inr, true, false, List, length, sym, ap, subst, ◌∙◌, arith, false≢true, Sign, Net, IsVisitList, root, are_one, below_or, eq_or, longer_by, lt_or, Yes, No, Wide, Spent, Large, slopes, AreRefuted, AreRefutedWithin, FindWithin, PassTogether, PassingVisitsAreSpent}
 
 -- the visits of the first reactions are one number
 refuted_one : (net : Net) (n used used' : ℕ) → AreRefuted net n used → AreRefuted net n used' → used ≡ used'

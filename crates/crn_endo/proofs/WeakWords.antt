@@ -1,16 +1,6 @@
 -- Words that make the coordinates weak at which a number is at least 0.
-use Rattle.std.proofs.Common.{◌≡◌, ◌≢◌, ℕ, zero, suc, ◌+◌, ◌/◌, ◌%◌, ◌<◌, ◌⊎◌, inl, inr, List, replicate, sym, ap, subst, refl, ◌∙◌, arith}
-use Rattle.std.specs.Int.{bit_at}
-use Rattle.std.proofs.lemmas.Nat.Bits.{bit_at-zero}
-use Rattle.crn_vec.specs.declared.signs.Sign.{Sign}
-use Rattle.crn_vec.specs.declared.signs.Kind.{Kind}
-use Rattle.crn_vec.specs.declared.signs.Kind.TheVariants.{Pos, Neg, Zero, NonNeg, Free}
-use Rattle.crn_vec.specs.Network.{Net}
-use Rattle.crn_vec.specs.Systems.{kind_at}
-use Rattle.crn_vec.proofs.CallerLemmas.{eq_or}
-use Rattle.crn_sign.specs.Options.{bit_of, word_of}
-use Rattle.crn_endo_check.specs.Slopes.{AtLeastZeroOrFree, NeverAtLeastZero, slope_kinds}
-use Rattle.crn_endo.specs.Inner.Asked.{IsAskable}
+use Rattle.crn_endo.proofs.Prelude.{◌≡◌, ◌≢◌, ℕ, zero, suc, ◌+◌, ◌/◌, ◌%◌, ◌<◌, ◌⊎◌, inl, inr, List, replicate, sym, ap, subst, refl, ◌∙◌, arith, bit_at, bit_at-zero, Sign, Kind, Pos, Neg, NonNeg, Free, Net, kind_at, eq_or, bit_of, word_of, AtLeastZeroOrFree, NeverAtLeastZero, slope_kinds, IsAskable}
+use Rattle.crn_vec.specs.declared.signs.Kind.TheVariants.{Zero}
 
 weak_askable : (κ : Kind) → (κ ≡ NonNeg) ⊎ (κ ≡ Free) → IsAskable 1 κ
 weak_askable κ (inl e) = subst (IsAskable 1) (sym e) refl

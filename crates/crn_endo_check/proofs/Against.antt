@@ -1,26 +1,5 @@
 -- A slope is against a reaction if and only if some full prefix of the reaction's problem is feasible.
-use Rattle.std.proofs.Common.{◌≡◌, ◌≢◌, ℕ, zero, suc, ◌≤◌, ◌<◌, ◌⊎◌, inl, inr, List, [], ◌∷◌, length, get_or, map, Bool, true, false, cond, refl, sym, ap, subst, ◌∙◌, arith, eqb}
-use Rattle.std.specs.Prelude.{ℤ, pos, negsuc, neg_ℤ, ◌-ℤ◌, ◌≤ℤ◌, ◌<ℤ◌, not, ◌==◌, ◌||◌}
-use Rattle.std.specs.List.{AllZip, range_with_len, list_any}
-use Rattle.std.proofs.lemmas.Int.{ints, by_lt_z}
-use Rattle.std.proofs.lemmas.Bool.{false≢true, eqb-true, eqb-false, eq-eqb}
-use Rattle.std.proofs.lemmas.List.{length-map}
-use Rattle.std.proofs.lemmas.List.FromFn.{length-range_with_len, get_or-range_with_len}
-use Rattle.crn_vec.specs.declared.signs.Sign.{Sign}
-use Rattle.crn_vec.specs.declared.signs.Sign.TheVariants.{Zero, Plus, Minus}
-use Rattle.crn_vec.specs.declared.signs.Kind.TheVariants.{Pos, Neg, Free}
-use Rattle.crn_vec.specs.Lists.{IsIn}
-use Rattle.crn_vec.specs.Network.{Net, IsNetwork, JoinsTwo}
-use Rattle.crn_vec.specs.Systems.{HasKind}
-use Rattle.crn_vec.specs.Problems.{IsFull, IsFeasible, SolvesA}
-use Rattle.crn_vec.specs.Concordance.{sign, row_kinds, is_plus, is_minus}
-use Rattle.crn_vec.proofs.CallerLemmas.{all_at, at_in, below_or, dot-neg, filter_has, length-neg, map_twice, vector_long}
-use Rattle.crn_cert.specs.Trees.{Plan, IsValid}
-use Rattle.crn_cert.proofs.CallerLemmas.{leaves_nothing}
-use Rattle.crn_endo_check.specs.Endotactic.{complex_at, height, reaction_at, rise, HasLowerRise, IsAgainst, IsEndotactic, IsEndotacticAt}
-use Rattle.crn_endo_check.specs.Slopes.{reactants, others, option_of, is_reactant, slope_matrix, at_least_zero_if, rise_kind, fall_kind, slopes}
-use Rattle.crn_endo_check.specs.SlopeLaws.{FeasiblePrefixesDecideEndotactic, AgainstIfFeasible, slope_by}
-use Rattle.crn_vec.proofs.CallerLemmas.{minus-dot, rows_have, row_signs_are}
+use Rattle.crn_endo_check.proofs.Prelude.{◌≡◌, ◌≢◌, ℕ, zero, suc, ◌≤◌, ◌<◌, ◌⊎◌, inl, inr, List, [], ◌∷◌, length, get_or, map, Bool, true, false, cond, refl, sym, ap, subst, ◌∙◌, arith, eqb, ℤ, pos, negsuc, neg_ℤ, ◌-ℤ◌, ◌≤ℤ◌, ◌<ℤ◌, not, ◌==◌, ◌||◌, AllZip, range_with_len, list_any, ints, by_lt_z, false≢true, eqb-true, eqb-false, eq-eqb, length-map, length-range_with_len, get_or-range_with_len, Sign, Zero, Plus, Minus, Pos, Neg, Free, IsIn, Net, IsNetwork, JoinsTwo, HasKind, IsFull, IsFeasible, SolvesA, sign, row_kinds, is_plus, is_minus, all_at, at_in, below_or, dot-neg, filter_has, length-neg, map_twice, vector_long, Plan, IsValid, leaves_nothing, complex_at, height, reaction_at, rise, HasLowerRise, IsAgainst, IsEndotactic, IsEndotacticAt, reactants, others, option_of, is_reactant, slope_matrix, at_least_zero_if, rise_kind, fall_kind, slopes, FeasiblePrefixesDecideEndotactic, AgainstIfFeasible, slope_by, minus-dot, rows_have, row_signs_are}
 use Rattle.crn_endo_check.proofs.SlopeRows.{above, Has, solution_by, has_by, free_solution}
 use Rattle.crn_endo_check.proofs.SlopeLawful.{slopes_are_steady, rise-neg}
 

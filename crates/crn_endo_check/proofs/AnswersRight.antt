@@ -1,8 +1,5 @@
 -- Valid answers are true.
-use Rattle.std.proofs.Common.{get_or}
-use Rattle.crn_cert.specs.Trees.{Level}
-use Rattle.crn_endo_check.specs.declared.endo.Endo.TheVariants.{Yes, No, Wide, Spent, Large}
-use Rattle.crn_endo_check.specs.Endo.{ValidEndosAreTrue}
+use Rattle.crn_endo_check.proofs.Prelude.{get_or, Level, Yes, No, Wide, Spent, Large, ValidEndosAreTrue}
 use Rattle.crn_endo_check.proofs.Against.{slopes_show_not, valid_trees_show}
 
 pub valid_endos_are_true : ValidEndosAreTrue

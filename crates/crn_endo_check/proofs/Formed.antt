@@ -1,22 +1,5 @@
 -- Valid trees of narrow numbers have the form that lines may have.
-use Rattle.std.proofs.Common.{◌≡◌, ◌≢◌, ℕ, zero, suc, ◌+◌, ◌<◌, ◌≤◌, inl, inr, List, [], ◌∷◌, ◌++◌, length, get_or, replicate, true, refl, sym, ap, subst, ◌∙◌, arith}
-use Rattle.std.specs.Prelude.{not, ◌==◌}
-use Rattle.std.specs.List.{AllByRecursion, filter, range_with_len}
-use Rattle.std.proofs.lemmas.Bool.{false≢true, eq-eqb}
-use Rattle.crn_vec.specs.declared.signs.Sign.{Sign}
-use Rattle.crn_vec.specs.declared.signs.Sign.TheVariants.{Zero, Plus, Minus}
-use Rattle.crn_vec.specs.declared.signs.Kind.TheVariants.{Free}
-use Rattle.crn_vec.specs.Lists.{IsIn, IsAscending}
-use Rattle.crn_vec.specs.Elementary.{NamesWide, width}
-use Rattle.crn_vec.specs.Network.{Net, IsNetwork}
-use Rattle.crn_vec.specs.Systems.{is_signed, kind_at}
-use Rattle.crn_vec.proofs.CallerLemmas.{above_ascending, above_in, all_at, eq_or, filter_ascending, first_goes, first_stays, range_ascending}
-use Rattle.crn_cert.specs.Data.{IsBasisOf}
-use Rattle.crn_cert.specs.Trees.{Plan, Both, Three, RulesA, RulesB, Level, IsFormedTree, IsValid, AreNarrow}
-use Rattle.crn_cert.proofs.CallerLemmas.{formed_tree, wide_basis}
-use Rattle.crn_endo_check.specs.Endotactic.{reaction_at}
-use Rattle.crn_endo_check.specs.Slopes.{IsSmallEnough, is_reactant, others, reactants, slope_matrix, slopes}
-use Rattle.crn_endo_check.specs.Endo.{AreFormedTrees, AreValidTrees, CutsPartA, row_count}
+use Rattle.crn_endo_check.proofs.Prelude.{◌≡◌, ◌≢◌, ℕ, zero, suc, ◌+◌, ◌<◌, ◌≤◌, inl, inr, List, [], ◌∷◌, ◌++◌, length, get_or, replicate, true, refl, sym, ap, subst, ◌∙◌, arith, not, ◌==◌, AllByRecursion, filter, range_with_len, false≢true, eq-eqb, Sign, Zero, Plus, Minus, Free, IsIn, IsAscending, NamesWide, width, Net, IsNetwork, is_signed, kind_at, above_ascending, above_in, all_at, eq_or, filter_ascending, first_goes, first_stays, range_ascending, IsBasisOf, Plan, Both, Three, RulesA, RulesB, Level, IsFormedTree, IsValid, AreNarrow, formed_tree, wide_basis, reaction_at, IsSmallEnough, is_reactant, others, reactants, slope_matrix, slopes, AreFormedTrees, AreValidTrees, CutsPartA, row_count}
 use Rattle.crn_endo_check.proofs.Against.{in_reactants, not_eqb}
 use Rattle.crn_endo_check.proofs.SlopeLawful.{slope_width}
 

@@ -9,3 +9,4 @@ mod AnswersRight
 mod CutLaws
 mod WeakCoordinates
 mod Formed
+mod Prelude

@@ -1,26 +1,6 @@
 -- The problem of a reaction keeps what every sign problem keeps.
-use Rattle.std.proofs.Common.{◌≡◌, ◌≢◌, ℕ, zero, suc, ◌+◌, ◌≤◌, ◌<◌, inl, inr, List, [], ◌∷◌, ◌++◌, length, map, replicate, Bool, true, false, ◌&&◌, cond, refl, sym, ap, ap₂, subst, ◌∙◌, arith, lit≤, eqb}
-use Rattle.std.specs.Prelude.{ℤ, neg_ℤ, not, ◌==◌}
-use Rattle.std.specs.List.{AllZip, range_with_len}
-use Rattle.std.proofs.lemmas.Int.{ints}
-use Rattle.std.proofs.lemmas.Bool.{false≢true, eqb-true}
-use Rattle.std.proofs.lemmas.List.{length-append, length-map, length-replicate}
-use Rattle.std.proofs.lemmas.List.FromFn.{length-range_with_len, length-map-range_with_len}
-use Rattle.crn_vec.specs.declared.limits.TheConstants.{MAX_COMPLEXES, MAX_SIGNED}
-use Rattle.crn_vec.specs.declared.signs.Sign.{Sign}
-use Rattle.crn_vec.specs.declared.signs.Sign.TheVariants.{Zero, Plus, Minus}
-use Rattle.crn_vec.specs.declared.signs.Kind.{Kind}
-use Rattle.crn_vec.specs.declared.signs.Kind.TheVariants.{Free}
-use Rattle.crn_vec.specs.Elementary.{width}
-use Rattle.crn_vec.specs.Network.{Net, IsNetwork, reaction_vector}
-use Rattle.crn_vec.specs.Deficiency.{vectors}
-use Rattle.crn_vec.specs.Systems.{HasKind, is_signed, one_if, signed_count}
-use Rattle.crn_vec.specs.Problems.{opposite, mirror, IsLawful, IsSteady}
-use Rattle.crn_vec.specs.Concordance.{kind_of_sign, row_kinds, is_plus, is_minus}
-use Rattle.crn_vec.proofs.CallerLemmas.{eq_or, one_at_most, count_at_most, length-rows, plus-opposite, minus-opposite, dot-neg, length-neg, map_twice, map_same, filter_few, vectors_count}
-use Rattle.crn_endo_check.specs.Endotactic.{reaction_at, rise}
-use Rattle.crn_endo_check.specs.Slopes.{reactants, others, later, option_of, negated, row_above, is_reactant, slope_matrix, at_least_zero_if, rise_kind, fall_kind, slope_kinds, is_slope_closed, slopes}
-use Rattle.crn_vec.proofs.CallerLemmas.{all_refined, rows_longer, sign_opposite, rows_opposite, all_opposite, count-append, count_none}
+use Rattle.crn_endo_check.proofs.Prelude.{◌≡◌, ◌≢◌, ℕ, zero, suc, ◌+◌, ◌≤◌, ◌<◌, inl, inr, List, [], ◌∷◌, ◌++◌, length, map, replicate, Bool, true, false, cond, refl, sym, ap, ap₂, subst, ◌∙◌, arith, lit≤, eqb, ℤ, neg_ℤ, not, ◌==◌, AllZip, range_with_len, ints, false≢true, eqb-true, length-append, length-map, length-replicate, length-range_with_len, length-map-range_with_len, MAX_COMPLEXES, MAX_SIGNED, Sign, Zero, Plus, Minus, Kind, Free, width, Net, IsNetwork, reaction_vector, vectors, HasKind, is_signed, one_if, signed_count, opposite, mirror, IsLawful, IsSteady, kind_of_sign, row_kinds, is_plus, is_minus, eq_or, one_at_most, count_at_most, length-rows, plus-opposite, minus-opposite, dot-neg, length-neg, map_twice, map_same, filter_few, vectors_count, reaction_at, rise, reactants, others, later, option_of, negated, row_above, is_reactant, slope_matrix, at_least_zero_if, rise_kind, fall_kind, slope_kinds, is_slope_closed, slopes, all_refined, rows_longer, sign_opposite, rows_opposite, all_opposite, count-append, count_none}
+use Rattle.std.proofs.Common.{◌&&◌}
 use Rattle.crn_endo_check.proofs.SlopeRows.{above, Has, solution_by, has_by, free_solution, solution_long}
 
 -- ---- options of longer and of mirrored prefixes

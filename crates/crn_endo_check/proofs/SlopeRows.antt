@@ -1,24 +1,5 @@
 -- Solutions of part A of a reaction's problem, by the rises of a slope and by its heights.
-use Rattle.std.proofs.Common.{◌≡◌, ℕ, ◌<◌, List, [], ◌∷◌, ◌++◌, length, get_or, map, replicate, take, sym, ap, subst, ◌∙◌, refl, arith}
-use Rattle.std.specs.Prelude.{ℤ, pos, neg_ℤ}
-use Rattle.std.specs.List.{AllZip, range_with_len}
-use Rattle.std.proofs.lemmas.Int.{ints}
-use Rattle.std.proofs.lemmas.List.{get_or-map, length-map, length-replicate, length-take-le}
-use Rattle.std.proofs.lemmas.List.FromFn.{get_or-map-range_with_len, length-map-range_with_len}
-use Rattle.std.proofs.Math.Seq.{take-append_seam}
-use Rattle.crn_vec.specs.declared.signs.Kind.{Kind}
-use Rattle.crn_vec.specs.declared.signs.Kind.TheVariants.{Free}
-use Rattle.crn_vec.specs.Vectors.{Mat, dot, entry}
-use Rattle.crn_vec.specs.Elementary.{width}
-use Rattle.crn_vec.specs.Network.{Net, reaction_vector}
-use Rattle.crn_vec.specs.Deficiency.{vectors}
-use Rattle.crn_vec.specs.Systems.{HasKind, IsSolution}
-use Rattle.crn_vec.specs.Concordance.{image}
-use Rattle.crn_vec.proofs.CallerLemmas.{zip_from, zip_at, zip_append, map_twice, neg-mul, vector_at, vectors_count}
-use Rattle.crn_ctree.proofs.CallerLemmas.{has_both}
-use Rattle.crn_endo_check.specs.Endotactic.{reaction_at, rise}
-use Rattle.crn_endo_check.specs.Slopes.{others, negated, row_above, slope_matrix}
-use Rattle.crn_vec.proofs.CallerLemmas.{entry-image, vector_is, solution_of, parts_of, frees_have, map-append, prefix_zip, back_zip}
+use Rattle.crn_endo_check.proofs.Prelude.{◌≡◌, ℕ, ◌<◌, List, [], ◌∷◌, ◌++◌, length, get_or, map, replicate, take, sym, ap, subst, ◌∙◌, refl, arith, ℤ, pos, neg_ℤ, AllZip, range_with_len, ints, get_or-map, length-map, length-replicate, length-take-le, get_or-map-range_with_len, length-map-range_with_len, take-append_seam, Kind, Free, Mat, dot, entry, width, Net, reaction_vector, vectors, HasKind, IsSolution, image, zip_from, zip_at, zip_append, map_twice, neg-mul, vector_at, vectors_count, has_both, reaction_at, rise, others, negated, row_above, slope_matrix, entry-image, vector_is, solution_of, parts_of, frees_have, map-append, prefix_zip, back_zip}
 
 -- how high a slope is at complex c above the reactant of reaction r
 abbrev pub above : Net → ℕ → List ℤ → ℕ → ℤ

@@ -1,17 +1,5 @@
 -- Which coordinates of a reaction's problem are at least 0 at some prefix.
-use Rattle.std.proofs.Common.{◌≡◌, ◌≢◌, ◌⊎◌, ℕ, zero, suc, ◌+◌, ◌-◌, ◌<◌, ◌≤◌, inl, inr, List, [], ◌∷◌, length, Bool, true, false, cond, sym, ap, subst, ◌∙◌, refl, arith}
-use Rattle.std.specs.Prelude.{◌==◌, ◌&&◌}
-use Rattle.std.proofs.lemmas.Bool.{eqb-true, eq-eqb}
-use Rattle.crn_vec.specs.declared.signs.Sign.{Sign}
-use Rattle.crn_vec.specs.declared.signs.Sign.TheVariants.{Zero, Plus, Minus}
-use Rattle.crn_vec.specs.declared.signs.Kind.{Kind}
-use Rattle.crn_vec.specs.declared.signs.Kind.TheVariants.{NonNeg, Free}
-use Rattle.crn_vec.specs.Network.{Net}
-use Rattle.crn_vec.specs.Systems.{kind_at}
-use Rattle.crn_vec.specs.Concordance.{is_minus, is_plus, kind_of_sign, row_kinds}
-use Rattle.crn_vec.proofs.CallerLemmas.{eq_or, lt_or}
-use Rattle.crn_endo_check.specs.Endotactic.{reaction_at}
-use Rattle.crn_endo_check.specs.Slopes.{AtLeastZeroOrFree, NeverAtLeastZero, at_least_zero_if, fall_kind, later, option_of, others, rise_kind, slope_kinds}
+use Rattle.crn_endo_check.proofs.Prelude.{◌≡◌, ◌≢◌, ◌⊎◌, ℕ, zero, suc, ◌+◌, ◌-◌, ◌<◌, ◌≤◌, inl, inr, List, [], ◌∷◌, length, Bool, true, false, cond, sym, ap, subst, ◌∙◌, refl, arith, ◌==◌, ◌&&◌, eqb-true, eq-eqb, Sign, Zero, Plus, Minus, Kind, NonNeg, Free, Net, kind_at, is_minus, is_plus, kind_of_sign, row_kinds, eq_or, lt_or, reaction_at, AtLeastZeroOrFree, NeverAtLeastZero, at_least_zero_if, fall_kind, later, option_of, others, rise_kind, slope_kinds}
 use Rattle.crn_endo_check.proofs.SlopeCoordinates.{fall_row, height_row, rise_row, species_kind}
 
 abbrev IsEither : Kind → Type 0

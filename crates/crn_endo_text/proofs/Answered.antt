@@ -1,37 +1,6 @@
 -- The lines of a document on endotactic networks are those of the formed answers whose tests hold.
-use Rattle.std.proofs.Common.{◌≡◌, ◌≤◌, ◌<◌, ◌+◌, ◌-◌, ◌++◌, ◌⊎◌, ℕ, zero, suc, Bool, true, false, List, [], ◌∷◌, length, map, get_or, refl, sym, ap, subst, ◌∙◌, append_assoc, inl, inr, arith}
-use Rattle.std.specs.Prelude.{ℤ, codes}
-use Rattle.std.specs.List.{flat_map}
-use Rattle.std.specs.Str.{bytes_eq}
-use Rattle.std.proofs.lemmas.List.{append-nil, length-append, map-append}
-use Rattle.crn_vec.specs.Lists.{IsIn}
-use Rattle.crn_vec.specs.Network.{Net, IsNetwork}
-use Rattle.crn_vec.specs.declared.signs.Sign.{Sign}
-use Rattle.crn_vec.specs.declared.signs.Sign.TheVariants.{Zero, Plus, Minus}
-use Rattle.crn_vec.specs.Problems.{Signed, all_zero}
-use Rattle.crn_vec.proofs.CallerLemmas.{zip_append}
-use Rattle.crn_cert.specs.Nodes.{Said, Splits, Flats, CutsA, CutsB, Fits}
-use Rattle.crn_cert.specs.Ranges.{AreFree, IsFrom}
-use Rattle.crn_cert.specs.Trees.{Plan, Both, Three, RulesA, RulesB, Level, IsFormedTree, IsValid, node_count}
-use Rattle.crn_ctext.specs.Records.{Record, Form, Says, Fits as FitsForm, record_text, kind_of}
-use Rattle.crn_ctext.specs.Kinds.{record_form, small_form, free_form}
-use Rattle.crn_ctext.specs.Course.{Course, Give, ◌>>=◌, test_own}
-use Rattle.crn_ctext.specs.Courses.{IsWrittenBy}
-use Rattle.crn_ctext.specs.Blocks.{either, word_of}
-use Rattle.crn_ctext.specs.Questions.{first_number}
-use Rattle.crn_ctext.specs.Documents.{IsOneOf, one_word}
-use Rattle.crn_ctext.specs.Answers.{nodes, small_record}
-use Rattle.crn_ctext.specs.Parts.{asks_part}
-use Rattle.crn_ctext.proofs.CallerLemmas.{AllPlain, IsBounded, fitting_is_plain, short_both, free_fits, free_row, free_bounded, number_fits, give_back, written_cuts, written_then, HasNoEnd, no_end_then, give_no_end, part_no_end, test_no_end, are_words, in_by_test, plain_is_line, IsAnswered, IsFirst, first_back, Say, only, one_said, none_said, line_on, given, test_back, test_on, either_no_end, bare_back, one_back, species_row, bare_row, plain_bare}
-use Rattle.crn_endo_check.specs.Endotactic.{IsAgainst}
-use Rattle.crn_endo_check.specs.Slopes.{IsSmallEnough, slopes}
-use Rattle.crn_endo_check.specs.Endo.{NamesReaction, row_count, CutsPartA, IsSlopeTree, AreFormedTrees, AreValidTrees, IsFormedEndo, IsValidEndo}
-use Rattle.crn_endo_check.specs.declared.endo.Endo.{Endo}
+use Rattle.crn_endo_text.proofs.Prelude.{◌≡◌, ◌≤◌, ◌<◌, ◌+◌, ◌-◌, ◌++◌, ◌⊎◌, ℕ, zero, suc, Bool, true, false, List, [], ◌∷◌, length, map, get_or, refl, sym, ap, subst, ◌∙◌, append_assoc, inl, inr, arith, ℤ, codes, flat_map, bytes_eq, append-nil, length-append, map-append, IsIn, Net, IsNetwork, Sign, Zero, Plus, Minus, Signed, all_zero, zip_append, Said, Splits, Flats, CutsA, CutsB, Fits, AreFree, IsFrom, Plan, Both, Three, RulesA, RulesB, Level, IsFormedTree, IsValid, node_count, Record, Form, Says, FitsForm, record_text, kind_of, record_form, small_form, free_form, Course, Give, ◌>>=◌, test_own, IsWrittenBy, either, word_of, first_number, IsOneOf, one_word, nodes, small_record, asks_part, AllPlain, IsBounded, fitting_is_plain, short_both, free_fits, free_row, free_bounded, number_fits, give_back, written_cuts, written_then, HasNoEnd, no_end_then, give_no_end, part_no_end, test_no_end, are_words, in_by_test, plain_is_line, IsAnswered, IsFirst, first_back, Say, only, one_said, none_said, line_on, given, test_back, test_on, either_no_end, bare_back, one_back, species_row, bare_row, plain_bare, IsAgainst, IsSmallEnough, slopes, NamesReaction, row_count, CutsPartA, IsSlopeTree, AreFormedTrees, AreValidTrees, IsFormedEndo, IsValidEndo, Endo, rows_counted, EndoSeen, Yes, No, Undecided, words, wide_form, spent_form, other_forms, verdict_forms, slope_forms, node_forms, said_of, node_fault, asks_node, if_split, asks_tree, asks_trees, asks_yes, asks_no, asks_rest, asks_endo, part, records, seen_of, meant}
 use Rattle.crn_endo_check.specs.declared.endo.Endo.TheVariants as answers
-use Rattle.crn_endo_check.proofs.CallerLemmas.{rows_counted}
-use Rattle.crn_endo_text.specs.declared.seen.EndoSeen.{EndoSeen}
-use Rattle.crn_endo_text.specs.declared.seen.EndoSeen.TheVariants.{Yes, No, Undecided}
-use Rattle.crn_endo_text.specs.Document.{words, wide_form, spent_form, other_forms, verdict_forms, slope_forms, node_forms, said_of, node_fault, asks_node, if_split, asks_tree, asks_trees, asks_yes, asks_no, asks_rest, asks_endo, part, records, seen_of, meant}
 use Rattle.crn_endo_text.proofs.Nodes.{IsNode, node_back, rows_few, small_back, verdict_back, yes_due, other_due, wide_back, wide_fits, spent_back, spent_fits, no_row, spent_row, wide_row}
 
 -- how many numbers a cut has

@@ -8,3 +8,4 @@ mod LinesRead
 mod VerdictsRead
 mod Written
 mod ShortDocuments
+mod Prelude

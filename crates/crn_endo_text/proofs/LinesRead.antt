@@ -1,15 +1,5 @@
 -- The lines that are due, as the runs of numbers after their words say them.
-use Rattle.std.proofs.Common.{◌≡◌, ◌+◌, ◌++◌, ℕ, Bool, true, false, List, [], ◌∷◌, length, refl, sym, ap, ap₂, ◌∙◌}
-use Rattle.std.specs.Prelude.{codes}
-use Rattle.crn_vec.specs.Network.{Net}
-use Rattle.crn_vec.specs.declared.limits.TheConstants.{MAX_BUDGET}
-use Rattle.crn_ctext.specs.Records.{Form, Field, Free, Rising}
-use Rattle.crn_ctext.specs.Kinds.{small, record_form, end_form}
-use Rattle.crn_ctext.specs.PartLines.{forms_in, field_of}
-use Rattle.crn_ctext.specs.declared.part.Field.{Field as Run}
-use Rattle.crn_ctext.specs.declared.part.Choice.{Choice}
-use Rattle.crn_endo_check.specs.Endo.{row_count}
-use Rattle.crn_endo_text.specs.Document.{words, is_small, yes_forms, other_forms, verdict_forms, slope_forms, node_forms}
+use Rattle.crn_endo_text.proofs.Prelude.{◌≡◌, ◌+◌, ◌++◌, ℕ, Bool, true, false, List, [], ◌∷◌, length, refl, sym, ap, ap₂, ◌∙◌, codes, Net, MAX_BUDGET, Form, Field, Free, Rising, small, record_form, end_form, forms_in, field_of, Run, Choice, row_count, words, is_small, yes_forms, other_forms, verdict_forms, slope_forms, node_forms}
 
 abbrev choice : ℕ → ℕ → ℕ → Choice
 choice word first count = record { word = word; first = first; count = count }

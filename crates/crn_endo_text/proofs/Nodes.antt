@@ -1,23 +1,6 @@
 -- The records of a document on endotactic networks, one by one: what their lines say, and that those of formed answers fit.
-use Rattle.std.proofs.Common.{◌≡◌, ◌≤◌, ◌-◌, ◌⊎◌, ◌++◌, ℕ, Bool, true, false, List, [], ◌∷◌, length, map, refl, sym, ap, subst, ◌∙◌, inl, inr, arith}
-use Rattle.std.specs.Prelude.{ℤ, pos, codes}
-use Rattle.std.specs.List.{range_with_len}
-use Rattle.std.proofs.lemmas.Bool.{eqb-true, eq-eqb}
-use Rattle.std.proofs.lemmas.List.FromFn.{length-range_with_len}
-use Rattle.crn_vec.specs.Lists.{IsIn}
-use Rattle.crn_vec.specs.Network.{Net, IsNetwork}
-use Rattle.crn_vec.specs.declared.limits.TheConstants.{MAX_BUDGET, MAX_COMPLEXES, MAX_COORDINATES}
-use Rattle.crn_vec.proofs.CallerLemmas.{filter_few}
-use Rattle.crn_cert.specs.Data.{IsBasisOf}
-use Rattle.crn_cert.specs.Ranges.{AreFree, IsFrom}
-use Rattle.crn_ctext.specs.Records.{Record, Form, Fits}
-use Rattle.crn_ctext.specs.Kinds.{small, record_form, small_form}
-use Rattle.crn_ctext.specs.Documents.{IsOneOf, one_word}
-use Rattle.crn_ctext.specs.Answers.{small_record}
-use Rattle.crn_ctext.proofs.CallerLemmas.{IsBounded, number_back, number_then, number_fits, one_number, record_is, free_row, bare_back, wide_fields, wide_numbers, wide_numbers_fit, reactions_few, species_few, small_bounded}
-use Rattle.crn_endo_check.specs.Endo.{row_count}
-use Rattle.crn_endo_check.specs.Slopes.{IsSmallEnough, is_reactant, reactants, slope_size}
-use Rattle.crn_endo_text.specs.Document.{is_small, yes_forms, wide_form, spent_form, other_forms, verdict_forms, node_forms}
+use Rattle.crn_endo_text.proofs.Prelude.{◌≡◌, ◌≤◌, ◌-◌, ◌⊎◌, ◌++◌, ℕ, Bool, true, false, List, [], ◌∷◌, length, map, refl, sym, ap, subst, ◌∙◌, inl, inr, arith, ℤ, pos, codes, range_with_len, eqb-true, eq-eqb, length-range_with_len, IsIn, Net, IsNetwork, MAX_BUDGET, MAX_COMPLEXES, MAX_COORDINATES, filter_few, IsBasisOf, AreFree, IsFrom, Record, Form, small, record_form, small_form, IsOneOf, one_word, small_record, IsBounded, number_back, number_then, number_fits, one_number, record_is, free_row, bare_back, wide_fields, wide_numbers, wide_numbers_fit, reactions_few, species_few, small_bounded, row_count, IsSmallEnough, is_reactant, reactants, slope_size, is_small, yes_forms, wide_form, spent_form, other_forms, verdict_forms, node_forms}
+use Rattle.crn_ctext.specs.Records.{Fits}
 
 -- ---- the sizes
 

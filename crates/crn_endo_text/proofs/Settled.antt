@@ -1,24 +1,5 @@
 -- The course of the lines of a document on endotactic networks is settled.
-use Rattle.std.proofs.Common.{◌+◌, ◌-◌, ◌++◌, ℕ, zero, suc, Bool, true, false, List, [], ◌∷◌, length, refl, arith}
-use Rattle.std.specs.Prelude.{codes}
-use Rattle.std.specs.Str.{bytes_eq}
-use Rattle.crn_vec.specs.Network.{Net}
-use Rattle.crn_vec.specs.declared.signs.Sign.{Sign}
-use Rattle.crn_vec.specs.declared.signs.Sign.TheVariants.{Zero, Plus, Minus}
-use Rattle.crn_vec.specs.Problems.{all_zero}
-use Rattle.crn_cert.specs.Nodes.{Said, Splits, Flats, CutsA, CutsB, Fits}
-use Rattle.crn_ctext.specs.Records.{Record}
-use Rattle.crn_ctext.specs.Course.{Course, Give, ◌>>=◌, test_own}
-use Rattle.crn_ctext.specs.Courses.{IsSettled}
-use Rattle.crn_ctext.specs.Blocks.{either, word_of}
-use Rattle.crn_ctext.specs.Questions.{first_number}
-use Rattle.crn_ctext.specs.Parts.{asks_part, part_course}
-use Rattle.crn_ctext.proofs.CallerLemmas.{HaveWords, forms_yes, settled_then, own_settled, give_settled, either_settled, asks_part_settled, part_settled}
-use Rattle.crn_endo_check.specs.Endotactic.{IsAgainst}
-use Rattle.crn_endo_check.specs.Slopes.{slopes}
-use Rattle.crn_endo_text.specs.declared.seen.EndoSeen.{EndoSeen}
-use Rattle.crn_endo_text.specs.declared.seen.EndoSeen.TheVariants.{Yes, No, Undecided}
-use Rattle.crn_endo_text.specs.Document.{words, yes_forms, is_small, other_forms, verdict_forms, slope_forms, node_forms, said_of, node_fault, asks_node, if_split, asks_tree, asks_trees, asks_yes, asks_no, asks_rest, asks_endo, IsOwn, part}
+use Rattle.crn_endo_text.proofs.Prelude.{◌+◌, ◌-◌, ◌++◌, ℕ, zero, suc, Bool, true, false, List, [], ◌∷◌, length, refl, arith, codes, bytes_eq, Net, Sign, Zero, Plus, Minus, all_zero, Said, Splits, Flats, CutsA, CutsB, Fits, Record, Course, Give, ◌>>=◌, test_own, IsSettled, either, word_of, first_number, asks_part, part_course, HaveWords, forms_yes, settled_then, own_settled, give_settled, either_settled, asks_part_settled, part_settled, IsAgainst, slopes, EndoSeen, Yes, No, Undecided, words, yes_forms, is_small, other_forms, verdict_forms, slope_forms, node_forms, said_of, node_fault, asks_node, if_split, asks_tree, asks_trees, asks_yes, asks_no, asks_rest, asks_endo, IsOwn, part}
 use Rattle.crn_endo_text.proofs.TestsDecided.{fits_decided, against_decided}
 
 -- ---- the trees

@@ -1,15 +1,6 @@
 -- Documents of answers whose trees have few nodes are short.
-use Rattle.std.proofs.Common.{◌≡◌, ◌≤◌, ◌+◌, ◌++◌, List, [], ◌∷◌, length, map, refl, arith}
-use Rattle.std.specs.Prelude.{sum, codes}
-use Rattle.std.specs.List.{flat_map}
-use Rattle.std.proofs.lemmas.List.{length-append}
-use Rattle.std.proofs.lemmas.List.Sums.{sum_by-cons}
-use Rattle.crn_cert.specs.Trees.{Plan, Both, Three, RulesA, RulesB, Level, node_count}
-use Rattle.crn_ctext.specs.Answers.{nodes}
-use Rattle.crn_ctext.proofs.CallerLemmas.{part_document_short}
-use Rattle.crn_endo_check.specs.declared.endo.Endo.{Endo}
-use Rattle.crn_endo_check.specs.declared.endo.Endo.TheVariants.{Yes, No, Wide, Spent, Large}
-use Rattle.crn_endo_text.specs.Document.{records, HasFewNodes, WrittenAreDocuments}
+use Rattle.crn_endo_text.proofs.Prelude.{◌≡◌, ◌≤◌, ◌+◌, ◌++◌, List, [], ◌∷◌, length, map, refl, arith, sum, codes, flat_map, length-append, sum_by-cons, Plan, Both, Three, RulesA, RulesB, Level, node_count, nodes, part_document_short, Endo, Wide, Spent, Large, records, HasFewNodes, WrittenAreDocuments}
+use Rattle.crn_endo_check.specs.declared.endo.Endo.TheVariants.{Yes, No}
 use Rattle.crn_endo_text.proofs.Answered.{endo_is_answered, records_plain}
 
 nodes_counted : (tree : Plan) → length (nodes tree) ≡ node_count tree

@@ -1,20 +1,6 @@
 -- The tests of a document on endotactic networks are decided, whatever its records hold.
-use Rattle.std.proofs.Common.{◌≡◌, ◌≢◌, ◌<◌, ◌+◌, ℕ, Bool, true, false, if◌then◌else◌, List, length, refl, inl, inr, arith}
-use Rattle.std.specs.Prelude.{ℤ, pos, negsuc, ◌≤ℤ◌, ◌<ℤ◌, ◌+ℤ◌}
-use Rattle.std.proofs.lemmas.Int.{ints}
-use Rattle.crn_vec.specs.Network.{Net}
-use Rattle.crn_vec.specs.Vectors.{entry}
-use Rattle.crn_vec.specs.Elementary.{width}
-use Rattle.crn_vec.specs.declared.signs.Sign.{Sign}
-use Rattle.crn_vec.specs.declared.signs.Kind.{Kind}
-use Rattle.crn_vec.specs.declared.signs.Kind.TheVariants.{Pos, Neg, NonNeg, Zero, Free}
-use Rattle.crn_vec.specs.Systems.{IsCut, MayWeigh, is_signed, kind_at}
-use Rattle.crn_vec.proofs.CallerLemmas.{cut_long}
-use Rattle.crn_cert.specs.Nodes.{Splits, Flats, CutsA, Fits}
-use Rattle.crn_ctext.proofs.CallerLemmas.{IsDecided, both_decided, not_decided, moved, nat_decided, lt_decided, bool_decided, int_decided, int_le_decided, each_below, some_below}
-use Rattle.crn_endo_check.specs.Endotactic.{HasLowerRise, IsAgainst, height, reaction_at, rise}
-use Rattle.crn_endo_check.specs.Slopes.{is_slope_closed, others, slope_kinds, slope_matrix, slopes}
-use Rattle.crn_endo_check.proofs.CallerLemmas.{MayWeighTo, CountsTo, cut_from, cut_weighs, cut_counts, kinds_long}
+use Rattle.crn_endo_text.proofs.Prelude.{◌≡◌, ◌≢◌, ◌<◌, ◌+◌, ℕ, Bool, true, false, if◌then◌else◌, List, length, refl, inl, inr, arith, ℤ, pos, negsuc, ◌≤ℤ◌, ◌<ℤ◌, ◌+ℤ◌, ints, Net, entry, width, Sign, Kind, Pos, Neg, NonNeg, IsCut, MayWeigh, is_signed, kind_at, cut_long, Splits, Flats, CutsA, Fits, IsDecided, both_decided, not_decided, moved, nat_decided, lt_decided, bool_decided, int_decided, int_le_decided, each_below, some_below, HasLowerRise, IsAgainst, height, reaction_at, rise, is_slope_closed, others, slope_kinds, slope_matrix, slopes, MayWeighTo, CountsTo, cut_from, cut_weighs, cut_counts, kinds_long}
+use Rattle.crn_vec.specs.declared.signs.Kind.TheVariants.{Zero, Free}
 
 -- ---- cuts
 

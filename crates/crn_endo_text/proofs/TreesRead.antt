@@ -1,38 +1,6 @@
 -- The nodes of trees, as they are read one by one.
-use Rattle.std.proofs.Common.{◌≡◌, ◌≢◌, ◌≤◌, ◌<◌, ◌+◌, ◌-◌, ◌++◌, ◌⊎◌, ℕ, zero, suc, Bool, true, false, List, [], ◌∷◌, length, map, refl, sym, ap, subst, ◌∙◌, inl, inr, arith, Result, Ok, Err}
-use Rattle.std.specs.Prelude.{ℤ, if◌then◌else◌, codes}
-use Rattle.std.proofs.lemmas.List.{length-append}
-use Rattle.crn_vec.specs.Network.{Net}
-use Rattle.crn_vec.specs.declared.signs.Sign.{Sign}
-use Rattle.crn_vec.specs.declared.signs.Sign.TheVariants.{Zero, Plus, Minus}
-use Rattle.crn_vec.specs.Problems.{Signed, all_zero, children, options_below}
-use Rattle.crn_vec.specs.Visits.{root}
-use Rattle.crn_cert.specs.Nodes.{Said, Splits, Flats, CutsA, CutsB, Fits, AreNumbersFor, rest_after}
-use Rattle.crn_cert.specs.Ranges.{AreFree}
-use Rattle.crn_ctree.specs.Due.{first}
-use Rattle.crn_ctree.specs.Gives.{IsTaken, NodeGives}
-use Rattle.crn_ctree.specs.declared.node.Step.{Step}
-use Rattle.crn_ctree.specs.declared.node.Step.TheVariants.{More, Complete}
-use Rattle.crn_ctree.specs.declared.fault.TreeFault.{TreeFault}
-use Rattle.crn_ctree.specs.declared.fault.TreeFault.TheVariants.{BadLeaf, NodeNotAllowed, TreeEndsEarly, WrongShape}
-use Rattle.crn_io.specs.Device.{SourceSeen}
-use Rattle.crn_ctext.specs.Records.{Record}
-use Rattle.crn_ctext.specs.Course.{Course, Give, ◌>>=◌, test_own}
-use Rattle.crn_ctext.specs.Blocks.{either, word_of}
-use Rattle.crn_ctext.specs.Documents.{one_word}
-use Rattle.crn_ctext.specs.Parts.{asks_part}
-use Rattle.crn_ctext.specs.Steps.{StepGives}
-use Rattle.crn_reading.specs.Steps.{CanRead, StepIs, StopIs}
-use Rattle.crn_reading.specs.Records.{IsPartSaid}
-use Rattle.crn_reading.specs.declared.reading.Reading.{Reading}
-use Rattle.crn_reading.specs.declared.fault.CheckStop.{CheckStop}
-use Rattle.crn_reading.specs.declared.fault.CheckStop.TheVariants.{Rejected}
-use Rattle.crn_reading.proofs.CallerLemmas.{step_then_is, step_gives, stop_first, stop_after, IsGiven, find, placed, own_holds, own_fails}
-use Rattle.crn_endo_check.specs.Slopes.{slopes}
-use Rattle.crn_endo_text.specs.declared.seen.EndoSeen.{EndoSeen}
-use Rattle.crn_endo_text.specs.declared.seen.EndoSeen.TheVariants.{Yes}
-use Rattle.crn_endo_text.specs.Document.{words, node_forms, said_of, node_fault, asks_node, if_split, asks_tree, asks_trees}
-use Rattle.crn_endo_text.specs.Inner.TreesRead.{said_at, number_of, asks_from, asks_due, Leaves, Takes, ReadsSeen, ReadsUpTo}
+use Rattle.crn_endo_text.proofs.Prelude.{◌≡◌, ◌≢◌, ◌≤◌, ◌<◌, ◌+◌, ◌-◌, ◌++◌, ◌⊎◌, ℕ, zero, suc, Bool, true, false, List, [], ◌∷◌, length, map, refl, sym, ap, subst, ◌∙◌, inl, inr, arith, Result, Ok, Err, ℤ, codes, length-append, Net, Sign, Zero, Plus, Minus, Signed, all_zero, children, options_below, root, Said, Splits, Flats, CutsA, CutsB, Fits, AreNumbersFor, rest_after, AreFree, first, IsTaken, NodeGives, Step, More, Complete, TreeFault, BadLeaf, NodeNotAllowed, TreeEndsEarly, WrongShape, SourceSeen, Record, Course, Give, ◌>>=◌, test_own, either, word_of, one_word, asks_part, StepGives, CanRead, StepIs, StopIs, IsPartSaid, Reading, CheckStop, Rejected, step_then_is, step_gives, stop_first, stop_after, IsGiven, find, placed, own_holds, own_fails, slopes, EndoSeen, Yes, words, node_forms, said_of, node_fault, asks_node, if_split, asks_tree, asks_trees, said_at, number_of, asks_from, asks_due, Leaves, Takes, ReadsSeen, ReadsUpTo}
+use Rattle.std.specs.Prelude.{if◌then◌else◌}
 use Rattle.crn_endo_text.proofs.Nodes.{IsNode, node_back}
 
 -- ---- what a node says, by the place of its word

@@ -1,32 +1,6 @@
 -- The lines around the trees, as they are read one after another.
-use Rattle.std.proofs.Common.{◌≡◌, ◌<◌, ◌+◌, ◌-◌, ◌⊎◌, ℕ, Bool, false, List, [], ◌∷◌, length, refl, sym, ap, subst, ◌∙◌, inl, inr, arith, Result, Ok}
-use Rattle.std.specs.Prelude.{ℤ, pos, codes}
-use Rattle.std.specs.Str.{bytes_eq}
-use Rattle.crn_vec.specs.Lists.{IsIn}
-use Rattle.crn_vec.specs.Network.{Net}
-use Rattle.crn_cert.specs.Ranges.{AreFree, IsFrom}
-use Rattle.crn_io.specs.Device.{SourceSeen}
-use Rattle.crn_ctext.specs.Records.{Record, Form, Fits}
-use Rattle.crn_ctext.specs.Course.{Course, Give, ◌>>=◌, test_own}
-use Rattle.crn_ctext.specs.Blocks.{either, word_of}
-use Rattle.crn_ctext.specs.Questions.{first_number}
-use Rattle.crn_ctext.specs.Documents.{IsOneOf, one_word}
-use Rattle.crn_ctext.specs.Answers.{small_record}
-use Rattle.crn_ctext.specs.Parts.{asks_part}
-use Rattle.crn_ctext.proofs.CallerLemmas.{free_row, bare_back, one_back}
-use Rattle.crn_reading.specs.Steps.{CanRead, StepIs, StopIs}
-use Rattle.crn_reading.specs.Records.{IsPartSaid}
-use Rattle.crn_reading.specs.declared.reading.Reading.{Reading}
-use Rattle.crn_reading.specs.declared.fault.CheckStop.{CheckStop}
-use Rattle.crn_reading.specs.declared.fault.CheckStop.TheVariants.{Rejected}
-use Rattle.crn_reading.proofs.CallerLemmas.{step_then_is, step_gives, stop_first, stop_after, IsGiven, find, placed, own_holds, own_fails}
-use Rattle.crn_endo_check.specs.Endo.{row_count}
-use Rattle.crn_endo_check.specs.Endotactic.{IsAgainst}
-use Rattle.crn_endo_check.specs.Slopes.{IsSmallEnough}
-use Rattle.crn_endo_text.specs.declared.seen.EndoSeen.{EndoSeen}
-use Rattle.crn_endo_text.specs.declared.seen.EndoSeen.TheVariants.{Yes, No, Undecided}
-use Rattle.crn_endo_text.specs.Document.{words, other_forms, verdict_forms, slope_forms, asks_trees, asks_yes, asks_no, asks_rest, asks_endo}
-use Rattle.crn_endo_text.specs.Inner.TreesRead.{asks_from, ReadsSeen, ReadsTrees}
+use Rattle.crn_endo_text.proofs.Prelude.{◌≡◌, ◌<◌, ◌+◌, ◌-◌, ◌⊎◌, ℕ, Bool, false, List, [], ◌∷◌, length, refl, sym, ap, subst, ◌∙◌, inl, inr, arith, Result, Ok, ℤ, pos, codes, bytes_eq, IsIn, Net, AreFree, IsFrom, SourceSeen, Record, Form, Course, Give, ◌>>=◌, test_own, either, word_of, first_number, IsOneOf, one_word, small_record, asks_part, free_row, bare_back, one_back, CanRead, StepIs, StopIs, IsPartSaid, Reading, CheckStop, Rejected, step_then_is, step_gives, stop_first, stop_after, IsGiven, find, placed, own_holds, own_fails, row_count, IsAgainst, IsSmallEnough, EndoSeen, Yes, No, Undecided, words, other_forms, verdict_forms, slope_forms, asks_trees, asks_yes, asks_no, asks_rest, asks_endo, asks_from, ReadsSeen, ReadsTrees}
+use Rattle.crn_ctext.specs.Records.{Fits}
 use Rattle.crn_endo_text.proofs.Nodes.{small_back, verdict_back, wide_back, spent_back}
 use Rattle.crn_endo_text.proofs.TreesRead.{last_due}
 

@@ -1,19 +1,6 @@
 -- The lines of trees and of an answer, as they are written.
-use Rattle.std.proofs.Common.{◌≡◌, ◌++◌, ◌+◌, ◌<◌, ◌≤◌, ℕ, List, [], ◌∷◌, codes, length, map, take, drop, take_all, get_or, refl, sym, ap, ap₂, ◌∙◌, append_assoc}
-use Rattle.std.specs.Prelude.{pos}
-use Rattle.std.specs.List.{flat_map}
-use Rattle.std.proofs.lemmas.List.{append-nil, map-append, take_more, take-append-drop}
-use Rattle.std.proofs.lemmas.List.Concat.{flat_map-append}
-use Rattle.crn_vec.specs.Network.{Net}
-use Rattle.crn_cert.specs.declared.tree_node.TreeNode.{TreeNode}
-use Rattle.crn_cert.specs.Trees.{Plan, Both, Three, RulesA, RulesB, Level}
-use Rattle.crn_cert.specs.Preorder.{listed, preorder, AreNodesOf}
-use Rattle.crn_ctext.specs.Records.{Record, line, number_text, numbers_text}
-use Rattle.crn_ctext.specs.Answers.{nodes}
-use Rattle.crn_ctext.specs.Documents.{one_word, record_lines}
-use Rattle.crn_ctext.specs.Parts.{part_document, part_head}
-use Rattle.crn_ctext.proofs.CallerLemmas.{lines_append}
-use Rattle.crn_endo_text.specs.Inner.Written.{record_of}
+use Rattle.crn_endo_text.proofs.Prelude.{◌≡◌, ◌++◌, ◌+◌, ◌<◌, ◌≤◌, ℕ, List, [], ◌∷◌, length, map, take, drop, take_all, get_or, refl, sym, ap, ap₂, ◌∙◌, append_assoc, pos, flat_map, append-nil, map-append, take_more, take-append-drop, flat_map-append, Net, TreeNode, Plan, Both, Three, RulesA, RulesB, Level, listed, preorder, AreNodesOf, Record, line, number_text, numbers_text, nodes, one_word, record_lines, part_document, part_head, lines_append, record_of}
+use Rattle.std.proofs.Common.{codes}
 
 -- ---- the nodes of a tree
 

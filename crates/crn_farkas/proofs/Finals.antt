@@ -1,25 +1,6 @@
 -- From the parts of a decision to what it says.
-use Rattle.std.proofs.Common.{◌≡◌, ◌≢◌, ℕ, zero, suc, ◌+◌, ◌-◌, ◌<◌, ◌≤◌, ◌⊎◌, ◌↔◌, inl, inr, List, [], ◌∷◌, length, get_or, take, refl, sym, ap, subst, ◌∙◌, add-one, arith, replicate}
-use Rattle.std.specs.Prelude.{ℤ, pos, unsigned_abs, Bool, true, false, Result, Ok, Err}
-use Rattle.std.specs.Result.{MatchResult}
-use Rattle.std.proofs.lemmas.Int.{ints}
-use Rattle.std.proofs.lemmas.List.{get_or-drop, get_or-replicate, length-replicate}
-use Rattle.std.proofs.lemmas.Bool.{false≢true}
-use Rattle.crn_vec.specs.declared.limits.TheConstants.{MAX_SIGNED}
-use Rattle.crn_vec.specs.declared.signs.Kind.{Kind}
-use Rattle.crn_vec.specs.declared.signs.Kind.TheVariants.{Pos, Neg, NonNeg, Zero, Free}
-use Rattle.crn_vec.specs.Vectors.{Mat, entry}
-use Rattle.crn_vec.specs.Lists.{IsIn}
-use Rattle.crn_vec.specs.Elementary.{width, IsNamedRow}
-use Rattle.crn_vec.specs.Systems.{HasKind, MayTake, kind_at, HasOneRowCut, signed_count, HasSigned}
-use Rattle.crn_vec.proofs.CallerLemmas.{lt_or, past_end, zip_from, kind_from, take_zero, dot-zero, Zero as AllZero}
-use Rattle.crn_farkas.specs.declared.fault.Stop.{Stop}
-use Rattle.crn_farkas.specs.declared.fault.Stop.TheVariants.{Wide, NoMemory}
-use Rattle.crn_farkas.specs.declared.decision.Decision.{Decision}
-use Rattle.crn_farkas.specs.Inner.Views.{is_early_kind, level_of, level_count}
-use Rattle.crn_farkas.specs.Solver.{HasKeptCut, IsNearStop, IsRuledOut}
-use Rattle.crn_farkas.specs.Decision.{IsSmallSolution, IsDecision, IsTargetStop, IsStop}
-use Rattle.crn_farkas.specs.Inner.Sums.{IsPartSum, AreZeros, IsGoalStop}
+use Rattle.crn_farkas.proofs.Prelude.{◌≡◌, ◌≢◌, ℕ, zero, suc, ◌+◌, ◌-◌, ◌<◌, ◌≤◌, ◌⊎◌, ◌↔◌, inl, inr, List, [], ◌∷◌, length, get_or, take, refl, sym, ap, subst, ◌∙◌, add-one, arith, replicate, ℤ, pos, unsigned_abs, Bool, true, false, Result, Ok, Err, MatchResult, ints, get_or-drop, get_or-replicate, length-replicate, false≢true, MAX_SIGNED, Kind, Pos, Neg, NonNeg, Free, Mat, entry, IsIn, width, IsNamedRow, HasKind, MayTake, kind_at, HasOneRowCut, signed_count, HasSigned, lt_or, past_end, zip_from, kind_from, take_zero, dot-zero, AllZero, Stop, Wide, NoMemory, Decision, is_early_kind, level_of, level_count, HasKeptCut, IsNearStop, IsRuledOut, IsSmallSolution, IsDecision, IsTargetStop, IsStop, IsPartSum, AreZeros, IsGoalStop}
+use Rattle.crn_vec.specs.declared.signs.Kind.TheVariants.{Zero}
 use Rattle.crn_farkas.proofs.PartSums.{part_bound}
 
 -- a list filled with zeros

@@ -13,3 +13,4 @@ mod Marks
 mod Witnessing
 mod WideStops
 pub mod CallerLemmas
+mod Prelude

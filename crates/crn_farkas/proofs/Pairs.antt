@@ -1,20 +1,7 @@
 -- A vector that a basis names by a coordinate outside it and one that it names by a member: two products add up to 0.
-use Rattle.std.proofs.Common.{◌≡◌, ◌≢◌, ℕ, zero, suc, ◌+◌, ◌<◌, ◌⊎◌, inl, inr, List, [], ◌∷◌, take, drop, refl, sym, ap, subst, ◌∙◌, arith}
-use Rattle.std.specs.Prelude.{ℤ, pos, negsuc, ◌+ℤ◌, ◌*ℤ◌, neg_ℤ, unsigned_abs, true}
-use Rattle.std.specs.Int.{◌∣◌}
-use Rattle.std.proofs.lemmas.Int.{ints}
-use Rattle.std.proofs.lemmas.Nat.Gcd.{dvd-zero}
-use Rattle.std.proofs.lemmas.Bool.{false≢true}
+use Rattle.crn_farkas.proofs.Prelude.{◌≡◌, ◌≢◌, ℕ, zero, suc, ◌+◌, ◌<◌, ◌⊎◌, inl, inr, List, [], ◌∷◌, take, drop, refl, sym, ap, subst, ◌∙◌, arith, ℤ, pos, negsuc, ◌+ℤ◌, ◌*ℤ◌, neg_ℤ, unsigned_abs, true, ◌∣◌, ints, dvd-zero, false≢true, Kind, Pos, Neg, NonNeg, Free, Mat, entry, dot, column, scale, IsIn, width, InRowSpace, InDualSpace, IsNamed, IsNamedRow, IsNamedColumn, HasKind, is_signed, no_zero, mul-neg, length-scale, entry-scale, dot-scale, dot-scale-right, part, orthogonal, dot_single, take-scale, NamesRows, isIn_or, one_row, as_row}
 use lib.IntN.{*ℤ-zero, zero-*ℤ}
-use Rattle.crn_vec.specs.declared.signs.Kind.{Kind}
-use Rattle.crn_vec.specs.declared.signs.Kind.TheVariants.{Pos, Neg, NonNeg, Zero, Free}
-use Rattle.crn_vec.specs.Vectors.{Mat, entry, dot, column, scale}
-use Rattle.crn_vec.specs.Lists.{IsIn}
-use Rattle.crn_vec.specs.Elementary.{width, InRowSpace, InDualSpace, IsNamed, IsNamedRow, IsNamedColumn}
-use Rattle.crn_vec.specs.Systems.{HasKind, is_signed}
-use Rattle.crn_vec.proofs.CallerLemmas.{no_zero, mul-neg, length-scale, entry-scale, dot-scale, dot-scale-right, part, orthogonal, dot_single, take-scale}
-use Rattle.crn_tab.specs.Tableau.{NamesRows}
-use Rattle.crn_tab.proofs.CallerLemmas.{isIn_or, one_row, as_row}
+use Rattle.crn_vec.specs.declared.signs.Kind.TheVariants.{Zero}
 
 -- all products but two are 0
 dot_pair : (v w : List ℤ) (c g : ℕ) → c ≢ g → ((i : ℕ) → i ≢ c → i ≢ g → part v w i ≡ pos 0) → dot v w ≡ part v w c +ℤ part v w g

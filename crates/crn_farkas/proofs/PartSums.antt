@@ -1,14 +1,5 @@
 -- Sums of vectors (x, Ax) that are right everywhere.
-use Rattle.std.proofs.Common.{◌≡◌, ◌≢◌, ℕ, zero, suc, ◌+◌, ◌*◌, ◌<◌, ◌≤◌, ◌⊎◌, inl, inr, List, [], ◌∷◌, length, get_or, take, refl, sym, ap, ap₂, subst, ◌∙◌, add-one, arith}
-use Rattle.std.specs.Prelude.{ℤ, pos, ◌+ℤ◌, unsigned_abs, Bool, true}
-use Rattle.std.proofs.lemmas.List.{ext_get_or, length-take-le}
-use Rattle.crn_vec.specs.declared.limits.TheConstants.{WIDE_ENTRY, MAX_SIGNED}
-use Rattle.crn_vec.specs.declared.signs.Kind.{Kind}
-use Rattle.crn_vec.specs.Vectors.{Mat, entry, dot}
-use Rattle.crn_vec.specs.Elementary.{InRowSpace}
-use Rattle.crn_vec.specs.Systems.{MayTake, kind_at, is_signed, one_if, signed_count}
-use Rattle.crn_vec.proofs.CallerLemmas.{eq_or, sum_within, plus, entry-plus, length-plus, dot-plus, dot-comm, take_sum, sum_some}
-use Rattle.crn_farkas.specs.Inner.Sums.{IsWitness, IsPartSum}
+use Rattle.crn_farkas.proofs.Prelude.{◌≡◌, ◌≢◌, ℕ, zero, suc, ◌+◌, ◌*◌, ◌<◌, ◌≤◌, ◌⊎◌, inl, inr, List, [], ◌∷◌, length, get_or, take, refl, sym, ap, ap₂, subst, ◌∙◌, add-one, arith, ℤ, pos, ◌+ℤ◌, unsigned_abs, Bool, true, ext_get_or, length-take-le, WIDE_ENTRY, MAX_SIGNED, Kind, Mat, entry, dot, InRowSpace, MayTake, kind_at, is_signed, one_if, signed_count, eq_or, sum_within, plus, entry-plus, length-plus, dot-plus, dot-comm, take_sum, sum_some, IsWitness, IsPartSum}
 
 count_suc : (kinds : List Kind) (g : ℕ) → g < length kinds → signed_count (take (suc g) kinds) ≡ signed_count (take g kinds) + one_if (is_signed (kind_at kinds g))
 count_suc [] g h = absurd (omega arith)

@@ -1,12 +1,5 @@
 -- The order of settling, whose places are given one coordinate after another: the first ones to those that are zero or free.
-use Rattle.std.proofs.Common.{◌≡◌, ◌≢◌, ℕ, ◌+◌, ◌<◌, ◌≤◌, ◌⊎◌, inl, inr, List, [], ◌∷◌, zero, suc, length, set, take, refl, sym, ap, subst, ◌∙◌, arith}
-use Rattle.std.specs.Prelude.{slice_index, Bool, true, false, IsTrue}
-use Rattle.std.proofs.lemmas.Bool.{false≢true}
-use Rattle.crn_vec.specs.declared.signs.Kind.{Kind}
-use Rattle.crn_vec.specs.Lists.{IsIn}
-use Rattle.crn_vec.specs.Systems.{kind_at}
-use Rattle.crn_vec.proofs.CallerLemmas.{eq_or, lt_or, look_at, at_in}
-use Rattle.crn_farkas.specs.Inner.Views.{IsOrder, is_early_kind, level_count}
+use Rattle.crn_farkas.proofs.Prelude.{◌≡◌, ◌≢◌, ℕ, ◌+◌, ◌<◌, ◌≤◌, ◌⊎◌, inl, inr, List, [], ◌∷◌, zero, suc, length, set, take, refl, sym, ap, subst, ◌∙◌, arith, slice_index, Bool, true, false, IsTrue, false≢true, Kind, IsIn, kind_at, eq_or, lt_or, look_at, at_in, IsOrder, is_early_kind, level_count}
 use Rattle.crn_farkas.proofs.Finals.{early_or, level_is, level_not, level_step, level_prefix, level_all, one_level, both_levels}
 
 -- a place that is given: one of the first, or one of those from `start` on

@@ -1,14 +1,5 @@
 -- The signs of the vectors that a basis names, from those of the kept rows.
-use Rattle.std.proofs.Common.{◌≡◌, ◌≢◌, ℕ, ◌<◌, List, sym, subst, arith}
-use Rattle.std.specs.Prelude.{ℤ, pos, ◌+ℤ◌, ◌*ℤ◌, neg_ℤ, ◌≤ℤ◌}
-use Rattle.std.proofs.lemmas.Int.{ints}
-use Rattle.crn_vec.specs.declared.signs.Sign.{Sign}
-use Rattle.crn_vec.specs.Vectors.{Mat, entry, HasSign}
-use Rattle.crn_vec.specs.Lists.{IsIn}
-use Rattle.crn_vec.specs.Elementary.{width, IsNamedRow, IsNamedColumn}
-use Rattle.crn_vec.proofs.CallerLemmas.{mul-neg, one-mul, positive_some}
-use Rattle.crn_tab.specs.Tableau.{NamesRows}
-use Rattle.crn_tab.proofs.CallerLemmas.{as_row, sign_carried}
+use Rattle.crn_farkas.proofs.Prelude.{◌≡◌, ◌≢◌, ℕ, ◌<◌, List, sym, subst, arith, ℤ, pos, ◌+ℤ◌, ◌*ℤ◌, neg_ℤ, ◌≤ℤ◌, ints, Sign, Mat, entry, HasSign, IsIn, width, IsNamedRow, IsNamedColumn, mul-neg, one-mul, positive_some, NamesRows, as_row, sign_carried}
 use Rattle.crn_farkas.proofs.Pairs.{pair, other_some}
 use Rattle.crn_farkas.proofs.SignRules.{sign_divided, sign_of_factor, minus_sum}
 

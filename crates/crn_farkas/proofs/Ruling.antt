@@ -1,25 +1,6 @@
 -- Lists that rule a system out, from their entries.
-use Rattle.std.proofs.Common.{◌≡◌, ◌≢◌, ℕ, zero, suc, ◌+◌, ◌<◌, ◌≤◌, inl, inr, List, [], ◌∷◌, ◌++◌, length, take, drop, refl, sym, ap, subst, ◌∙◌, add-one, arith}
-use Rattle.std.specs.Prelude.{ℤ, pos, ◌*ℤ◌, unsigned_abs, Bool, true, false}
-use Rattle.std.proofs.lemmas.Int.{ints}
-use Rattle.std.proofs.lemmas.Bool.{false≢true}
-use Rattle.std.proofs.lemmas.List.{get_or-drop}
-use Rattle.crn_vec.specs.declared.limits.TheConstants.{WIDE_ENTRY}
-use Rattle.crn_vec.specs.declared.signs.Kind.{Kind}
-use Rattle.crn_vec.specs.declared.signs.Kind.TheVariants.{Free}
-use Rattle.crn_vec.specs.declared.signs.Sign.{Sign}
-use Rattle.crn_vec.specs.declared.signs.Sign.TheVariants.{Zero}
-use Rattle.crn_vec.specs.Vectors.{Mat, entry, HasSign, scale}
-use Rattle.crn_vec.specs.Lists.{IsIn}
-use Rattle.crn_vec.specs.Elementary.{width, InDualSpace, IsNamed, IsNamedRow}
-use Rattle.crn_vec.specs.Systems.{HasWeight, IsCut, MayWeigh, kind_at, is_signed}
-use Rattle.crn_vec.proofs.CallerLemmas.{kinds_at, weights_decide_cuts, lt_or, past_end, zip_from, entry-scale, no_zero}
-use Rattle.crn_tab.specs.Tableau.{NamesRows, RulesBelow}
+use Rattle.crn_farkas.proofs.Prelude.{◌≡◌, ◌≢◌, ℕ, zero, suc, ◌+◌, ◌<◌, ◌≤◌, inl, inr, List, [], ◌∷◌, ◌++◌, length, take, drop, refl, sym, ap, subst, ◌∙◌, add-one, arith, ℤ, pos, ◌*ℤ◌, unsigned_abs, Bool, true, false, ints, false≢true, get_or-drop, WIDE_ENTRY, Kind, Free, Sign, Zero, Mat, entry, HasSign, scale, IsIn, width, InDualSpace, IsNamed, IsNamedRow, HasWeight, IsCut, MayWeigh, kind_at, is_signed, kinds_at, weights_decide_cuts, lt_or, past_end, zip_from, entry-scale, no_zero, NamesRows, RulesBelow, one_row, as_row, IsSmallCut, factor, CutsBy, AreNamedMultipliers}
 use lib.IntN.{zero-*ℤ}
-use Rattle.crn_tab.proofs.CallerLemmas.{one_row, as_row}
-use Rattle.crn_farkas.specs.Decision.{IsSmallCut}
-use Rattle.crn_farkas.specs.Decision.{factor}
-use Rattle.crn_farkas.specs.Solver.{CutsBy, AreNamedMultipliers}
 use Rattle.crn_farkas.proofs.Pairs.{named_scaled, dual_scaled, drop-scale, own_some}
 
 -- the first so many entries are what a list that rules a system out may have

@@ -1,19 +1,6 @@
 -- What a view shows: that there is such a vector, and how an exchange changes the view.
-use Rattle.std.proofs.Common.{◌≡◌, ◌≢◌, ℕ, ◌<◌, ◌↔◌, inl, inr, List, refl, sym, subst, ◌∙◌, arith}
-use Rattle.std.specs.Prelude.{ℤ, pos, negsuc, ◌+ℤ◌, ◌*ℤ◌, true}
-use Rattle.std.proofs.lemmas.Int.{ints}
+use Rattle.crn_farkas.proofs.Prelude.{◌≡◌, ◌≢◌, ℕ, ◌<◌, ◌↔◌, inl, inr, List, refl, sym, subst, ◌∙◌, arith, ℤ, pos, negsuc, ◌+ℤ◌, ◌*ℤ◌, true, ints, Kind, Mat, entry, scale, IsIn, width, IsNamed, IsNamedColumn, HasKind, is_signed, entry-scale, eq_or, NamesRows, isIn_or, column_at, as_row, View, Row, Column, IsView, IsSeen, IsSwapped}
 use lib.IntN.{*ℤ_comm}
-use Rattle.crn_vec.specs.declared.signs.Kind.{Kind}
-use Rattle.crn_vec.specs.Vectors.{Mat, entry, scale}
-use Rattle.crn_vec.specs.Lists.{IsIn}
-use Rattle.crn_vec.specs.Elementary.{width, IsNamed, IsNamedColumn}
-use Rattle.crn_vec.specs.Systems.{HasKind, is_signed}
-use Rattle.crn_vec.proofs.CallerLemmas.{entry-scale, eq_or}
-use Rattle.crn_tab.specs.Tableau.{NamesRows}
-use Rattle.crn_tab.proofs.CallerLemmas.{isIn_or, column_at, as_row}
-use Rattle.crn_farkas.specs.declared.view.View.{View}
-use Rattle.crn_farkas.specs.declared.view.View.TheVariants.{Row, Column}
-use Rattle.crn_farkas.specs.Inner.Views.{IsView, IsSeen, IsSwapped}
 use Rattle.crn_farkas.proofs.Pairs.{pair, own_some, column_scaled, named_scaled, signed_kind, other_some}
 
 pub record Shown (a : Mat) (basis : List ℕ) (view : View) (g : ℕ) (kind : Kind) : Type 0 where

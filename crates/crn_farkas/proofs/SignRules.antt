@@ -1,11 +1,5 @@
 -- Signs of products and quotients.
-use Rattle.std.proofs.Common.{◌≡◌, ◌≢◌, zero, suc, refl, sym, subst, arith}
-use Rattle.std.specs.Prelude.{ℤ, pos, negsuc, ◌+ℤ◌, ◌*ℤ◌, neg_ℤ, ◌≤ℤ◌}
-use Rattle.std.proofs.lemmas.Int.{ints}
-use Rattle.crn_vec.specs.declared.signs.Sign.{Sign}
-use Rattle.crn_vec.specs.Vectors.{HasSign}
-use Rattle.crn_vec.proofs.CallerLemmas.{assoc, one-mul}
-use Rattle.crn_tab.proofs.CallerLemmas.{sign_carried}
+use Rattle.crn_farkas.proofs.Prelude.{◌≡◌, ◌≢◌, zero, suc, refl, sym, subst, arith, ℤ, pos, negsuc, ◌+ℤ◌, ◌*ℤ◌, neg_ℤ, ◌≤ℤ◌, ints, Sign, HasSign, assoc, one-mul, sign_carried}
 
 -- the sign of a product with a positive number
 pub sign_divided : (s : Sign) (p x : ℤ) → pos 1 ≤ℤ p → HasSign s (p *ℤ x) → HasSign s x

@@ -1,18 +1,6 @@
 -- The step of settling: a coordinate that was first wrong is right after the exchange and the settling of those before it.
-use Rattle.std.proofs.Common.{◌≡◌, ◌≢◌, ℕ, zero, suc, ◌+◌, ◌<◌, ◌⊎◌, ◌↔◌, inl, inr, List, length, sym, ap, subst, ◌∙◌, arith, get_or}
-use Rattle.std.specs.Prelude.{ℤ, pos, ◌<ℤ◌, true, slice_index}
-use Rattle.crn_vec.specs.declared.signs.Kind.{Kind}
-use Rattle.crn_vec.specs.declared.signs.Kind.TheVariants.{Free}
-use Rattle.crn_vec.specs.Vectors.{Mat, entry}
-use Rattle.crn_vec.specs.Lists.{IsIn}
-use Rattle.crn_vec.specs.Elementary.{IsNamedRow, IsNamedColumn}
-use Rattle.crn_vec.specs.Systems.{HasKind, MayTake, MayWeigh, kind_at, is_signed}
-use Rattle.crn_vec.proofs.CallerLemmas.{eq_or, Quiet, settled_dual, settled_row, take_zero, weigh_zero, kind_takes, kind_weighs, product_some, part, orthogonal, any_default}
-use Rattle.crn_tab.proofs.CallerLemmas.{isIn_or}
-use Rattle.crn_farkas.specs.declared.view.View.{View}
-use Rattle.crn_farkas.specs.declared.view.View.TheVariants.{Row, Column}
+use Rattle.crn_farkas.proofs.Prelude.{◌≡◌, ◌≢◌, ℕ, zero, suc, ◌+◌, ◌<◌, ◌⊎◌, ◌↔◌, inl, inr, List, length, sym, ap, subst, ◌∙◌, arith, get_or, ℤ, pos, ◌<ℤ◌, true, slice_index, Kind, Free, Mat, entry, IsIn, IsNamedRow, IsNamedColumn, HasKind, MayTake, MayWeigh, kind_at, is_signed, eq_or, Quiet, settled_dual, settled_row, take_zero, weigh_zero, kind_takes, kind_weighs, product_some, part, orthogonal, any_default, isIn_or, View, Row, Column, IsSeen, IsRight, IsSettled, IsFirstWrong, IsViewed, HasCrossed, AgreeBeyond}
 use Rattle.crn_farkas.proofs.Pairs.{kind_some}
-use Rattle.crn_farkas.specs.Inner.Views.{IsSeen, IsRight, IsSettled, IsFirstWrong, IsViewed, HasCrossed, AgreeBeyond}
 
 right_zero : (v : View) (κ : Kind) → IsRight v κ (pos 0)
 right_zero Row κ = weigh_zero κ

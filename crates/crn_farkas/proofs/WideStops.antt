@@ -1,16 +1,6 @@
 -- What a stop shows of the matrix: some primitive elementary vector of it is wide.
-use Rattle.std.proofs.Common.{◌≡◌, ◌⊎◌, ℕ, ◌-◌, inl, inr, List, refl}
-use Rattle.std.specs.Prelude.{Result, Ok, Err, MatchResult}
-use Rattle.crn_vec.specs.declared.signs.Kind.{Kind}
-use Rattle.crn_vec.specs.Vectors.{Mat, AreOfLength}
-use Rattle.crn_vec.specs.Elementary.{NamesWide, IsWideMatrix}
-use Rattle.crn_tab.specs.Tableau.{IsRefused, NamesRows}
-use Rattle.crn_tab.proofs.CallerLemmas.{wide_shown, exchanged_list}
-use Rattle.crn_farkas.specs.declared.decision.Decision.{Decision}
-use Rattle.crn_farkas.specs.declared.fault.Stop.{Stop}
-use Rattle.crn_farkas.specs.declared.fault.Stop.TheVariants.{Wide, NoMemory}
-use Rattle.crn_farkas.specs.Decision.{IsDecision, IsStop}
-use Rattle.crn_farkas.specs.Solver.{IsRefusedStop}
+use Rattle.crn_farkas.proofs.Prelude.{◌≡◌, ◌⊎◌, ℕ, ◌-◌, inl, inr, List, refl, Result, Ok, Err, Kind, Mat, AreOfLength, NamesWide, IsWideMatrix, IsRefused, NamesRows, wide_shown, exchanged_list, Decision, Stop, Wide, NoMemory, IsDecision, IsStop, IsRefusedStop}
+use Rattle.std.specs.Prelude.{MatchResult}
 
 -- numbers that name a wide vector show that the matrix has one
 names_wide : (a : Mat) (index : ℕ) (numbers : List ℕ) → AreOfLength a.cols a.rows → NamesWide a index numbers → IsWideMatrix a

@@ -1,26 +1,6 @@
 -- A settled column view shows a vector that is one of those that add up to a solution.
-use Rattle.std.proofs.Common.{◌≡◌, ◌≢◌, ℕ, ◌+◌, ◌-◌, ◌<◌, ◌⊎◌, inl, inr, List, length, sym, ap, subst, ◌∙◌, arith}
-use Rattle.std.specs.Prelude.{ℤ, pos, ◌+ℤ◌, ◌*ℤ◌, unsigned_abs, Bool, true}
-use Rattle.std.specs.Int.{◌∣◌}
-use Rattle.std.proofs.lemmas.Int.{ints}
-use Rattle.std.proofs.lemmas.Nat.Gcd.{dvd-zero}
+use Rattle.crn_farkas.proofs.Prelude.{◌≡◌, ◌≢◌, ℕ, ◌+◌, ◌-◌, ◌<◌, ◌⊎◌, inl, inr, List, length, sym, ap, subst, ◌∙◌, arith, ℤ, pos, ◌+ℤ◌, ◌*ℤ◌, unsigned_abs, Bool, true, ◌∣◌, ints, dvd-zero, WIDE_ENTRY, Kind, Sign, Zero, Mat, entry, HasSign, scale, IsIn, width, IsNamed, IsNamedColumn, NamesWide, WideAt, HasKind, MayTake, MayWeigh, kind_at, is_signed, eq_or, lt_or, past_end, entry-scale, same_members, NamesRows, IsNumbered, IsRefused, column_at, as_row, Row, Column, IsView, IsRightEverywhere, factor, IsWitness, IsNear, CutsBy}
 use lib.IntN.{*ℤ_comm}
-use Rattle.crn_vec.specs.declared.limits.TheConstants.{WIDE_ENTRY}
-use Rattle.crn_vec.specs.declared.signs.Kind.{Kind}
-use Rattle.crn_vec.specs.declared.signs.Sign.{Sign}
-use Rattle.crn_vec.specs.declared.signs.Sign.TheVariants.{Zero}
-use Rattle.crn_vec.specs.Vectors.{Mat, entry, HasSign, scale}
-use Rattle.crn_vec.specs.Lists.{IsIn}
-use Rattle.crn_vec.specs.Elementary.{width, IsNamed, IsNamedColumn, NamesWide, WideAt}
-use Rattle.crn_vec.specs.Systems.{HasKind, MayTake, MayWeigh, kind_at, is_signed}
-use Rattle.crn_vec.proofs.CallerLemmas.{eq_or, lt_or, past_end, entry-scale, same_members}
-use Rattle.crn_tab.specs.Tableau.{NamesRows, IsNumbered, IsRefused}
-use Rattle.crn_tab.proofs.CallerLemmas.{column_at, as_row}
-use Rattle.crn_farkas.specs.declared.view.View.TheVariants.{Row, Column}
-use Rattle.crn_farkas.specs.Inner.Views.{IsView, IsRightEverywhere}
-use Rattle.crn_farkas.specs.Decision.{factor}
-use Rattle.crn_farkas.specs.Inner.Sums.{IsWitness}
-use Rattle.crn_farkas.specs.Solver.{IsNear, CutsBy}
 use Rattle.crn_farkas.proofs.Pairs.{pair, column_scaled, other_some, kind_some}
 use Rattle.crn_farkas.proofs.Ruling.{kind_past, scaled_small, cut_of_ruling}
 

@@ -1,9 +1,5 @@
 -- Common divisors of multiples.
-use Rattle.std.proofs.Common.{◌≡◌, ℕ, zero, suc, ◌+◌, ◌-◌, ◌*◌, ◌/◌, ◌%◌, ◌<◌, ◌≤◌, refl, sym, ap, subst, ◌∙◌, arith}
-use Rattle.std.specs.Int.{IsGcd, ◌∣◌}
-use Rattle.std.proofs.Math.Nat.{dvd-mul_left, dvd-mul_right, dvd-sub, dvd-mod_iff, div-add-mod, div-mul_cancel, mul-dvd-mul_right, dvd_of_mul-dvd-mul_right, mul_comm, mul_assoc}
-use Rattle.std.proofs.lemmas.Nat.Gcd.{dvd_trans, dvd_antisymm, IsGcd-from_zero, same_from_IsGcd}
-use Rattle.crn_frac.specs.Multiple.{IsLcm}
+use Rattle.crn_frac.proofs.Prelude.{◌≡◌, ℕ, zero, suc, ◌+◌, ◌-◌, ◌*◌, ◌/◌, ◌%◌, ◌<◌, ◌≤◌, refl, sym, ap, subst, ◌∙◌, arith, IsGcd, ◌∣◌, dvd-mul_left, dvd-mul_right, dvd-sub, dvd-mod_iff, div-add-mod, div-mul_cancel, mul-dvd-mul_right, dvd_of_mul-dvd-mul_right, mul_comm, mul_assoc, dvd_trans, dvd_antisymm, IsGcd-from_zero, same_from_IsGcd, IsLcm}
 
 -- Euclid's step the other way
 pub IsGcd-to_mod : (a b g : ℕ) → IsGcd a b g → IsGcd b (a % b) g

@@ -1,9 +1,5 @@
 -- Lowest terms: num = n g and den = d g, with g the greatest common divisor.
-use Rattle.std.proofs.Common.{◌≡◌, ℕ, ◌*◌, ◌≤◌, sym, ap, subst, ◌∙◌, arith}
-use Rattle.std.specs.Prelude.{ℤ, pos, ◌-ℤ◌, neg_ℤ, ◌*ℤ◌, unsigned_abs}
-use Rattle.std.specs.Int.{IsGcd, ◌∣◌}
-use Rattle.std.proofs.lemmas.Int.{ints, unsigned_abs-mul}
-use Rattle.std.proofs.Math.Nat.{one-dvd, one-mul, le-mul_of_pos_right, mul-dvd-mul_right, dvd_of_mul-dvd-mul_right}
+use Rattle.crn_frac.proofs.Prelude.{◌≡◌, ℕ, ◌*◌, ◌≤◌, sym, ap, subst, ◌∙◌, arith, ℤ, pos, ◌-ℤ◌, neg_ℤ, ◌*ℤ◌, unsigned_abs, IsGcd, ◌∣◌, ints, unsigned_abs-mul, one-dvd, one-mul, le-mul_of_pos_right, mul-dvd-mul_right, dvd_of_mul-dvd-mul_right}
 use lib.IntN.{*ℤ_comm}
 use Rattle.crn_frac.proofs.Whole.{assoc, mul-neg}
 

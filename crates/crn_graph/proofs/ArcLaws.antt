@@ -1,15 +1,5 @@
 -- Arcs of a list that grows at its end.
-use Rattle.std.proofs.Common.{◌≡◌, ◌⊎◌, ℕ, ◌+◌, ◌-◌, ◌<◌, List, [], ◌∷◌, ◌++◌, length, get_or, refl, sym, ap, subst, ◌∙◌, inl, inr, arith}
-use Rattle.std.proofs.lemmas.List.{get_or_append_left, get_or_push, length-append}
-use Rattle.std.proofs.lemmas.Bool.{cases_lt, cases_eq}
-use Rattle.crn_vec.specs.Network.{Net}
-use Rattle.crn_vec.specs.CutPairs.{IsBetween}
-use Rattle.crn_cert.specs.Says.{IsReactionNumber}
-use Rattle.crn_graph.specs.declared.arcs.Arc.{Arc}
-use Rattle.crn_graph.specs.declared.arcs.Way.{Way}
-use Rattle.crn_graph.specs.declared.arcs.Way.TheVariants.{Along, Against, Links, Round}
-use Rattle.crn_graph.specs.Arcs.{no_arc, arc_at, HasArc, AreInside}
-use Rattle.crn_graph.specs.Inner.Arcs.{Allows, Adds, AreArcsTo, AreArcsOf}
+use Rattle.crn_graph.proofs.Prelude.{◌≡◌, ◌⊎◌, ℕ, ◌+◌, ◌-◌, ◌<◌, List, [], ◌∷◌, ◌++◌, length, get_or, refl, sym, ap, subst, ◌∙◌, inl, inr, arith, get_or_append_left, get_or_push, length-append, cases_lt, cases_eq, Net, IsBetween, IsReactionNumber, Arc, Way, Along, Against, Links, Round, no_arc, arc_at, HasArc, AreInside, Allows, Adds, AreArcsTo, AreArcsOf}
 
 -- ---- one arc more
 

@@ -1,10 +1,5 @@
 -- Chains of arcs, one arc after another.
-use Rattle.std.proofs.Common.{◌≡◌, ℕ, ◌+◌, ◌<◌, List, length, get_or, set, sym, ap, subst, ◌∙◌, inl, inr, arith}
-use Rattle.std.proofs.lemmas.List.{get_or-set_other, get_or-set_same, length-set}
-use Rattle.std.proofs.lemmas.Bool.{cases_eq}
-use Rattle.crn_graph.specs.declared.arcs.Arc.{Arc}
-use Rattle.crn_graph.specs.Arcs.{arc_at, AreInside}
-use Rattle.crn_graph.specs.Inner.Graph.{IsNext, IsChained}
+use Rattle.crn_graph.proofs.Prelude.{◌≡◌, ℕ, ◌+◌, ◌<◌, List, length, get_or, set, sym, ap, subst, ◌∙◌, inl, inr, arith, get_or-set_other, get_or-set_same, length-set, cases_eq, Arc, arc_at, AreInside, IsNext, IsChained}
 
 pub chained_none : (arcs : List Arc) (first next : List ℕ) → length next ≡ length arcs → ((y : ℕ) → get_or first y 0 ≡ 0) → IsChained arcs 0 first next
 chained_none arcs first next l none = record {

@@ -1,13 +1,5 @@
 -- Linkage classes, one after another.
-use Rattle.std.proofs.Common.{◌≡◌, ◌≢◌, ℕ, suc, ◌+◌, ◌<◌, ◌≤◌, List, length, sym, ap, subst, ◌∙◌, inl, inr, arith}
-use Rattle.std.proofs.lemmas.Bool.{cases_lt, cases_eq}
-use Rattle.crn_vec.specs.Walks.{LeadsTo}
-use Rattle.crn_vec.proofs.CallerLemmas.{leads_then, leads_here, leads_keeps}
-use Rattle.crn_graph.specs.declared.arcs.Arc.{Arc}
-use Rattle.crn_graph.specs.declared.search.Search.{Search}
-use Rattle.crn_graph.specs.Arcs.{HasArc}
-use Rattle.crn_graph.specs.Inner.Search.{Steps, label_at, up_at, first_found, IsBlank, IsReady, IsFollowed, IsSpreading, KeepsLabels}
-use Rattle.crn_graph.specs.Inner.Linkage.{IsReturning, IsPlaced, AreClassesTo}
+use Rattle.crn_graph.proofs.Prelude.{◌≡◌, ◌≢◌, ℕ, suc, ◌+◌, ◌<◌, ◌≤◌, List, length, sym, ap, subst, ◌∙◌, inl, inr, arith, cases_lt, cases_eq, LeadsTo, leads_then, leads_here, leads_keeps, Arc, Search, HasArc, Steps, label_at, up_at, first_found, IsBlank, IsReady, IsFollowed, IsSpreading, KeepsLabels, IsReturning, IsPlaced, AreClassesTo}
 
 pub classes_none : (arcs : List Arc) (complexes : ℕ) (s : Search) → IsBlank complexes s → AreClassesTo arcs s 0 0
 classes_none arcs complexes s h = record {

@@ -1,14 +1,5 @@
 -- Exits of strong classes, one reaction after another.
-use Rattle.std.proofs.Common.{◌≡◌, ◌⊎◌, ◌≢◌, ℕ, zero, suc, ◌+◌, ◌-◌, ◌<◌, ◌≤◌, List, [], ◌∷◌, length, get_or, set, refl, sym, ap, subst, ◌∙◌, inl, inr, arith}
-use Rattle.std.specs.Prelude.{◌==◌, if◌then◌else◌}
-use Rattle.std.proofs.lemmas.List.{get_or-set_other, get_or-set_same, length-set}
-use Rattle.std.proofs.lemmas.List.Sums.{sum_by-cons, count_by-le-length}
-use Rattle.std.proofs.lemmas.Bool.{cases_eq}
-use Rattle.crn_vec.specs.Network.{Net}
-use Rattle.crn_cert.proofs.CallerLemmas.{goes_at}
-use Rattle.crn_cert.specs.Says.{IsReactionNumber}
-use Rattle.crn_cert.specs.Ranges.{IsFrom, AreFrom}
-use Rattle.crn_cert.specs.ClassTests.{GoesOut, AreAllExits, zeros_in}
+use Rattle.crn_graph.proofs.Prelude.{◌≡◌, ◌⊎◌, ◌≢◌, ℕ, zero, suc, ◌+◌, ◌-◌, ◌<◌, ◌≤◌, List, [], ◌∷◌, length, get_or, set, refl, sym, ap, subst, ◌∙◌, inl, inr, arith, ◌==◌, if◌then◌else◌, get_or-set_other, get_or-set_same, length-set, sum_by-cons, count_by-le-length, cases_eq, Net, goes_at, IsReactionNumber, IsFrom, AreFrom, GoesOut, AreAllExits, zeros_in}
 use Rattle.crn_graph.proofs.LinkTests.{are_from}
 use Rattle.crn_graph.proofs.PairLaws.{same_ends}
 

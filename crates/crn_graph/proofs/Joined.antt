@@ -1,12 +1,5 @@
 -- Labels and trees over any arcs pass their tests.
-use Rattle.std.proofs.Common.{◌≡◌, ℕ, inl, inr, List, length, ◌∙◌, arith}
-use Rattle.crn_vec.proofs.CallerLemmas.{leads_step}
-use Rattle.crn_graph.specs.declared.arcs.Arc.{Arc}
-use Rattle.crn_graph.specs.declared.search.Search.{Search}
-use Rattle.crn_cert.specs.ClassTests.{IsTree}
-use Rattle.crn_graph.specs.Forest.{DoLeadBack, HangsByArc, AreJoined}
-use Rattle.crn_graph.specs.Inner.Search.{Steps}
-use Rattle.crn_graph.specs.Inner.Linkage.{IsReturning, IsPlaced, AreClassesTo}
+use Rattle.crn_graph.proofs.Prelude.{◌≡◌, ℕ, inl, inr, List, length, ◌∙◌, arith, leads_step, Arc, Search, IsTree, DoLeadBack, HangsByArc, AreJoined, Steps, IsReturning, IsPlaced, AreClassesTo}
 
 pub arcs_return : (arcs : List Arc) → DoLeadBack arcs → IsReturning arcs
 arcs_return arcs back r y z h = let q = back r y z h in leads_step (Steps arcs) z y (q.0, q.1)

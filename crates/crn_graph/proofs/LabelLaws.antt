@@ -1,10 +1,5 @@
 -- Right labels, of classes of any kind, and their number are one.
-use Rattle.std.proofs.Common.{◌≡◌, ℕ, zero, suc, ◌<◌, ◌≤◌, List, length, get_or, sym, ◌∙◌, inl, inr, arith}
-use Rattle.std.proofs.lemmas.Bool.{cases_lt}
-use Rattle.std.proofs.lemmas.Grind.{same_number_lists}
-use Rattle.crn_vec.specs.Walks.{AreLabelsOf}
-use Rattle.crn_vec.specs.Linkage.{SameClass, AreRightLabels, IsLabelCount}
-use Rattle.crn_vec.specs.Strong.{SameStrong, AreRightStrongLabels}
+use Rattle.crn_graph.proofs.Prelude.{◌≡◌, ℕ, zero, suc, ◌<◌, ◌≤◌, List, length, get_or, sym, ◌∙◌, inl, inr, arith, cases_lt, same_number_lists, AreLabelsOf, SameClass, AreRightLabels, IsLabelCount, SameStrong, AreRightStrongLabels}
 
 -- if labels agree before y, the second label of y is not less
 no_less : (Same : ℕ → ℕ → Type 0) (a b : List ℕ) (y : ℕ) → AreLabelsOf Same a → AreLabelsOf Same b → length a ≡ length b → y < length a

@@ -16,3 +16,4 @@ mod RankCalls
 mod StrongLaws
 mod ExitLaws
 mod StrongTests
+mod Prelude

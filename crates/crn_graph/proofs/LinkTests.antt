@@ -1,21 +1,5 @@
 -- The labels and trees of linkage classes pass their tests, and are right.
-use Rattle.std.proofs.Common.{◌≡◌, ◌⊎◌, ℕ, ◌+◌, ◌-◌, ◌<◌, ◌≤◌, List, length, get_or, refl, sym, ap, subst, ◌∙◌, inl, inr, arith}
-use Rattle.crn_vec.specs.Network.{Net}
-use Rattle.crn_vec.specs.Lists.{IsIn}
-use Rattle.crn_vec.specs.Linkage.{IsLinked, SameClass, AreRightLabels}
-use Rattle.crn_vec.proofs.CallerLemmas.{leads_keeps, leads_here, leads_step, leads_then, in_at, all_from}
-use Rattle.crn_cert.proofs.CallerLemmas.{named_in}
-use Rattle.crn_cert.specs.Says.{IsReactionNumber}
-use Rattle.crn_cert.specs.Ranges.{IsFrom, AreFrom}
-use Rattle.crn_cert.specs.Parts.{IsForest}
-use Rattle.crn_cert.specs.ClassTests.{AreNumbered, AreEven, AreLinkTrees}
-use Rattle.crn_graph.specs.declared.arcs.Arc.{Arc}
-use Rattle.crn_graph.specs.declared.arcs.Way.TheVariants.{Links}
-use Rattle.crn_graph.specs.declared.search.Search.{Search}
-use Rattle.crn_graph.specs.Arcs.{HasArc}
-use Rattle.crn_graph.specs.Inner.Arcs.{AreArcsOf}
-use Rattle.crn_graph.specs.Inner.Search.{Steps, label_at, up_at}
-use Rattle.crn_graph.specs.Inner.Linkage.{IsReturning, AreClassesTo}
+use Rattle.crn_graph.proofs.Prelude.{◌≡◌, ◌⊎◌, ℕ, ◌+◌, ◌-◌, ◌<◌, ◌≤◌, List, length, get_or, refl, sym, ap, subst, ◌∙◌, inl, inr, arith, Net, IsIn, IsLinked, SameClass, AreRightLabels, leads_keeps, leads_here, leads_step, leads_then, in_at, all_from, named_in, IsReactionNumber, IsFrom, AreFrom, IsForest, AreNumbered, AreEven, AreLinkTrees, Arc, Links, Search, HasArc, AreArcsOf, Steps, label_at, up_at, IsReturning, AreClassesTo}
 
 -- ---- numbers of reactions
 

@@ -1,26 +1,5 @@
 -- Sides and walks of a search over the links of a network but those of one pair.
-use Rattle.std.proofs.Common.{◌≡◌, ◌⊎◌, ◌≢◌, ℕ, zero, suc, ◌+◌, ◌-◌, ◌<◌, ◌≤◌, List, [], ◌∷◌, ◌++◌, length, get_or, refl, sym, ap, subst, ◌∙◌, inl, inr, arith}
-use Rattle.std.specs.Prelude.{pos}
-use Rattle.std.specs.List.{AllByRecursion}
-use Rattle.std.proofs.lemmas.Int.{ints}
-use Rattle.std.proofs.lemmas.List.{length-append, length-map, map-append}
-use Rattle.crn_vec.specs.Network.{Net}
-use Rattle.crn_vec.specs.Lists.{IsIn}
-use Rattle.crn_vec.specs.Vectors.{entry}
-use Rattle.crn_vec.specs.Walks.{IsAlong, LeadsTo}
-use Rattle.crn_vec.specs.Linkage.{IsLinked, SameClass}
-use Rattle.crn_vec.specs.CutPairs.{IsBetween, IsFreeStep, IsMarking}
-use Rattle.crn_vec.proofs.CallerLemmas.{leads_keeps, leads_here, leads_step, leads_then, marks_are_sides, is_between, all_push}
-use Rattle.crn_cert.proofs.CallerLemmas.{named_in, label_inside, between_back, goes_at, least_one}
-use Rattle.crn_cert.specs.Ranges.{IsFrom}
-use Rattle.crn_cert.specs.Says.{IsReactionNumber, from_zero, WalkLeads}
-use Rattle.crn_graph.specs.declared.arcs.Arc.{Arc}
-use Rattle.crn_graph.specs.declared.arcs.Way.TheVariants.{Round}
-use Rattle.crn_graph.specs.declared.search.Search.{Search}
-use Rattle.crn_graph.specs.Pair.{HasSide, HasWayRound}
-use Rattle.crn_graph.specs.Inner.Arcs.{AreArcsOf}
-use Rattle.crn_graph.specs.Inner.Search.{Steps, label_at, up_at, first_found, IsBlank, IsSpreading, KeepsLabels}
-use Rattle.crn_graph.specs.Inner.Pair.{mark_of, marks_of, IsStepBack, IsSearched, IsWalkBack}
+use Rattle.crn_graph.proofs.Prelude.{◌≡◌, ◌⊎◌, ◌≢◌, ℕ, zero, suc, ◌+◌, ◌-◌, ◌<◌, ◌≤◌, List, [], ◌∷◌, ◌++◌, length, get_or, refl, sym, ap, subst, ◌∙◌, inl, inr, arith, pos, AllByRecursion, ints, length-append, length-map, map-append, Net, IsIn, entry, IsAlong, LeadsTo, IsLinked, SameClass, IsBetween, IsFreeStep, IsMarking, leads_keeps, leads_here, leads_step, leads_then, marks_are_sides, is_between, all_push, named_in, label_inside, between_back, goes_at, least_one, IsFrom, IsReactionNumber, from_zero, WalkLeads, Arc, Round, Search, HasSide, HasWayRound, AreArcsOf, Steps, label_at, up_at, first_found, IsBlank, IsSpreading, KeepsLabels, mark_of, marks_of, IsStepBack, IsSearched, IsWalkBack}
 use Rattle.crn_graph.proofs.LinkTests.{in_numbered}
 use Rattle.crn_graph.proofs.ClassLaws.{all_followed}
 

@@ -1,13 +1,5 @@
 -- The beginning and the end of the search, what its calls need, and the room in its lists.
-use Rattle.std.proofs.Common.{◌≡◌, ℕ, suc, ◌+◌, ◌-◌, ◌<◌, ◌≤◌, List, length, get_or, set, refl, sym, ap, subst, ◌∙◌, inl, inr, arith}
-use Rattle.std.proofs.lemmas.Bool.{cases_eq, cases_lt}
-use Rattle.crn_vec.specs.Walks.{LeadsTo}
-use Rattle.crn_vec.proofs.CallerLemmas.{leads_then, leads_step}
-use Rattle.crn_graph.specs.declared.arcs.Arc.{Arc}
-use Rattle.crn_graph.specs.declared.ranks.Ranking.{Ranking}
-use Rattle.crn_graph.specs.Arcs.{arc_at, AreInside}
-use Rattle.crn_graph.specs.Inner.Search.{Steps, zeros}
-use Rattle.crn_graph.specs.Inner.Ranks.{rank_at, place_at, path_at, start_at, open_at, rest_at, IsOnPath, IsPath, IsRanking, KeepsPlaces, HasEntered, HasCome, HasMerged, HasClosed, IsOpenEnd, IsUnranked, AreRanks}
+use Rattle.crn_graph.proofs.Prelude.{◌≡◌, ℕ, suc, ◌+◌, ◌-◌, ◌<◌, ◌≤◌, List, length, get_or, set, refl, sym, ap, subst, ◌∙◌, inl, inr, arith, cases_eq, cases_lt, LeadsTo, leads_then, leads_step, Arc, Ranking, arc_at, AreInside, Steps, zeros, rank_at, place_at, path_at, start_at, open_at, rest_at, IsOnPath, IsPath, IsRanking, KeepsPlaces, HasEntered, HasCome, HasMerged, HasClosed, IsOpenEnd, IsUnranked, AreRanks}
 use Rattle.crn_graph.proofs.SearchLaws.{IsWritten, written, zeros-set, zeros_few}
 use Rattle.crn_graph.proofs.RankCounts.{few_parts, few_open, path_room, leads_last}
 use Rattle.crn_graph.proofs.RankEntered.{IsEntered, writes, other_than, entered_ranks, entered_keeps, entered_settled}

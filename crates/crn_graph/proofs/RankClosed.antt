@@ -1,12 +1,5 @@
 -- The last part that has no arc to be followed is a strong class, and is ranked.
-use Rattle.std.proofs.Common.{◌≡◌, ℕ, ◌+◌, ◌-◌, ◌<◌, ◌≤◌, List, length, get_or, refl, sym, ap, subst, ◌∙◌, inl, inr, arith, Vec, Global}
-use Rattle.std.proofs.lemmas.Bool.{cases_eq, cases_lt}
-use Rattle.crn_graph.specs.declared.arcs.Arc.{Arc}
-use Rattle.crn_graph.specs.declared.ranks.Ranking.{Ranking}
-use Rattle.crn_graph.specs.Arcs.{arc_at, HasArc}
-use Rattle.crn_graph.specs.Inner.Search.{zeros}
-use Rattle.crn_graph.specs.Inner.Strong.{AreStrong}
-use Rattle.crn_graph.specs.Inner.Ranks.{rank_at, place_at, path_at, start_at, open_at, rest_at, IsOnPath, IsSettled, IsPath, AreParts, IsRanking, HasClosed, IsOpenEnd}
+use Rattle.crn_graph.proofs.Prelude.{◌≡◌, ℕ, ◌+◌, ◌-◌, ◌<◌, ◌≤◌, List, length, get_or, refl, sym, ap, subst, ◌∙◌, inl, inr, arith, Vec, Global, cases_eq, cases_lt, Arc, Ranking, arc_at, HasArc, zeros, AreStrong, rank_at, place_at, path_at, start_at, open_at, rest_at, IsOnPath, IsSettled, IsPath, AreParts, IsRanking, HasClosed, IsOpenEnd}
 use Rattle.crn_graph.proofs.RankCounts.{last_strong}
 use Rattle.crn_graph.proofs.RankFollowed.{rests}
 

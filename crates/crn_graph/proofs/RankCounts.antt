@@ -1,12 +1,5 @@
 -- What a search that ranks strong classes keeps: how many parts and open arcs there are, and which complexes stay as they are.
-use Rattle.std.proofs.Common.{◌≡◌, ℕ, ◌-◌, ◌<◌, ◌≤◌, List, length, get_or, sym, ap, ◌∙◌, inl, inr, arith}
-use Rattle.std.proofs.lemmas.Bool.{cases_eq, cases_lt}
-use Rattle.crn_vec.specs.Walks.{LeadsTo}
-use Rattle.crn_vec.proofs.CallerLemmas.{leads_then}
-use Rattle.crn_graph.specs.declared.arcs.Arc.{Arc}
-use Rattle.crn_graph.specs.declared.ranks.Ranking.{Ranking}
-use Rattle.crn_graph.specs.Inner.Search.{Steps, zeros}
-use Rattle.crn_graph.specs.Inner.Ranks.{rank_at, place_at, path_at, start_at, open_at, AreLongRanks, IsPath, AreParts, AreRanked, AreOpen}
+use Rattle.crn_graph.proofs.Prelude.{◌≡◌, ℕ, ◌-◌, ◌<◌, ◌≤◌, List, length, get_or, sym, ap, ◌∙◌, inl, inr, arith, cases_eq, cases_lt, LeadsTo, leads_then, Arc, Ranking, Steps, zeros, rank_at, place_at, path_at, start_at, open_at, AreLongRanks, IsPath, AreParts, AreRanked, AreOpen}
 use Rattle.crn_graph.proofs.SearchLaws.{zeros-set}
 
 -- ---- how many there are

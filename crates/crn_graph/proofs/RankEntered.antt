@@ -1,13 +1,5 @@
 -- A complex that comes to the path keeps what a ranking is.
-use Rattle.std.proofs.Common.{◌≡◌, ◌≢◌, ℕ, suc, ◌+◌, ◌-◌, ◌<◌, ◌≤◌, List, length, get_or, refl, sym, ap, subst, ◌∙◌, inl, inr, arith}
-use Rattle.std.proofs.lemmas.Bool.{cases_eq}
-use Rattle.crn_vec.specs.Walks.{LeadsTo}
-use Rattle.crn_vec.proofs.CallerLemmas.{leads_here}
-use Rattle.crn_graph.specs.declared.arcs.Arc.{Arc}
-use Rattle.crn_graph.specs.declared.ranks.Ranking.{Ranking}
-use Rattle.crn_graph.specs.Arcs.{arc_at}
-use Rattle.crn_graph.specs.Inner.Search.{Steps, zeros}
-use Rattle.crn_graph.specs.Inner.Ranks.{rank_at, place_at, path_at, start_at, open_at, rest_at, IsRest, IsOnPath, IsSettled, IsPath, AreParts, AreFollowed, AreOpen, IsRanking, KeepsPlaces, HasEntered}
+use Rattle.crn_graph.proofs.Prelude.{◌≡◌, ◌≢◌, ℕ, suc, ◌+◌, ◌-◌, ◌<◌, ◌≤◌, List, length, get_or, refl, sym, ap, subst, ◌∙◌, inl, inr, arith, cases_eq, LeadsTo, leads_here, Arc, Ranking, arc_at, Steps, zeros, rank_at, place_at, path_at, start_at, open_at, rest_at, IsRest, IsOnPath, IsSettled, IsPath, AreParts, AreFollowed, AreOpen, IsRanking, KeepsPlaces, HasEntered}
 use Rattle.crn_graph.proofs.SearchLaws.{IsWritten, written, zeros-set}
 use Rattle.crn_graph.proofs.RankCounts.{few_parts, few_open, path_room, ranked_same}
 

@@ -1,17 +1,5 @@
 -- Parts that are joined, and arcs that are followed, keep what a ranking is.
-use Rattle.std.proofs.Common.{◌≡◌, ◌≢◌, ℕ, ◌+◌, ◌-◌, ◌<◌, ◌≤◌, List, length, get_or, set, refl, sym, ap, subst, ◌∙◌, inl, inr, arith, Vec, Global}
-use Rattle.std.specs.Prelude.{sum_by}
-use Rattle.std.proofs.lemmas.List.Sums.{sum_by-set}
-use Rattle.std.proofs.lemmas.List.{get_or-set_other, get_or-set_same, length-set}
-use Rattle.std.proofs.lemmas.Bool.{cases_eq, cases_lt}
-use Rattle.crn_vec.specs.Walks.{LeadsTo}
-use Rattle.crn_vec.proofs.CallerLemmas.{leads_then, leads_step}
-use Rattle.crn_graph.specs.declared.arcs.Arc.{Arc}
-use Rattle.crn_graph.specs.declared.ranks.Ranking.{Ranking}
-use Rattle.crn_graph.specs.Arcs.{arc_at}
-use Rattle.crn_graph.specs.Inner.Graph.{IsNext}
-use Rattle.crn_graph.specs.Inner.Search.{Steps}
-use Rattle.crn_graph.specs.Inner.Ranks.{place_at, path_at, start_at, open_at, rest_at, IsRest, IsOnPath, IsSettled, IsRanking, HasMerged}
+use Rattle.crn_graph.proofs.Prelude.{◌≡◌, ◌≢◌, ℕ, ◌+◌, ◌-◌, ◌<◌, ◌≤◌, List, length, get_or, set, refl, sym, ap, subst, ◌∙◌, inl, inr, arith, Vec, Global, sum_by, sum_by-set, get_or-set_other, get_or-set_same, length-set, cases_eq, cases_lt, LeadsTo, leads_then, leads_step, Arc, Ranking, arc_at, IsNext, Steps, place_at, path_at, start_at, open_at, rest_at, IsRest, IsOnPath, IsSettled, IsRanking, HasMerged}
 use Rattle.crn_graph.proofs.RankCounts.{leads_last}
 
 -- ---- parts that are joined

@@ -1,18 +1,5 @@
 -- Reverses of reactions, by the arcs along them.
-use Rattle.std.proofs.Common.{◌≡◌, ℕ, ◌+◌, ◌-◌, ◌<◌, List, [], ◌∷◌, ◌++◌, length, get_or, refl, sym, subst, ◌∙◌, inl, inr, arith}
-use Rattle.std.proofs.lemmas.List.{get_or_append_left, get_or_push}
-use Rattle.std.proofs.lemmas.Bool.{cases_lt}
-use Rattle.crn_vec.specs.Lists.{IsIn}
-use Rattle.crn_vec.specs.Network.{Net}
-use Rattle.crn_vec.specs.Strong.{IsReaction, IsReversible}
-use Rattle.crn_cert.proofs.CallerLemmas.{named_in, goes_at}
-use Rattle.crn_cert.specs.Says.{IsReactionNumber, HasNoReverse}
-use Rattle.crn_cert.specs.Ranges.{IsFrom, AreFrom}
-use Rattle.crn_cert.specs.ClassTests.{IsReverse, AreReverses}
-use Rattle.crn_graph.specs.declared.arcs.Arc.{Arc}
-use Rattle.crn_graph.specs.declared.arcs.Way.TheVariants.{Along}
-use Rattle.crn_graph.specs.Arcs.{HasArc}
-use Rattle.crn_graph.specs.Inner.Arcs.{AreArcsOf}
+use Rattle.crn_graph.proofs.Prelude.{◌≡◌, ℕ, ◌+◌, ◌-◌, ◌<◌, List, [], ◌∷◌, ◌++◌, length, get_or, refl, sym, subst, ◌∙◌, inl, inr, arith, get_or_append_left, get_or_push, cases_lt, IsIn, Net, IsReaction, IsReversible, named_in, goes_at, IsReactionNumber, HasNoReverse, IsFrom, AreFrom, IsReverse, AreReverses, Arc, Along, HasArc, AreArcsOf}
 use Rattle.crn_graph.proofs.LinkTests.{in_numbered, are_from}
 
 -- an arc along a reaction is that reaction

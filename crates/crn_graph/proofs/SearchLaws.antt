@@ -1,14 +1,5 @@
 -- Searches, one step after another.
-use Rattle.std.proofs.Common.{◌≡◌, ◌≢◌, ℕ, zero, suc, ◌+◌, ◌<◌, ◌≤◌, List, [], ◌∷◌, length, get_or, set, refl, sym, ap, subst, ◌∙◌, inl, inr, arith}
-use Rattle.std.proofs.lemmas.List.{get_or-set_other, get_or-set_same, length-set}
-use Rattle.std.proofs.lemmas.Bool.{cases_eq, cases_lt}
-use Rattle.crn_vec.specs.Walks.{LeadsTo}
-use Rattle.crn_vec.proofs.CallerLemmas.{leads_then, leads_step, leads_keeps}
-use Rattle.crn_graph.specs.declared.arcs.Arc.{Arc}
-use Rattle.crn_graph.specs.declared.search.Search.{Search}
-use Rattle.crn_graph.specs.Arcs.{arc_at, HasArc}
-use Rattle.crn_graph.specs.Inner.Graph.{IsNext}
-use Rattle.crn_graph.specs.Inner.Search.{Steps, zeros, label_at, up_at, depth_at, found_at, first_found, AreLong, IsBlank, IsReady, IsReach, IsSpreading, KeepsLabels, GoesOn}
+use Rattle.crn_graph.proofs.Prelude.{◌≡◌, ◌≢◌, ℕ, zero, suc, ◌+◌, ◌<◌, ◌≤◌, List, [], ◌∷◌, length, get_or, set, refl, sym, ap, subst, ◌∙◌, inl, inr, arith, get_or-set_other, get_or-set_same, length-set, cases_eq, cases_lt, LeadsTo, leads_then, leads_step, leads_keeps, Arc, Search, arc_at, HasArc, IsNext, Steps, zeros, label_at, up_at, depth_at, found_at, first_found, AreLong, IsBlank, IsReady, IsReach, IsSpreading, KeepsLabels, GoesOn}
 
 -- ---- one write
 

@@ -1,18 +1,5 @@
 -- Arcs between complexes of equal rank, and walks by them.
-use Rattle.std.proofs.Common.{◌≡◌, ℕ, ◌+◌, ◌<◌, ◌≤◌, List, [], ◌∷◌, ◌++◌, length, get_or, refl, sym, ap, subst, ◌∙◌, inl, inr, arith}
-use Rattle.std.proofs.lemmas.Bool.{cases_eq}
-use Rattle.crn_vec.specs.Network.{Net}
-use Rattle.crn_vec.specs.Walks.{LeadsTo}
-use Rattle.crn_vec.proofs.CallerLemmas.{leads_then, leads_here, leads_step, leads_keeps}
-use Rattle.crn_graph.specs.declared.arcs.Arc.{Arc}
-use Rattle.crn_graph.specs.declared.arcs.Way.{Way}
-use Rattle.crn_graph.specs.declared.arcs.Way.TheVariants.{Along, Against}
-use Rattle.crn_graph.specs.Arcs.{arc_at, HasArc, AreInside}
-use Rattle.crn_graph.specs.Inner.Arcs.{AreArcsOf, AreArcsWithin}
-use Rattle.crn_graph.specs.Inner.Search.{Steps}
-use Rattle.crn_graph.specs.Inner.Linkage.{IsReturning}
-use Rattle.crn_graph.specs.Inner.Strong.{AreStrong}
-use Rattle.crn_graph.specs.Inner.Ranks.{AreRanks}
+use Rattle.crn_graph.proofs.Prelude.{◌≡◌, ℕ, ◌+◌, ◌<◌, ◌≤◌, List, [], ◌∷◌, ◌++◌, length, get_or, refl, sym, ap, subst, ◌∙◌, inl, inr, arith, cases_eq, Net, LeadsTo, leads_then, leads_here, leads_step, leads_keeps, Arc, Way, Along, Against, arc_at, HasArc, AreInside, AreArcsOf, AreArcsWithin, Steps, IsReturning, AreStrong, AreRanks}
 use Rattle.crn_graph.proofs.ArcLaws.{arc_same, arc_made, arc_only}
 
 -- ---- arcs of equal rank, one arc after another

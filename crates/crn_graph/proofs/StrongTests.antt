@@ -1,22 +1,5 @@
 -- The labels, trees and levels of strong classes pass their tests, and are right.
-use Rattle.std.proofs.Common.{◌≡◌, ◌≢◌, ℕ, suc, ◌+◌, ◌-◌, ◌<◌, ◌≤◌, List, length, get_or, refl, sym, ap, subst, ◌∙◌, inl, inr, arith}
-use Rattle.std.proofs.lemmas.Bool.{cases_eq}
-use Rattle.crn_vec.specs.Network.{Net}
-use Rattle.crn_vec.specs.Walks.{LeadsTo}
-use Rattle.crn_vec.specs.Strong.{ReactsTo, Reaches, SameStrong, AreRightStrongLabels}
-use Rattle.crn_vec.proofs.CallerLemmas.{leads_keeps, leads_here, leads_step, leads_then}
-use Rattle.crn_cert.proofs.CallerLemmas.{named_in}
-use Rattle.crn_cert.specs.Says.{IsReactionNumber}
-use Rattle.crn_cert.specs.Ranges.{IsFrom, AreFrom}
-use Rattle.crn_cert.specs.Parts.{IsForest}
-use Rattle.crn_cert.specs.ClassTests.{AreNumbered, AreFromTrees, AreToTrees, of_class, DoLevelsFall, GoesOut}
-use Rattle.crn_graph.specs.declared.arcs.Arc.{Arc}
-use Rattle.crn_graph.specs.declared.arcs.Way.TheVariants.{Along, Against}
-use Rattle.crn_graph.specs.declared.search.Search.{Search}
-use Rattle.crn_graph.specs.Arcs.{HasArc}
-use Rattle.crn_graph.specs.Inner.Arcs.{AreArcsOf, AreArcsWithin}
-use Rattle.crn_graph.specs.Inner.Search.{Steps, label_at, up_at}
-use Rattle.crn_graph.specs.Inner.Linkage.{AreClassesTo}
+use Rattle.crn_graph.proofs.Prelude.{◌≡◌, ◌≢◌, ℕ, suc, ◌+◌, ◌-◌, ◌<◌, ◌≤◌, List, length, get_or, refl, sym, ap, subst, ◌∙◌, inl, inr, arith, cases_eq, Net, LeadsTo, ReactsTo, Reaches, SameStrong, AreRightStrongLabels, leads_keeps, leads_here, leads_step, leads_then, named_in, IsReactionNumber, IsFrom, AreFrom, IsForest, AreNumbered, AreFromTrees, AreToTrees, of_class, DoLevelsFall, GoesOut, Arc, Along, Against, Search, HasArc, AreArcsOf, AreArcsWithin, Steps, label_at, up_at, AreClassesTo}
 use Rattle.crn_graph.proofs.LinkTests.{in_numbered, are_from}
 use Rattle.crn_graph.proofs.ReverseLaws.{arc_along, along_arc}
 use Rattle.crn_graph.proofs.LabelLaws.{one_strong_labels}

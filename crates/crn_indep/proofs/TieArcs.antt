@@ -1,16 +1,5 @@
 -- The steps between tied reactions as arcs.
-use Rattle.std.proofs.Common.{◌≡◌, ◌⊎◌, ℕ, zero, suc, ◌+◌, ◌-◌, ◌<◌, ◌≤◌, inl, inr, List, [], ◌∷◌, ◌++◌, length, get_or, take, refl, sym, subst, ◌∙◌, arith}
-use Rattle.crn_vec.specs.Lists.{IsIn}
-use Rattle.crn_vec.specs.Network.{Net}
-use Rattle.crn_vec.proofs.CallerLemmas.{lt_or}
-use Rattle.crn_cert.specs.declared.answer.RankProof.{RankProof}
-use Rattle.crn_graph.specs.declared.arcs.Arc.{Arc}
-use Rattle.crn_graph.specs.Arcs.{HasArc, AreInside, arc_at}
-use Rattle.crn_graph.specs.Forest.{DoLeadBack}
-use Rattle.crn_graph.proofs.CallerLemmas.{arc_same, arc_made, arc_only}
-use Rattle.crn_indep_check.specs.Shown.{DrawsOn, IsProofForm}
-use Rattle.crn_indep_check.proofs.CallerLemmas.{drawn_member, drawer_bounds, member_bounds}
-use Rattle.crn_indep.specs.Inner.Ties.{step_to, AddsPair, AreArcsFor, AreTieArcsTo, AreTieArcs}
+use Rattle.crn_indep.proofs.Prelude.{◌≡◌, ◌⊎◌, ℕ, zero, suc, ◌+◌, ◌-◌, ◌<◌, ◌≤◌, inl, inr, List, [], ◌∷◌, ◌++◌, length, get_or, take, refl, sym, subst, ◌∙◌, arith, IsIn, Net, lt_or, RankProof, Arc, HasArc, AreInside, arc_at, DoLeadBack, arc_same, arc_made, arc_only, DrawsOn, IsProofForm, drawn_member, drawer_bounds, member_bounds, step_to, AddsPair, AreArcsFor, AreTieArcsTo, AreTieArcs}
 
 -- ---- a pair more
 

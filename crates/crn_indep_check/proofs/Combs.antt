@@ -1,21 +1,5 @@
 -- What the tests of a rank proof say of each reaction: it is in the base, or its combination of the base is.
-use Rattle.std.proofs.Common.{◌≡◌, ◌≢◌, ◌⊎◌, ℕ, suc, ◌+◌, ◌==◌, true, false, inl, inr, List, [], ◌∷◌, length, drop, refl, sym, ap, subst, ◌∙◌, ne_eqb, arith}
-use Rattle.std.specs.Prelude.{ℤ, not}
-use Rattle.std.specs.List.{AllByRecursion, list_any}
-use Rattle.std.proofs.lemmas.Bool.{cases_eq, eqb-true, eq-eqb}
-use Rattle.std.proofs.lemmas.List.{length-map, length-drop}
-use Rattle.crn_vec.specs.Lists.{IsIn}
-use Rattle.crn_vec.specs.Network.{Net}
-use Rattle.crn_vec.specs.Vectors.{entry}
-use Rattle.crn_vec.specs.Rank.{DependsOn}
-use Rattle.crn_vec.proofs.CallerLemmas.{any_is, filter_from, filter_has}
-use Rattle.crn_cert.specs.declared.answer.RankProof.{RankProof}
-use Rattle.crn_cert.specs.Ranges.{AreFree}
-use Rattle.crn_cert.specs.RankTests.{vector_of, vectors_of, IsComb, outside, dual_tests, comb_tests, rank_tests}
-use Rattle.crn_cert.specs.Tests.{AllHold}
-use Rattle.crn_cert.proofs.CallerLemmas.{hold_parts}
-use Rattle.crn_indep_check.specs.Finest.{all_reactions}
-use Rattle.crn_indep_check.specs.Shown.{combined, comb_for}
+use Rattle.crn_indep_check.proofs.Prelude.{◌≡◌, ◌≢◌, ◌⊎◌, ℕ, suc, ◌+◌, ◌==◌, true, false, inl, inr, List, [], ◌∷◌, length, drop, refl, sym, ap, subst, ◌∙◌, ne_eqb, arith, ℤ, not, AllByRecursion, list_any, cases_eq, eqb-true, eq-eqb, length-map, length-drop, IsIn, Net, entry, DependsOn, any_is, filter_from, filter_has, RankProof, AreFree, vector_of, vectors_of, IsComb, outside, dual_tests, comb_tests, rank_tests, AllHold, hold_parts, all_reactions, combined, comb_for}
 
 -- ---- tests under other codes
 

@@ -1,10 +1,5 @@
 -- Numbers of members by labels that are each at most another number, and sum to as much, are those numbers; a member put into a part.
-use Rattle.std.proofs.Common.{◌≡◌, ℕ, zero, suc, ◌+◌, ◌<◌, ◌≤◌, ◌==◌, inl, inr, List, [], ◌∷◌, ◌++◌, length, get_or, refl, sym, ap, ◌∙◌, arith}
-use Rattle.std.specs.Prelude.{filter, sum}
-use Rattle.std.proofs.lemmas.List.Sums.{sum_by-cons}
-use Rattle.crn_vec.specs.Lists.{IsIn, IsAscending}
-use Rattle.crn_vec.proofs.CallerLemmas.{eq_or, above_in, ascending_tail}
-use Rattle.crn_space.proofs.CallerLemmas.{IsPart, part_later, counted}
+use Rattle.crn_indep_check.proofs.Prelude.{◌≡◌, ℕ, zero, suc, ◌+◌, ◌<◌, ◌≤◌, ◌==◌, inl, inr, List, [], ◌∷◌, ◌++◌, length, get_or, refl, sym, ap, ◌∙◌, arith, filter, sum, sum_by-cons, IsIn, IsAscending, eq_or, above_in, ascending_tail, IsPart, part_later, counted}
 
 -- ---- numbers by labels
 

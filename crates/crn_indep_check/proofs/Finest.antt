@@ -1,32 +1,5 @@
 -- A decomposition that is shown to be the finest is the finest.
-use Rattle.std.proofs.Common.{◌≡◌, ◌≢◌, ℕ, zero, suc, ◌+◌, ◌-◌, ◌<◌, ◌≤◌, ◌==◌, inl, inr, List, [], ◌∷◌, length, get_or, map, refl, sym, ap, subst, ◌∙◌, arith}
-use Rattle.std.specs.Prelude.{ℤ, pos, filter, sum}
-use Rattle.std.specs.List.{AllByRecursion, range_with_len}
-use Rattle.std.proofs.lemmas.List.{length-map}
-use Rattle.std.proofs.lemmas.List.FromFn.{length-range_with_len, get_or-map-range_with_len}
-use Rattle.std.proofs.lemmas.List.Sums.{sum_by-cons}
-use Rattle.crn_vec.specs.Lists.{IsIn}
-use Rattle.crn_vec.specs.Network.{Net, IsNetwork}
-use Rattle.crn_vec.specs.Linkage.{IsLabelCount}
-use Rattle.crn_vec.specs.Vectors.{entry}
-use Rattle.crn_vec.specs.Rank.{IsIndependent, IsRank, chosen}
-use Rattle.crn_vec.specs.Deficiency.{vectors}
-use Rattle.crn_vec.proofs.CallerLemmas.{at_in, range_bounds, range_ascending}
-use Rattle.crn_cert.specs.declared.answer.Answer.{Answer}
-use Rattle.crn_cert.specs.declared.answer.RankProof.{RankProof}
-use Rattle.crn_cert.specs.declared.answer.Verdict.TheVariants.{Rank}
-use Rattle.crn_cert.specs.declared.answer.Proof.TheVariants.{Rank as RankRows}
-use Rattle.crn_cert.specs.Questions.{Q5}
-use Rattle.crn_cert.specs.RankTests.{vector_of, vectors_of, rank_tests}
-use Rattle.crn_cert.specs.Says.{IsRankOf, from_zero}
-use Rattle.crn_cert.specs.Ranges.{AreFree}
-use Rattle.crn_cert.specs.Tests.{AllHold}
-use Rattle.crn_cert.proofs.CallerLemmas.{valid_answers_are_true, all_vectors, rank_is_formed}
-use Rattle.crn_space.proofs.CallerLemmas.{IsPart, in_part, counted, counted_all}
-use Rattle.crn_indep_check.specs.Finest.{all_reactions, label_of, part_reactions, IsIndependentDecomposition}
-use Rattle.crn_indep_check.specs.Shown.{combined, DrawsOn, AreTied, AreEvenLabels, AreLinked, IsShownForm, part_ranks, greatest}
-use Rattle.crn_indep_check.specs.Law.{ShownDecompositionsAreFinest, ValidAnswersAreTrue}
-use Rattle.crn_indep_check.specs.declared.parts.Parts.TheVariants.{Split, Wide}
+use Rattle.crn_indep_check.proofs.Prelude.{◌≡◌, ◌≢◌, ℕ, zero, suc, ◌+◌, ◌-◌, ◌<◌, ◌≤◌, ◌==◌, inl, inr, List, [], ◌∷◌, length, get_or, map, refl, sym, ap, subst, ◌∙◌, arith, ℤ, pos, filter, sum, AllByRecursion, range_with_len, length-map, length-range_with_len, get_or-map-range_with_len, sum_by-cons, IsIn, Net, IsNetwork, IsLabelCount, entry, IsIndependent, IsRank, chosen, vectors, at_in, range_bounds, range_ascending, Answer, RankProof, Rank, RankRows, Q5, vector_of, vectors_of, rank_tests, IsRankOf, from_zero, AreFree, AllHold, valid_answers_are_true, all_vectors, rank_is_formed, IsPart, in_part, counted, counted_all, all_reactions, label_of, part_reactions, IsIndependentDecomposition, combined, DrawsOn, AreTied, AreEvenLabels, AreLinked, IsShownForm, part_ranks, greatest, ShownDecompositionsAreFinest, ValidAnswersAreTrue, Split, Wide}
 use Rattle.crn_indep_check.proofs.Greatest.{even_counts}
 use Rattle.crn_indep_check.proofs.Filled.{ascending_part}
 use Rattle.crn_indep_check.proofs.Stays.{Decomposed, stays}

@@ -1,10 +1,5 @@
 -- The greatest label is how many labels there are.
-use Rattle.std.proofs.Common.{◌≡◌, ◌≤◌, ◌<◌, ◌⊎◌, ℕ, zero, suc, List, [], ◌∷◌, length, subst, inl, inr, arith}
-use Rattle.std.specs.Prelude.{slice_index}
-use Rattle.crn_vec.specs.Linkage.{IsLabelCount}
-use Rattle.crn_vec.proofs.CallerLemmas.{lt_or}
-use Rattle.crn_cert.specs.ClassTests.{AreNumbered}
-use Rattle.crn_indep_check.specs.Shown.{greatest}
+use Rattle.crn_indep_check.proofs.Prelude.{◌≡◌, ◌≤◌, ◌<◌, ◌⊎◌, ℕ, zero, suc, List, [], ◌∷◌, length, subst, inl, inr, arith, slice_index, IsLabelCount, lt_or, AreNumbered, greatest}
 
 pub below_greatest : (xs : List ℕ) (k : ℕ) → k < length xs → slice_index xs k ≤ greatest xs
 below_greatest [] k lt = absurd (omega (arith, lt))

@@ -1,14 +1,5 @@
 -- The tests of a decomposition, judged one part after another.
-use Rattle.std.proofs.Common.{◌≡◌, ℕ, ◌≤◌, inl, inr, List, length, subst, arith}
-use Rattle.std.proofs.lemmas.List.FromFn.{length-range_with_len}
-use Rattle.crn_vec.specs.Network.{Net, IsNetwork}
-use Rattle.crn_vec.specs.declared.limits.TheConstants.{MAX_REACTIONS}
-use Rattle.crn_vec.proofs.CallerLemmas.{lt_or}
-use Rattle.crn_cert.specs.declared.answer.RankProof.{RankProof}
-use Rattle.crn_cert.specs.ClassTests.{AreNumbered}
-use Rattle.crn_indep_check.specs.Finest.{all_reactions}
-use Rattle.crn_indep_check.specs.Shown.{AreEvenLabels, IsShownForm}
-use Rattle.crn_indep_check.specs.Inner.Ties.{IsGreatest, IsEvenAt}
+use Rattle.crn_indep_check.proofs.Prelude.{◌≡◌, ℕ, ◌≤◌, inl, inr, List, length, subst, arith, length-range_with_len, Net, IsNetwork, MAX_REACTIONS, lt_or, RankProof, AreNumbered, all_reactions, AreEvenLabels, IsShownForm, IsGreatest, IsEvenAt}
 
 -- ---- the number of parts
 

@@ -10,3 +10,4 @@ mod Finest
 pub mod CallerLemmas
 mod Greatest
 mod Records
+mod Prelude

@@ -1,12 +1,5 @@
 -- The record of a test that fails is one of the document's.
-use Rattle.std.proofs.Common.{◌≡◌, ◌≤◌, ◌+◌, ◌++◌, ◌⊎◌, ℕ, suc, List, [], ◌∷◌, length, inl, inr, arith}
-use Rattle.std.specs.Prelude.{ℤ}
-use Rattle.crn_vec.specs.Network.{Net}
-use Rattle.crn_cert.specs.declared.answer.RankProof.{RankProof}
-use Rattle.crn_cert.specs.RankTests.{dual_tests, comb_tests, vectors_of, outside}
-use Rattle.crn_cert.specs.Tests.{Test, FailsFirst}
-use Rattle.crn_indep_check.specs.Finest.{all_reactions}
-use Rattle.crn_indep_check.specs.Shown.{AreEvenLabels, AreLinked, FailsShown, IsShownForm, label_record}
+use Rattle.crn_indep_check.proofs.Prelude.{◌≡◌, ◌≤◌, ◌+◌, ◌++◌, ◌⊎◌, ℕ, suc, List, [], ◌∷◌, length, inl, inr, arith, ℤ, Net, RankProof, dual_tests, comb_tests, vectors_of, outside, Test, FailsFirst, all_reactions, AreEvenLabels, AreLinked, FailsShown, IsShownForm, label_record}
 
 -- each test is of at most this record
 abbrev Within : ℕ → List {1} Test → Type 0

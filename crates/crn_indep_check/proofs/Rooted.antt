@@ -1,10 +1,5 @@
 -- Reactions that hang by ties from the least of their parts: what ties keep is the same within each part.
-use Rattle.std.proofs.Common.{◌≡◌, ℕ, zero, suc, ◌-◌, ◌<◌, ◌≤◌, inl, inr, List, get_or, refl, sym, ap, ◌∙◌, arith}
-use Rattle.crn_vec.proofs.CallerLemmas.{eq_or, lt_or}
-use Rattle.crn_vec.specs.Network.{Net}
-use Rattle.crn_cert.specs.declared.answer.RankProof.{RankProof}
-use Rattle.crn_cert.specs.ClassTests.{IsFirst, IsTree}
-use Rattle.crn_indep_check.specs.Shown.{AreTied, HangsByTie}
+use Rattle.crn_indep_check.proofs.Prelude.{◌≡◌, ℕ, zero, suc, ◌-◌, ◌<◌, ◌≤◌, inl, inr, List, get_or, refl, sym, ap, ◌∙◌, arith, eq_or, lt_or, Net, RankProof, IsFirst, IsTree, AreTied, HangsByTie}
 
 -- the least reaction of a part, with the same labels
 record Least (labels other : List ℕ) (n c : ℕ) : Type 0 where

@@ -1,33 +1,5 @@
 -- The lines of a document on the finest independent decomposition are those of the formed and valid answers.
-use Rattle.std.proofs.Common.{◌≡◌, ◌≤◌, ◌+◌, ◌-◌, ◌++◌, ℕ, suc, true, List, [], ◌∷◌, length, map, refl, sym, ap, subst, ◌∙◌, inl, inr, arith}
-use Rattle.std.specs.Prelude.{ℤ, pos, min, slice_index, codes}
-use Rattle.std.specs.Str.{bytes_eq}
-use Rattle.std.specs.List.{AllByRecursion}
-use Rattle.std.proofs.lemmas.List.{append-nil, map-append}
-use Rattle.std.proofs.lemmas.List.FromFn.{length-range_with_len}
-use Rattle.crn_vec.specs.Lists.{IsIn, IsAscending}
-use Rattle.crn_vec.specs.Network.{Net, IsNetwork}
-use Rattle.crn_vec.proofs.CallerLemmas.{abs_back, all_in, all_from, in_range, range_bounds, zip_append}
-use Rattle.crn_cert.specs.declared.answer.RankProof.{RankProof}
-use Rattle.crn_cert.specs.ClassTests.{IsTree}
-use Rattle.crn_cert.specs.Ranges.{AreFrom, AreFreeRows}
-use Rattle.crn_cert.specs.Parts.{IsRankProof}
-use Rattle.crn_ctext.specs.Records.{Record, Form, Rising, Says, Fits, record_text}
-use Rattle.crn_ctext.specs.Kinds.{record_form, small_form, free_form}
-use Rattle.crn_ctext.specs.Course.{Course, Give, ◌>>=◌}
-use Rattle.crn_ctext.specs.Courses.{IsWrittenBy}
-use Rattle.crn_ctext.specs.Blocks.{word_of}
-use Rattle.crn_ctext.specs.Questions.{first_number}
-use Rattle.crn_ctext.specs.Documents.{IsOneOf, one_word}
-use Rattle.crn_ctext.specs.Answers.{small_record, rank_records}
-use Rattle.crn_ctext.specs.Parts.{asks_part}
-use Rattle.crn_ctext.proofs.CallerLemmas.{AllPlain, HasNoEnd, IsAnswered, IsBounded, IsPlain, words_fit, fitting_is_plain, short_both, give_back, give_no_end, no_end_then, part_no_end, written_cuts, written_then, in_by_test, plain_is_line, record_is, rising, rising_fits, small_numbers, small_numbers_fit, one_back, number_fits, first_back, IsFirst, Say, only, one_said, none_said, line_on, given, either_no_end, wide_fields, wide_numbers, wide_numbers_fit, species_few, reactions_few, free_bounded, small_bounded, rising_bounded}
-use Rattle.crn_indep_check.specs.declared.parts.Parts.{Parts}
-use Rattle.crn_indep_check.specs.declared.parts.Parts.TheVariants.{Split, Wide}
-use Rattle.crn_indep_check.specs.Finest.{all_reactions}
-use Rattle.crn_indep_check.specs.Shown.{AreTied, HangsByTie, IsShown, IsShownForm, reactions}
-use Rattle.crn_indep_check.specs.Parts.{IsFormedParts, AreValidParts}
-use Rattle.crn_indep_text.specs.Document.{words, first_forms, base_forms, dual_forms, comb_forms, label_forms, up_forms, depth_forms, Seen, naturals, proof_of, split_seen, open_seen, asks_rows, asks_shown, asks_links, asks_proof, asks_split, asks_rest, asks_decomposition, part, link_records, records, seen_of, meant}
+use Rattle.crn_indep_text.proofs.Prelude.{◌≡◌, ◌≤◌, ◌+◌, ◌-◌, ◌++◌, ℕ, suc, true, List, [], ◌∷◌, length, map, refl, sym, ap, subst, ◌∙◌, inl, inr, arith, ℤ, pos, min, slice_index, codes, bytes_eq, AllByRecursion, append-nil, map-append, length-range_with_len, IsIn, IsAscending, Net, IsNetwork, abs_back, all_in, all_from, in_range, range_bounds, zip_append, RankProof, IsTree, AreFrom, AreFreeRows, IsRankProof, Record, Form, Rising, Says, Fits, record_text, record_form, small_form, free_form, Course, Give, ◌>>=◌, IsWrittenBy, word_of, first_number, IsOneOf, one_word, small_record, rank_records, asks_part, AllPlain, HasNoEnd, IsAnswered, IsBounded, IsPlain, words_fit, fitting_is_plain, short_both, give_back, give_no_end, no_end_then, part_no_end, written_cuts, written_then, in_by_test, plain_is_line, record_is, rising, rising_fits, small_numbers, small_numbers_fit, one_back, number_fits, first_back, IsFirst, Say, only, one_said, none_said, line_on, given, either_no_end, wide_fields, wide_numbers, wide_numbers_fit, species_few, reactions_few, free_bounded, small_bounded, rising_bounded, Parts, Split, Wide, all_reactions, AreTied, HangsByTie, IsShown, IsShownForm, reactions, IsFormedParts, AreValidParts, words, first_forms, base_forms, dual_forms, comb_forms, label_forms, up_forms, depth_forms, Seen, naturals, proof_of, split_seen, open_seen, asks_rows, asks_shown, asks_links, asks_proof, asks_split, asks_rest, asks_decomposition, part, link_records, records, seen_of, meant}
 use Rattle.crn_indep_text.proofs.Rows.{rows_back, rows_on, rows_no_end, rows_plain}
 use Rattle.crn_indep_text.proofs.Tested.{shown_back, shown_on, shown_no_end}
 

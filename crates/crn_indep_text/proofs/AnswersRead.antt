@@ -1,35 +1,6 @@
 -- The lines of an answer, as they are read one after another.
-use Rattle.std.proofs.Common.{◌≡◌, ◌≤◌, ◌+◌, ◌-◌, ◌⊎◌, ℕ, suc, List, [], ◌∷◌, length, refl, sym, ap, ap₂, subst, ◌∙◌, inl, inr, arith, Result, Ok, Err}
-use Rattle.std.specs.Prelude.{ℤ, pos, Bool, true, false, min, codes}
-use Rattle.std.specs.Str.{bytes_eq}
-use Rattle.std.proofs.lemmas.List.FromFn.{length-range_with_len}
-use Rattle.crn_vec.specs.Network.{Net}
-use Rattle.crn_vec.specs.Kept.{KeptNums}
-use Rattle.crn_io.specs.Device.{SourceSeen}
-use Rattle.crn_cert.specs.declared.answer.RankProof.{RankProof}
-use Rattle.crn_cert.specs.Ranges.{AreFreeRows}
-use Rattle.crn_cert.specs.Parts.{IsRankProof}
-use Rattle.crn_ctext.specs.Records.{Record, Form, Fits}
-use Rattle.crn_ctext.specs.Kinds.{record_form}
-use Rattle.crn_ctext.specs.Course.{Course, Give, ◌>>=◌}
-use Rattle.crn_ctext.specs.Blocks.{either, word_of}
-use Rattle.crn_ctext.specs.Questions.{first_number}
-use Rattle.crn_ctext.specs.Documents.{IsOneOf, one_word}
-use Rattle.crn_ctext.specs.Answers.{small_record}
-use Rattle.crn_ctext.specs.Parts.{asks_part}
-use Rattle.crn_ctext.specs.Steps.{StepGives}
-use Rattle.crn_ctext.proofs.CallerLemmas.{one_back, record_is, wide_fields, wide_numbers}
-use Rattle.crn_reading.specs.Steps.{CanRead, StepIs, StopIs}
-use Rattle.crn_reading.specs.Records.{IsPartSaid}
-use Rattle.crn_reading.specs.declared.reading.Reading.{Reading}
-use Rattle.crn_reading.specs.declared.fault.CheckStop.{CheckStop}
-use Rattle.crn_reading.specs.declared.fault.CheckStop.TheVariants.{Rejected, NoMemory}
-use Rattle.crn_reading.proofs.CallerLemmas.{IsGiven, find, placed, step_gives, step_then_is, stop_first, stops_here, tests_fail, tests_give}
-use Rattle.crn_indep_check.specs.Finest.{all_reactions}
-use Rattle.crn_indep_check.specs.Shown.{IsProofForm, IsShown, IsShownForm, FailsShown, reactions, part_ranks, greatest}
-use Rattle.crn_indep_text.specs.Document.{words, first_forms, base_forms, dual_forms, comb_forms, label_forms, up_forms, depth_forms, Seen, naturals, proof_of, split_seen, open_seen, asks_rows, asks_shown, asks_links, asks_proof, asks_split, asks_rest, asks_decomposition}
-use Rattle.crn_indep_text.specs.declared.seen.PartsSeen.{PartsSeen}
-use Rattle.crn_indep_text.specs.Inner.LinesRead.{AreOfRow, JudgesLines, ReadsProof, ReadsRows, ReadsSeen}
+use Rattle.crn_indep_text.proofs.Prelude.{◌≡◌, ◌≤◌, ◌+◌, ◌-◌, ◌⊎◌, ℕ, suc, List, [], ◌∷◌, length, refl, sym, ap, ap₂, subst, ◌∙◌, inl, inr, arith, Result, Ok, Err, ℤ, pos, false, min, codes, bytes_eq, length-range_with_len, Net, KeptNums, SourceSeen, RankProof, AreFreeRows, IsRankProof, Record, Form, Fits, record_form, Course, Give, ◌>>=◌, either, word_of, first_number, IsOneOf, one_word, small_record, asks_part, StepGives, one_back, record_is, wide_fields, wide_numbers, CanRead, StepIs, StopIs, IsPartSaid, Reading, CheckStop, Rejected, NoMemory, IsGiven, find, placed, step_gives, step_then_is, stop_first, stops_here, tests_fail, tests_give, all_reactions, IsProofForm, IsShown, IsShownForm, FailsShown, reactions, part_ranks, greatest, words, first_forms, base_forms, dual_forms, comb_forms, label_forms, up_forms, depth_forms, Seen, naturals, proof_of, split_seen, open_seen, asks_rows, asks_shown, asks_links, asks_proof, asks_split, asks_rest, asks_decomposition, PartsSeen, AreOfRow, JudgesLines, ReadsProof, ReadsRows, ReadsSeen}
+use Rattle.std.specs.Prelude.{Bool, true}
 use Rattle.crn_indep_text.proofs.Answered.{small_back, rising_back, proof_formed}
 use Rattle.crn_indep_text.proofs.Tested.{shown_gives, shown_fails}
 

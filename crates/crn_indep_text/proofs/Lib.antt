@@ -8,3 +8,4 @@ mod LinesRead
 mod AnswersRead
 mod Written
 mod ShortDocuments
+mod Prelude

@@ -1,28 +1,5 @@
 -- The lines of a document on the finest independent decomposition, one by one, as they are read.
-use Rattle.std.proofs.Common.{◌≡◌, ◌≤◌, ◌<◌, ◌+◌, ◌^◌, ◌++◌, ℕ, zero, suc, List, [], ◌∷◌, length, map, refl, sym, ap, ap₂, subst, ◌∙◌, append_assoc, arith, Result, Ok}
-use Rattle.std.specs.Prelude.{ℤ, pos, min, codes, slice_index_or}
-use Rattle.std.specs.List.{AllByRecursion}
-use Rattle.std.proofs.lemmas.List.{append-nil}
-use Rattle.crn_vec.specs.Network.{Net}
-use Rattle.crn_vec.specs.Kept.{KeptNums}
-use Rattle.crn_io.specs.Device.{SourceSeen}
-use Rattle.crn_io.specs.declared.lines.TheConstants.{MAX_NUMBERS}
-use Rattle.crn_cert.specs.Ranges.{AreFree, AreFreeRows}
-use Rattle.crn_ctext.specs.Records.{Record, Form, Field, Free, Rising, most_of}
-use Rattle.crn_ctext.specs.Kinds.{small, record_form, small_form, free_form}
-use Rattle.crn_ctext.specs.Course.{Give, ◌>>=◌}
-use Rattle.crn_ctext.specs.Documents.{IsOneOf}
-use Rattle.crn_ctext.specs.Parts.{asks_part}
-use Rattle.crn_ctext.specs.PartLines.{field_of, forms_in}
-use Rattle.crn_ctext.specs.declared.part.Field.{Field as Run}
-use Rattle.crn_ctext.specs.declared.part.Choice.{Choice}
-use Rattle.crn_ctext.proofs.CallerLemmas.{small_numbers, rising, free_row, only}
-use Rattle.crn_reading.specs.Steps.{StepIs, StopIs}
-use Rattle.crn_reading.specs.declared.reading.Reading.{Reading}
-use Rattle.crn_reading.specs.declared.fault.CheckStop.{CheckStop}
-use Rattle.crn_reading.proofs.CallerLemmas.{IsGiven, step_gives, step_map, step_then_is, stop_first}
-use Rattle.crn_indep_text.specs.Document.{words, first_forms, asks_rows}
-use Rattle.crn_indep_text.specs.Inner.LinesRead.{AreSmall, IsRowSaid, ReadsRow, ReadsNums, ReadsRows, run_forms}
+use Rattle.crn_indep_text.proofs.Prelude.{◌≡◌, ◌≤◌, ◌<◌, ◌+◌, ◌^◌, ◌++◌, ℕ, zero, suc, List, [], ◌∷◌, length, map, refl, sym, ap, ap₂, subst, ◌∙◌, append_assoc, arith, Result, Ok, ℤ, pos, min, codes, slice_index_or, AllByRecursion, append-nil, Net, KeptNums, SourceSeen, MAX_NUMBERS, AreFree, AreFreeRows, Record, Form, Field, Free, Rising, most_of, small, record_form, small_form, free_form, Give, ◌>>=◌, IsOneOf, asks_part, field_of, forms_in, Run, Choice, small_numbers, rising, free_row, only, StepIs, StopIs, Reading, CheckStop, IsGiven, step_gives, step_map, step_then_is, stop_first, words, first_forms, asks_rows, AreSmall, IsRowSaid, ReadsRow, ReadsNums, ReadsRows, run_forms}
 
 -- ---- forms
 

@@ -1,17 +1,5 @@
 -- Rows of free numbers, one line after another: those that are written are rows, and rows are written.
-use Rattle.std.proofs.Common.{◌≡◌, ◌+◌, ◌++◌, ℕ, zero, suc, true, List, [], ◌∷◌, length, map, refl, sym, ap, subst, ◌∙◌, inl, arith}
-use Rattle.std.specs.Prelude.{ℤ}
-use Rattle.std.proofs.lemmas.List.{append-nil}
-use Rattle.crn_vec.specs.Lists.{IsIn}
-use Rattle.crn_cert.specs.Ranges.{AreFreeRows}
-use Rattle.crn_ctext.specs.Records.{Form, Says, record_text}
-use Rattle.crn_ctext.specs.Kinds.{free_form}
-use Rattle.crn_ctext.specs.Course.{Give, ◌>>=◌}
-use Rattle.crn_ctext.specs.Courses.{IsWrittenBy}
-use Rattle.crn_ctext.specs.Documents.{one_word}
-use Rattle.crn_ctext.specs.Parts.{asks_part}
-use Rattle.crn_ctext.proofs.CallerLemmas.{AllPlain, HasNoEnd, IsBounded, are_words, fitting_is_plain, free_fits, free_row, give_back, give_no_end, no_end_then, part_no_end, written_cuts, written_then, first_back, Say, only, one_said, none_said, line_on, given}
-use Rattle.crn_indep_text.specs.Document.{words, asks_rows}
+use Rattle.crn_indep_text.proofs.Prelude.{◌≡◌, ◌+◌, ◌++◌, ℕ, zero, suc, true, List, [], ◌∷◌, length, map, refl, sym, ap, subst, ◌∙◌, inl, arith, ℤ, append-nil, IsIn, AreFreeRows, Form, Says, record_text, free_form, Give, ◌>>=◌, IsWrittenBy, one_word, asks_part, AllPlain, HasNoEnd, IsBounded, are_words, fitting_is_plain, free_fits, free_row, give_back, give_no_end, no_end_then, part_no_end, written_cuts, written_then, first_back, Say, only, one_said, none_said, line_on, given, words, asks_rows}
 
 pub rows_no_end : (n : ℕ) (forms : List Form) (count : ℕ) → HasNoEnd (asks_rows n forms count)
 unfolding asks_rows

@@ -1,21 +1,6 @@
 -- The course of a document on the finest independent decomposition is settled.
-use Rattle.std.proofs.Common.{◌+◌, ◌-◌, ◌==◌, ℕ, zero, suc, Bool, true, false, List, [], ◌∷◌, refl, arith}
-use Rattle.std.specs.Prelude.{ℤ, codes, if◌then◌else◌}
-use Rattle.std.specs.Str.{bytes_eq}
-use Rattle.crn_vec.specs.Network.{Net}
-use Rattle.crn_cert.specs.declared.answer.RankProof.{RankProof}
-use Rattle.crn_cert.specs.Faults.{fault_number}
-use Rattle.crn_cert.specs.Tests.{Test}
-use Rattle.crn_ctext.specs.Records.{Record, Form}
-use Rattle.crn_ctext.specs.Course.{Course, Give, ◌>>=◌, test_own}
-use Rattle.crn_ctext.specs.Courses.{IsSettled}
-use Rattle.crn_ctext.specs.Blocks.{word_of}
-use Rattle.crn_ctext.specs.Questions.{first_number}
-use Rattle.crn_ctext.specs.Parts.{asks_part, part_course}
-use Rattle.crn_ctext.proofs.CallerLemmas.{HaveWords, AllDecided, forms_yes, settled_then, own_settled, give_settled, either_settled, asks_part_settled, part_settled, rank_decided}
-use Rattle.crn_indep_check.specs.Finest.{all_reactions}
-use Rattle.crn_indep_check.specs.Shown.{AreEvenLabels, AreLinked, reactions, proof_tests, part_code, label_record}
-use Rattle.crn_indep_text.specs.Document.{words, first_forms, base_forms, dual_forms, comb_forms, label_forms, up_forms, depth_forms, Seen, naturals, proof_of, split_seen, open_seen, asks_rows, own_tests, asks_shown, asks_links, asks_proof, asks_split, asks_rest, asks_decomposition, IsOwn, part}
+use Rattle.crn_indep_text.proofs.Prelude.{◌+◌, ◌-◌, ◌==◌, ℕ, zero, suc, Bool, true, List, [], ◌∷◌, refl, arith, ℤ, codes, if◌then◌else◌, bytes_eq, Net, RankProof, fault_number, Test, Record, Form, Course, Give, ◌>>=◌, test_own, IsSettled, word_of, first_number, asks_part, part_course, HaveWords, AllDecided, forms_yes, settled_then, own_settled, give_settled, either_settled, asks_part_settled, part_settled, rank_decided, all_reactions, AreEvenLabels, AreLinked, reactions, proof_tests, part_code, label_record, words, first_forms, base_forms, dual_forms, comb_forms, label_forms, up_forms, depth_forms, Seen, naturals, proof_of, split_seen, open_seen, asks_rows, own_tests, asks_shown, asks_links, asks_proof, asks_split, asks_rest, asks_decomposition, IsOwn, part}
+use Rattle.std.proofs.Common.{false}
 use Rattle.crn_indep_text.proofs.TestsDecided.{even_labels_decided, linked_decided}
 
 -- a line of one form is settled, and what follows it

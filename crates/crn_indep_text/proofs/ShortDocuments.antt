@@ -1,16 +1,5 @@
 -- Documents of answers are short.
-use Rattle.std.proofs.Common.{◌≤◌, length, map, refl, arith}
-use Rattle.std.specs.Prelude.{codes}
-use Rattle.std.proofs.lemmas.List.{length-append, length-map}
-use Rattle.std.proofs.lemmas.List.FromFn.{length-range_with_len}
-use Rattle.crn_vec.specs.Network.{Net, IsNetwork}
-use Rattle.crn_ctext.specs.Documents.{one_word}
-use Rattle.crn_ctext.specs.Answers.{rank_records}
-use Rattle.crn_ctext.proofs.CallerLemmas.{part_document_short}
-use Rattle.crn_indep_check.specs.declared.parts.Parts.{Parts}
-use Rattle.crn_indep_check.specs.declared.parts.Parts.TheVariants.{Split, Wide}
-use Rattle.crn_indep_check.specs.Parts.{IsFormedParts}
-use Rattle.crn_indep_text.specs.Document.{link_records, records, WrittenAreDocuments}
+use Rattle.crn_indep_text.proofs.Prelude.{◌≤◌, length, map, refl, arith, codes, length-append, length-map, length-range_with_len, Net, IsNetwork, one_word, rank_records, part_document_short, Parts, Split, Wide, IsFormedParts, link_records, records, WrittenAreDocuments}
 use Rattle.crn_indep_text.proofs.Answered.{parts_is_answered, records_plain}
 
 few_records : (net : Net) (answer : Parts) → IsNetwork net → IsFormedParts net answer → length (records answer) ≤ 400000

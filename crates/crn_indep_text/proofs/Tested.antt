@@ -1,15 +1,5 @@
 -- The tests of a decomposition as a course: what they give, which fails first, and that nothing is written for them.
-use Rattle.std.proofs.Common.{◌≡◌, ◌+◌, ◌++◌, ◌⊎◌, ℕ, List, [], ◌∷◌, refl, sym, ap, subst, ◌∙◌, inl, inr}
-use Rattle.crn_vec.specs.Network.{Net}
-use Rattle.crn_io.specs.Lines.{Place}
-use Rattle.crn_cert.specs.declared.answer.RankProof.{RankProof}
-use Rattle.crn_cert.specs.Faults.{fault_number}
-use Rattle.crn_cert.specs.Tests.{Test, AllHold, FailsFirst as FailsTest}
-use Rattle.crn_ctext.specs.Course.{Course, Give, ◌>>=◌, test_own, Gives, FailsFirst}
-use Rattle.crn_ctext.specs.Courses.{IsWrittenBy}
-use Rattle.crn_ctext.proofs.CallerLemmas.{HasNoEnd, written_then, written_cuts, test_no_end, give_no_end}
-use Rattle.crn_indep_check.specs.Shown.{AreEvenLabels, AreLinked, IsShown, FailsShown, FailsLink, proof_tests, part_code, label_record}
-use Rattle.crn_indep_text.specs.Document.{own_tests, asks_shown}
+use Rattle.crn_indep_text.proofs.Prelude.{◌≡◌, ◌+◌, ◌++◌, ◌⊎◌, ℕ, List, [], ◌∷◌, refl, sym, ap, subst, ◌∙◌, inl, inr, Net, Place, RankProof, fault_number, Test, AllHold, FailsTest, Course, Give, ◌>>=◌, test_own, Gives, FailsFirst, IsWrittenBy, HasNoEnd, written_then, written_cuts, test_no_end, give_no_end, AreEvenLabels, AreLinked, IsShown, FailsShown, FailsLink, proof_tests, part_code, label_record, own_tests, asks_shown}
 
 -- ---- tests in order, and what follows them
 

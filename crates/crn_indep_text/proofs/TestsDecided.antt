@@ -1,16 +1,5 @@
 -- The tests of a document on the finest independent decomposition are decided, whatever its records hold.
-use Rattle.std.proofs.Common.{◌≡◌, ◌≢◌, ◌≤◌, ◌<◌, ◌+◌, ◌-◌, ℕ, zero, suc, List, [], ◌∷◌, length, refl, subst, arith}
-use Rattle.std.specs.Prelude.{pos, slice_index}
-use Rattle.std.specs.List.{AllByRecursion}
-use Rattle.crn_vec.specs.Lists.{IsIn}
-use Rattle.crn_vec.specs.Network.{Net}
-use Rattle.crn_vec.specs.Vectors.{entry}
-use Rattle.crn_vec.proofs.CallerLemmas.{all_in, all_from}
-use Rattle.crn_cert.specs.declared.answer.RankProof.{RankProof}
-use Rattle.crn_cert.specs.ClassTests.{AreNumbered}
-use Rattle.crn_ctext.proofs.CallerLemmas.{IsDecided, both_decided, one_decided, in_decided, not_decided, if_decided, moved, nat_decided, int_decided, all_decided, each_below, some_below, numbered_decided, tree_decided, some_number}
-use Rattle.crn_indep_check.specs.Finest.{label_of}
-use Rattle.crn_indep_check.specs.Shown.{combined, comb_for, DrawsOn, AreTied, AreEvenLabels, HangsByTie, AreLinked}
+use Rattle.crn_indep_text.proofs.Prelude.{◌≡◌, ◌≢◌, ◌≤◌, ◌<◌, ◌+◌, ◌-◌, ℕ, zero, suc, List, [], ◌∷◌, length, refl, subst, arith, pos, slice_index, AllByRecursion, IsIn, Net, entry, all_in, all_from, RankProof, AreNumbered, IsDecided, both_decided, one_decided, in_decided, not_decided, if_decided, moved, nat_decided, int_decided, all_decided, each_below, some_below, numbered_decided, tree_decided, some_number, label_of, combined, comb_for, DrawsOn, AreTied, AreEvenLabels, HangsByTie, AreLinked}
 
 -- ---- ties
 

@@ -1,12 +1,6 @@
 -- The lines of an answer, as they are written.
-use Rattle.std.proofs.Common.{◌≡◌, ◌++◌, ℕ, List, [], ◌∷◌, codes, map, refl, sym, ap, ◌∙◌, append_assoc}
-use Rattle.std.specs.Prelude.{ℤ, pos}
-use Rattle.std.proofs.lemmas.List.Concat.{flat_map-append}
-use Rattle.crn_vec.specs.Network.{Net}
-use Rattle.crn_ctext.specs.Records.{Record, line, number_text, numbers_text}
-use Rattle.crn_ctext.specs.Documents.{one_word, record_lines}
-use Rattle.crn_ctext.specs.Parts.{part_document, part_head}
-use Rattle.crn_ctext.proofs.CallerLemmas.{word_then, lines_append}
+use Rattle.crn_indep_text.proofs.Prelude.{◌≡◌, ◌++◌, ℕ, List, [], ◌∷◌, map, refl, sym, ap, ◌∙◌, append_assoc, ℤ, pos, flat_map-append, Net, Record, line, number_text, numbers_text, one_word, record_lines, part_document, part_head, word_then, lines_append}
+use Rattle.std.proofs.Common.{codes}
 
 pub wide_line : (i : ℕ) (b : List ℕ) → line (codes "wide") (map pos (i ∷ b)) ≡ ((codes "wide" ++ numbers_text (map pos (i ∷ []))) ++ numbers_text (map pos b)) ++ codes "\n"
 wide_line i b = ap (λ (t : List ℕ). (codes "wide" ++ t) ++ codes "\n") (flat_map-append number_text (map pos (i ∷ [])) (map pos b))

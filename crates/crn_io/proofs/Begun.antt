@@ -1,12 +1,5 @@
 -- The beginning of a line, shorter beginnings of it, and what follows it.
-use Rattle.std.proofs.Common.{◌≡◌, ◌==◌, ◌⊎◌, ℕ, zero, suc, ◌+◌, ◌-◌, ◌≤◌, ◌<◌, false, List, [], ◌∷◌, ◌++◌, length, take, inl, inr, refl, sym, ap, subst, ◌∙◌, append_assoc, arith}
-use Rattle.std.proofs.Math.Seq.{take-append_seam}
-use Rattle.std.proofs.lemmas.Bool.{cases_lt}
-use Rattle.std.proofs.lemmas.List.{length-append, take-append-le}
-use Rattle.std.proofs.lemmas.List.Elements.{All-cons}
-use Rattle.crn_io.specs.declared.lines.TheConstants.{MAX_AHEAD, MAX_DOCUMENT, MAX_LINE}
-use Rattle.crn_io.specs.Lines.{IsBegun, IsLine, IsLineAt, Place, ExceedsLine, BreaksLine, document_too_long, line_too_long, otherwise}
-use Rattle.crn_io.specs.Next.{AreAsked}
+use Rattle.crn_io.proofs.Prelude.{◌≡◌, ◌==◌, ◌⊎◌, ℕ, zero, suc, ◌+◌, ◌-◌, ◌≤◌, ◌<◌, false, List, [], ◌∷◌, ◌++◌, length, take, inl, inr, refl, sym, ap, subst, ◌∙◌, append_assoc, arith, take-append_seam, cases_lt, length-append, take-append-le, All-cons, MAX_AHEAD, MAX_DOCUMENT, MAX_LINE, IsBegun, IsLine, IsLineAt, Place, ExceedsLine, BreaksLine, document_too_long, line_too_long, otherwise, AreAsked}
 use Rattle.crn_io.proofs.LineEnds.{end_is_none}
 use Rattle.crn_io.proofs.LineLists.{IsLine-none, IsLine-take}
 

@@ -1,12 +1,6 @@
 -- A place has a line, or one first test of a line fails there, and never both.
-use Rattle.std.proofs.Common.{◌≡◌, ◌⊎◌, ℕ, zero, suc, ◌+◌, ◌-◌, ◌<◌, ◌≤◌, false, List, [], ◌∷◌, ◌++◌, length, take, refl, sym, ap, ap₂, subst, ◌∙◌, inl, inr, arith}
+use Rattle.crn_io.proofs.Prelude.{◌≡◌, ◌⊎◌, ℕ, zero, suc, ◌+◌, ◌-◌, ◌<◌, ◌≤◌, false, List, [], ◌∷◌, ◌++◌, length, take, refl, sym, ap, ap₂, subst, ◌∙◌, inl, inr, arith, cases_lt, eqb_tells, length-append, take-append-le, All-nil, All-head, All-tail, All-cons, All-take, MAX_LINE, MAX_DOCUMENT, IsLine, Place, IsLineAt, ExceedsDocument, ExceedsLine, LacksLine, BreaksLine, document_too_long, line_too_long, otherwise}
 use Rattle.std.specs.Prelude.{◌==◌}
-use Rattle.std.proofs.lemmas.Bool.{cases_lt}
-use Rattle.std.proofs.lemmas.Bool.Decides.{eqb_tells}
-use Rattle.std.proofs.lemmas.List.{length-append, take-append-le}
-use Rattle.std.proofs.lemmas.List.Elements.{All-nil, All-head, All-tail, All-cons, All-take}
-use Rattle.crn_io.specs.declared.lines.TheConstants.{MAX_LINE, MAX_DOCUMENT}
-use Rattle.crn_io.specs.Lines.{IsLine, Place, IsLineAt, ExceedsDocument, ExceedsLine, LacksLine, BreaksLine, document_too_long, line_too_long, otherwise}
 
 -- the bytes before the first LF, and those after it, if there is one
 pub split_line : (bs : List ℕ) → IsLine bs ⊎ ((l : List ℕ) × (r : List ℕ) × (bs ≡ l ++ 10 ∷ r) × IsLine l)

@@ -1,10 +1,5 @@
 -- Bytes with and without an LF.
-use Rattle.std.proofs.Common.{◌≡◌, ◌==◌, ℕ, ◌+◌, ◌<◌, false, List, [], ◌∷◌, ◌++◌, length, take, drop, get_or, Some, sym, ap, ◌∙◌, append_assoc, arith}
-use Rattle.std.proofs.lemmas.List.{length-append, take-append-drop, drop_more, get_or-append-add}
-use Rattle.std.proofs.lemmas.List.Elements.{All-append, All-take}
-use Rattle.std.proofs.Math.Seq.{take-append-add}
-use Rattle.crn_io.specs.Lines.{IsLine}
-use Rattle.crn_io.specs.Inner.Gather.{EndsAt}
+use Rattle.crn_io.proofs.Prelude.{◌≡◌, ◌==◌, ℕ, ◌+◌, ◌<◌, false, List, [], ◌∷◌, ◌++◌, length, take, drop, get_or, Some, sym, ap, ◌∙◌, append_assoc, arith, length-append, take-append-drop, drop_more, get_or-append-add, All-append, All-take, take-append-add, IsLine, EndsAt}
 
 -- ---- bytes without an LF
 

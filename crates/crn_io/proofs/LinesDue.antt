@@ -1,13 +1,5 @@
 -- A call for the next line gives what is due at a place, and its answer has its cause there.
-use Rattle.std.proofs.Common.{◌≡◌, ◌==◌, ℕ, ◌+◌, ◌-◌, ◌≤◌, ◌<◌, Bool, false, List, [], ◌∷◌, ◌++◌, length, take, Option, Some, None, refl, sym, ap, subst, ◌∙◌, append_assoc, arith}
-use Rattle.std.proofs.lemmas.List.{length-append, append-nil, take-append-le, take-take}
-use Rattle.std.proofs.lemmas.List.Elements.{All-nil}
-use Rattle.crn_io.specs.declared.next.Next.{Next}
-use Rattle.crn_io.specs.declared.next.Next.TheVariants.{Line, Last, End, LineTooLong, DocumentTooLong, Failed}
-use Rattle.crn_io.specs.declared.lines.TheConstants.{MAX_LINE, MAX_DOCUMENT}
-use Rattle.crn_io.specs.Lines.{IsLine, Place, IsLineAt, ExceedsDocument, ExceedsLine, LacksLine, HasMore, document_too_long, line_too_long, otherwise}
-use Rattle.crn_io.specs.Pull.{Consumes}
-use Rattle.crn_io.specs.Next.{KeptLines, NextIs, place, DueIs, EndIs, IsCause}
+use Rattle.crn_io.proofs.Prelude.{◌≡◌, ◌==◌, ℕ, ◌+◌, ◌-◌, ◌≤◌, ◌<◌, Bool, false, List, [], ◌∷◌, ◌++◌, length, take, Option, Some, None, refl, sym, ap, subst, ◌∙◌, append_assoc, arith, length-append, append-nil, take-append-le, take-take, All-nil, Next, Line, Last, End, LineTooLong, DocumentTooLong, Failed, MAX_LINE, MAX_DOCUMENT, IsLine, Place, IsLineAt, ExceedsDocument, ExceedsLine, LacksLine, HasMore, document_too_long, line_too_long, otherwise, Consumes, KeptLines, NextIs, place, DueIs, EndIs, IsCause}
 use Rattle.crn_io.proofs.LineLists.{IsLine-take}
 use Rattle.crn_io.proofs.LineEnds.{line_breaks_none, end_is_none}
 

@@ -1,10 +1,6 @@
 -- What the bytes that are held say of the next line.
-use Rattle.std.proofs.Common.{◌≡◌, ℕ, ◌+◌, ◌-◌, ◌≤◌, ◌<◌, min, List, ◌∷◌, ◌++◌, length, take, drop, Some, ap, ◌∙◌, arith}
-use Rattle.std.proofs.lemmas.List.{length-append, length-take, length-drop, take-take, drop-drop}
-use Rattle.crn_io.specs.declared.lines.TheConstants.{MAX_LINE, MAX_AHEAD, MAX_DOCUMENT}
-use Rattle.crn_io.specs.Lines.{IsLine}
-use Rattle.crn_io.specs.Inner.Gather.{AreHeld, EndsAt}
-use Rattle.crn_io.specs.Next.{AreAsked}
+use Rattle.crn_io.proofs.Prelude.{◌≡◌, ℕ, ◌+◌, ◌-◌, ◌≤◌, ◌<◌, min, List, ◌∷◌, ◌++◌, length, take, drop, Some, ap, ◌∙◌, arith, length-append, length-take, take-take, drop-drop, MAX_LINE, MAX_AHEAD, MAX_DOCUMENT, IsLine, AreHeld, EndsAt, AreAsked}
+use Rattle.std.proofs.lemmas.List.{length-drop}
 use Rattle.crn_io.proofs.LineLists.{IsLine-take, at_end}
 
 -- a prefix of a line has no LF either

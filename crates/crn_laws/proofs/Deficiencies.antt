@@ -1,20 +1,5 @@
 -- Each network has a deficiency and one for each linkage class, and the two theorems' hypotheses.
-use Rattle.std.proofs.Common.{◌≡◌, ℕ, zero, suc, ◌+◌, ◌<◌, ◌≤◌, ◌==◌, inl, inr, Bool, List, [], ◌∷◌, length, get_or, map, true, refl, sym, ap, subst, ◌∙◌, arith}
-use Rattle.std.specs.Prelude.{filter, sum}
-use Rattle.std.specs.List.{range_with_len}
-use Rattle.std.proofs.lemmas.Bool.{cases_Bool, eq-eqb, eqb-true}
-use Rattle.std.proofs.lemmas.List.{ext_get_or, get_or-map, length-map}
-use Rattle.std.proofs.lemmas.List.FromFn.{length-range_with_len}
-use Rattle.std.proofs.lemmas.List.Sums.{sum_by-cons}
-use Rattle.crn_vec.specs.Lists.{IsIn}
-use Rattle.crn_vec.specs.Network.{Net, IsNetwork, JoinsTwo, reaction_vector}
-use Rattle.crn_vec.specs.Vectors.{AreOfLength}
-use Rattle.crn_vec.specs.Linkage.{IsLabelCount}
-use Rattle.crn_vec.specs.Rank.{IsIndependent, IsRank}
-use Rattle.crn_vec.specs.Deficiency.{vectors, class_members, class_reactions, class_vectors, AreAtMostOne, IsClassDeficiency, IsLabelled}
-use Rattle.crn_vec.proofs.CallerLemmas.{all_from, all_in, deficiency_is_one, filter_distinct, filter_from, filter_has, in_range, inside_at, length-minus, vector_long}
-use Rattle.crn_space.proofs.CallerLemmas.{IsPart, class_deficiencies_sum_to_at_most, counted, counted_all, few_together, number_of_classes, one_label, part_few, part_filter, part_filters, part_independent, part_map, part_places, range_distinct, rank_leaves, taken, taken_in, taken_vectors}
-use Rattle.crn_laws.specs.Implied.{ClassRanksSumToAtLeast, NetworksHaveDeficiencies, DeficiencyZeroGivesDeficiencyOne}
+use Rattle.crn_laws.proofs.Prelude.{◌≡◌, ℕ, zero, suc, ◌+◌, ◌<◌, ◌≤◌, ◌==◌, inl, inr, Bool, List, [], ◌∷◌, length, get_or, map, true, refl, sym, ap, subst, ◌∙◌, arith, filter, sum, range_with_len, cases_Bool, eq-eqb, eqb-true, ext_get_or, get_or-map, length-map, length-range_with_len, sum_by-cons, IsIn, Net, IsNetwork, JoinsTwo, reaction_vector, AreOfLength, IsLabelCount, IsIndependent, IsRank, vectors, class_members, class_reactions, class_vectors, AreAtMostOne, IsClassDeficiency, IsLabelled, all_from, all_in, deficiency_is_one, filter_distinct, filter_from, filter_has, in_range, inside_at, length-minus, vector_long, IsPart, class_deficiencies_sum_to_at_most, counted, counted_all, few_together, number_of_classes, one_label, part_few, part_filter, part_filters, part_independent, part_map, part_places, range_distinct, rank_leaves, taken, taken_in, taken_vectors, ClassRanksSumToAtLeast, NetworksHaveDeficiencies, DeficiencyZeroGivesDeficiencyOne}
 use Rattle.crn_laws.proofs.FirstNumbers.{place_in}
 use Rattle.crn_laws.proofs.Labelled.{labelled}
 use Rattle.crn_laws.proofs.Ranked.{ranked}

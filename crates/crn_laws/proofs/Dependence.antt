@@ -1,12 +1,6 @@
 -- The reactions of a weakly reversible network lie on closed walks, whose reactions add up to zero.
-use Rattle.std.proofs.Common.{◌≡◌, ℕ, zero, suc, ◌<◌, ◌≤◌, inl, inr, List, [], ◌∷◌, length, get_or, refl, sym, subst, ◌∙◌, arith}
-use Rattle.std.specs.Prelude.{ℤ, pos, ◌+ℤ◌, ◌-ℤ◌, ◌≤ℤ◌}
-use Rattle.std.proofs.lemmas.Int.{ints}
+use Rattle.crn_laws.proofs.Prelude.{◌≡◌, ℕ, zero, suc, ◌<◌, ◌≤◌, inl, inr, List, [], ◌∷◌, length, get_or, refl, sym, subst, ◌∙◌, arith, ℤ, pos, ◌+ℤ◌, ◌-ℤ◌, ◌≤ℤ◌, ints, entry, column, IsWeaklyReversible, ReactsTo, Reaches, all_given, below_or, at_in, class_link, distrib-right, entry-plus, entry-zeros, gain, gain_made, leads_keeps, length-plus, length-zeros, place_of, plus, zeros, WeaklyReversibleAreDependent}
 use lib.IntN.{zero-*ℤ}
-use Rattle.crn_vec.specs.Vectors.{entry, column}
-use Rattle.crn_vec.specs.Strong.{IsWeaklyReversible, ReactsTo, Reaches}
-use Rattle.crn_vec.proofs.CallerLemmas.{all_given, below_or, at_in, class_link, distrib-right, entry-plus, entry-zeros, gain, gain_made, leads_keeps, length-plus, length-zeros, place_of, plus, zeros}
-use Rattle.crn_laws.specs.Implied.{WeaklyReversibleAreDependent}
 
 -- multiples of the reactions, none negative, that take a weight from y to z
 pub record Carries (rs : List (ℕ × ℕ)) (y z : ℕ) : Type 0 where

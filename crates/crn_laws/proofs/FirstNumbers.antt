@@ -1,9 +1,5 @@
 -- Values of the first numbers are numbered anew by first appearance.
-use Rattle.std.proofs.Common.{◌≡◌, ◌≢◌, ◌⊎◌, ℕ, zero, suc, ◌<◌, inl, inr, get_or, refl, sym, ap, ◌∙◌, arith}
-use Rattle.std.specs.Prelude.{Option, Some}
-use Rattle.std.specs.List.{range_with_len}
-use Rattle.std.proofs.lemmas.List.FromFn.{get_or-range_with_len}
-use Rattle.crn_vec.proofs.CallerLemmas.{below_or, eq_or, none_some, option_or, some_is}
+use Rattle.crn_laws.proofs.Prelude.{◌≡◌, ◌≢◌, ◌⊎◌, ℕ, zero, suc, ◌<◌, inl, inr, get_or, refl, sym, ap, ◌∙◌, arith, Option, Some, range_with_len, get_or-range_with_len, below_or, eq_or, none_some, option_or, some_is}
 
 -- the values that f has below n, by the place at which each appears first
 pub record Numbered (f : ℕ → Option ℕ) (n : ℕ) : Type 0 where

@@ -1,12 +1,5 @@
 -- Terminal classes and cut pairs of weakly reversible networks.
-use Rattle.std.proofs.Common.{◌⊎◌, ℕ, ◌<◌, inl, inr, List, [], ◌∷◌, length, refl, sym, subst}
-use Rattle.crn_vec.proofs.CallerLemmas.{along_map, class_link, cut_back, eq_or, free_back, is_between, leads_here}
-use Rattle.crn_vec.specs.Lists.{IsIn}
-use Rattle.crn_vec.specs.Linkage.{IsLinked, SameClass}
-use Rattle.crn_vec.specs.Strong.{IsWeaklyReversible, IsTerminal, ReactsTo}
-use Rattle.crn_vec.specs.CutPairs.{IsBetween, IsCutPair, IsFreeStep}
-use Rattle.crn_vec.specs.Confluence.{IsRegular}
-use Rattle.crn_laws.specs.Implied.{WeaklyReversibleHaveOneTerminalEach, WeaklyReversibleAreRegularByCutPairs, WeaklyReversibleAreRegularOrFail}
+use Rattle.crn_laws.proofs.Prelude.{◌⊎◌, ℕ, ◌<◌, inl, inr, List, [], ◌∷◌, length, refl, sym, subst, along_map, class_link, cut_back, eq_or, free_back, is_between, leads_here, IsIn, IsLinked, SameClass, IsWeaklyReversible, IsTerminal, ReactsTo, IsBetween, IsCutPair, IsFreeStep, IsRegular, WeaklyReversibleHaveOneTerminalEach, WeaklyReversibleAreRegularByCutPairs, WeaklyReversibleAreRegularOrFail}
 use Rattle.crn_laws.proofs.Dependence.{weakly_reversible_are_dependent}
 use Rattle.crn_laws.proofs.Labelled.{classes_of}
 

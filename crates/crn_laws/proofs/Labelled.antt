@@ -1,13 +1,5 @@
 -- Each network has right labels of its linkage classes.
-use Rattle.std.proofs.Common.{◌≡◌, ◌≢◌, ℕ, zero, suc, ◌<◌, ◌≤◌, inl, inr, List, [], ◌∷◌, length, get_or, map, refl, sym, ap, ◌∙◌, arith}
-use Rattle.std.specs.Prelude.{Option, Some}
-use Rattle.std.specs.List.{range_with_len}
-use Rattle.std.proofs.lemmas.List.{get_or-map, length-map}
-use Rattle.std.proofs.lemmas.List.FromFn.{length-range_with_len}
-use Rattle.crn_vec.specs.Network.{Net}
-use Rattle.crn_vec.specs.Linkage.{IsLinked, SameClass, IsLabelCount}
-use Rattle.crn_vec.specs.Deficiency.{IsLabelled}
-use Rattle.crn_vec.proofs.CallerLemmas.{along_map, class_back, class_link, class_then, eq_or, leads_keeps, some_is}
+use Rattle.crn_laws.proofs.Prelude.{◌≡◌, ◌≢◌, ℕ, zero, suc, ◌<◌, ◌≤◌, inl, inr, List, [], ◌∷◌, length, get_or, map, refl, sym, ap, ◌∙◌, arith, Option, Some, range_with_len, get_or-map, length-map, length-range_with_len, Net, IsLinked, SameClass, IsLabelCount, IsLabelled, along_map, class_back, class_link, class_then, eq_or, leads_keeps, some_is}
 use Rattle.crn_laws.proofs.FirstNumbers.{Numbered, first_numbers, place_in, put_by, put_here, put_other}
 
 -- ---- a number for each complex, which those of its linkage class share

@@ -17,3 +17,4 @@ mod SharedConcordance
 mod Primitive
 mod SharedConfluence
 mod SharedSignals
+mod Prelude

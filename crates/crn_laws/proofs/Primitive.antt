@@ -1,13 +1,5 @@
 -- Primitive lists of which positive multiples are equal are equal.
-use Rattle.std.proofs.Common.{◌≡◌, ℕ, zero, suc, ◌+◌, ◌-◌, ◌*◌, ◌≤◌, inl, inr, List, sym, ap, subst, ◌∙◌, arith}
-use Rattle.std.specs.Prelude.{ℤ, pos, negsuc, neg_ℤ, ◌*ℤ◌, ◌≤ℤ◌, ◌<ℤ◌, unsigned_abs}
-use Rattle.std.specs.Int.{◌∣◌}
-use Rattle.std.proofs.lemmas.Int.{ints, unsigned_abs-mul}
-use Rattle.std.proofs.Math.Nat.{dvd-mul_right, eq_of_mul-eq-mul_left}
-use Rattle.crn_vec.specs.Vectors.{entry}
-use Rattle.crn_vec.specs.Elementary.{IsPrimitive}
-use Rattle.crn_vec.specs.Confluence.{ArePositiveMultiples}
-use Rattle.crn_vec.proofs.CallerLemmas.{abs_some, lt_or, mul-neg, pos_pos, positive_some}
+use Rattle.crn_laws.proofs.Prelude.{◌≡◌, ℕ, zero, suc, ◌+◌, ◌-◌, ◌*◌, ◌≤◌, inl, inr, List, sym, ap, subst, ◌∙◌, arith, ℤ, pos, negsuc, neg_ℤ, ◌*ℤ◌, ◌≤ℤ◌, ◌<ℤ◌, unsigned_abs, ◌∣◌, ints, unsigned_abs-mul, dvd-mul_right, eq_of_mul-eq-mul_left, entry, IsPrimitive, ArePositiveMultiples, abs_some, lt_or, mul-neg, pos_pos, positive_some}
 
 -- numbers that are multiples of the same
 record Factors (x y : ℕ → ℕ) : Type 0 where

@@ -1,13 +1,7 @@
 -- Each list of vectors of one length has a rank.
-use Rattle.std.proofs.Common.{◌≡◌, ℕ, zero, suc, ◌<◌, inl, inr, List, [], ◌∷◌, length, get_or, map, refl, sym, subst, ◌∙◌, arith}
-use Rattle.std.specs.Prelude.{ℤ, pos, negsuc}
-use Rattle.std.proofs.lemmas.Int.{ints}
+use Rattle.crn_laws.proofs.Prelude.{◌≡◌, ℕ, zero, suc, ◌<◌, inl, inr, List, [], ◌∷◌, length, get_or, map, refl, sym, subst, ◌∙◌, arith, ℤ, pos, negsuc, ints, IsIn, entry, column, scale, AreOfLength, combination_at, IsIndependent, DependsOn, IsChoice, IsRank, chosen, above_zero, ascending_suc, base_gives_rank, below_suc, chosen-suc, comb, dot-scale, entry-comb, length-scale, length-zeros, neg-mul, past_end, row_count, zeros, zeros-dot, free_or, head_counts, zero_entry}
 use lib.IntN.{zero-*ℤ}
-use Rattle.crn_vec.specs.Lists.{IsIn}
-use Rattle.crn_vec.specs.Vectors.{entry, column, scale, AreOfLength}
-use Rattle.crn_vec.specs.Rank.{combination_at, IsIndependent, DependsOn, IsChoice, IsRank, chosen}
-use Rattle.crn_vec.proofs.CallerLemmas.{above_zero, ascending_suc, base_gives_rank, below_suc, chosen-suc, comb, dot-scale, entry-comb, length-scale, length-zeros, neg-mul, past_end, row_count, zeros, zeros-dot, Zero}
-use Rattle.crn_space.proofs.CallerLemmas.{free_or, head_counts, zero_entry}
+use Rattle.crn_vec.proofs.CallerLemmas.{Zero}
 
 -- independent vectors of a list, on which all depend
 record Base (vs : List (List ℤ)) : Type 0 where

@@ -1,13 +1,5 @@
 -- A renumbering the other way round, the reactions, complexes and vectors of a network numbered anew, and renumberings by a relation.
-use Rattle.std.proofs.Common.{◌≡◌, ◌⊎◌, ℕ, ◌<◌, ◌≤◌, inl, inr, List, [], length, get_or, refl, sym, ap, ◌∙◌, arith}
-use Rattle.std.specs.Prelude.{ℤ, ◌-ℤ◌}
-use Rattle.std.proofs.lemmas.Int.{ints}
-use Rattle.crn_vec.specs.Network.{Net, IsNetwork, amount_at, reaction_vector}
-use Rattle.crn_vec.specs.Vectors.{entry, column}
-use Rattle.crn_vec.specs.Strong.{IsReaction, ReactsTo}
-use Rattle.crn_vec.specs.Deficiency.{vectors}
-use Rattle.crn_vec.proofs.CallerLemmas.{entry-column, entry-listed, entry-minus, inside_at, length-column, length-listed, listed, lt_or, place_of, reaction_in, vector_at, vector_long, vector_width, vectors_count}
-use Rattle.crn_laws.specs.Renumbered.{IsMoved, Renumbering, IsRenumbered}
+use Rattle.crn_laws.proofs.Prelude.{◌≡◌, ◌⊎◌, ℕ, ◌<◌, ◌≤◌, inl, inr, List, [], length, get_or, refl, sym, ap, ◌∙◌, arith, ℤ, ◌-ℤ◌, ints, Net, IsNetwork, amount_at, reaction_vector, entry, column, IsReaction, ReactsTo, vectors, entry-column, entry-listed, entry-minus, inside_at, length-column, length-listed, listed, lt_or, place_of, reaction_in, vector_at, vector_long, vector_width, vectors_count, IsMoved, Renumbering, IsRenumbered}
 
 abbrev pub turned : (n m : ℕ) → Renumbering n m → Renumbering m n
 turned n m p = record { to = p.back; back = p.to; to_below = p.back_below; back_below = p.to_below; back_to = p.to_back; to_back = p.back_to }

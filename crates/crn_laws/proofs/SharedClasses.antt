@@ -1,13 +1,5 @@
 -- Terminal classes and regularity do not depend on the numbering.
-use Rattle.std.proofs.Common.{◌≡◌, ℕ, inl, inr, length, sym, ap, subst, ◌∙◌}
-use Rattle.crn_vec.specs.Network.{Net, IsNetwork}
-use Rattle.crn_vec.specs.Linkage.{IsLinked, SameClass}
-use Rattle.crn_vec.specs.Strong.{ReactsTo, Reaches, SameStrong, IsTerminal, IsReversible, IsWeaklyReversible}
-use Rattle.crn_vec.specs.CutPairs.{IsBetween, IsFreeStep, IsCutPair}
-use Rattle.crn_vec.specs.Deficiency.{IsComplex, HasOneTerminalEach, HasTerminalClasses}
-use Rattle.crn_vec.specs.Confluence.{IsRegular}
-use Rattle.crn_vec.proofs.CallerLemmas.{inside_at, leads_keeps}
-use Rattle.crn_laws.specs.Renumbered.{IsRenumbered, RenumberedShareClasses}
+use Rattle.crn_laws.proofs.Prelude.{◌≡◌, ℕ, inl, inr, length, sym, ap, subst, ◌∙◌, Net, IsNetwork, IsLinked, SameClass, ReactsTo, Reaches, SameStrong, IsTerminal, IsReversible, IsWeaklyReversible, IsBetween, IsFreeStep, IsCutPair, IsComplex, HasOneTerminalEach, HasTerminalClasses, IsRegular, inside_at, leads_keeps, IsRenumbered, RenumberedShareClasses}
 use Rattle.crn_laws.proofs.Renumberings.{turned_net}
 use Rattle.crn_laws.proofs.SharedDependence.{both_ways, dependent_anew}
 use Rattle.crn_laws.proofs.SharedWalks.{class_anew, leads_anew, linked_anew, number_anew, reaches_anew, reversible_anew, strong_anew, weakly_anew}

@@ -1,20 +1,5 @@
 -- Concordance does not depend on the numbering.
-use Rattle.std.proofs.Common.{◌≡◌, ◌⊎◌, ℕ, zero, suc, ◌<◌, inl, inr, List, [], ◌∷◌, length, get_or, map, refl, sym, ap, subst, ◌∙◌, arith}
-use Rattle.std.specs.Prelude.{ℤ, pos, negsuc, ◌≤ℤ◌}
-use Rattle.std.specs.List.{AllByRecursion}
-use Rattle.std.proofs.lemmas.Int.{ints}
-use Rattle.std.proofs.lemmas.List.{get_or-map, length-map}
-use Rattle.crn_vec.specs.declared.signs.Sign.{Sign}
-use Rattle.crn_vec.specs.declared.signs.Sign.TheVariants.{Zero}
-use Rattle.crn_vec.specs.Network.{Net, IsNetwork, minus, sides_of}
-use Rattle.crn_vec.specs.Vectors.{entry, dot}
-use Rattle.crn_vec.specs.Rank.{combination_at}
-use Rattle.crn_vec.specs.Deficiency.{vectors}
-use Rattle.crn_vec.specs.NetSystems.{reaction_system}
-use Rattle.crn_vec.specs.Concordance.{sign, image, signed_by, shares, HasPositive, HasNegative, IsNought, GoesWith, IsDiscordant}
-use Rattle.crn_vec.specs.Influence.{plain_table, strong_table, IsConcordantNet, IsStronglyConcordantNet}
-use Rattle.crn_vec.proofs.CallerLemmas.{all_at, all_given, entry-minus, length-minus, networks_have_tables, rows_count, vector_long, zip_at, zip_from}
-use Rattle.crn_laws.specs.Renumbered.{IsMoved, Renumbering, IsRenumbered, RenumberedShareConcordance}
+use Rattle.crn_laws.proofs.Prelude.{◌≡◌, ◌⊎◌, ℕ, zero, suc, ◌<◌, inl, inr, List, [], ◌∷◌, length, get_or, map, refl, sym, ap, subst, ◌∙◌, arith, ℤ, pos, negsuc, ◌≤ℤ◌, AllByRecursion, ints, get_or-map, length-map, Sign, Zero, Net, IsNetwork, minus, sides_of, entry, dot, combination_at, vectors, reaction_system, sign, image, signed_by, shares, HasPositive, HasNegative, IsNought, GoesWith, IsDiscordant, plain_table, strong_table, IsConcordantNet, IsStronglyConcordantNet, all_at, all_given, entry-minus, length-minus, networks_have_tables, rows_count, vector_long, zip_at, zip_from, IsMoved, Renumbering, IsRenumbered, RenumberedShareConcordance}
 use Rattle.crn_laws.proofs.SharedDependence.{combination_moved}
 use Rattle.crn_laws.proofs.Renumberings.{anew, end_at, ends_inside, entry_back, moved_anew, reaction_here, turned_net}
 

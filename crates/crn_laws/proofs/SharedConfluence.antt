@@ -1,20 +1,6 @@
 -- The confluence vector does not depend on the numbering, but for its sign in a weakly reversible network.
-use Rattle.std.proofs.Common.{◌≡◌, ◌≢◌, ◌⊎◌, ℕ, zero, suc, ◌<◌, inl, inr, List, [], length, get_or, refl, sym, ap, ap₂, subst, ◌∙◌, arith}
-use Rattle.std.specs.Prelude.{ℤ, pos, negsuc, neg_ℤ, ◌*ℤ◌, unsigned_abs}
-use Rattle.std.specs.Int.{◌∣◌}
-use Rattle.std.proofs.lemmas.Int.{ints}
-use Rattle.std.proofs.lemmas.Nat.Gcd.{dvd-zero}
-use Rattle.crn_vec.specs.Network.{Net, IsNetwork}
-use Rattle.crn_vec.specs.Linkage.{SameClass}
-use Rattle.crn_vec.specs.Strong.{SameStrong, IsWeaklyReversible}
-use Rattle.crn_vec.specs.Vectors.{entry, column}
-use Rattle.crn_vec.specs.Rank.{combination_at}
-use Rattle.crn_vec.specs.Elementary.{IsPrimitive}
-use Rattle.crn_vec.specs.Sums.{AreMarks, SumsTo}
-use Rattle.crn_vec.specs.Confluence.{HasConfluenceLine, InConfluenceSpace, IsConfluenceVector, IsNormalVector, IsRegular, negative}
-use Rattle.crn_vec.proofs.CallerLemmas.{column_past, confluence_vectors_are_one, dot_zero, entry-column, entry-scale, length-column, length-scale, lt_or, minus_one, past_end, vector_long}
+use Rattle.crn_laws.proofs.Prelude.{◌≡◌, ◌≢◌, ◌⊎◌, ℕ, zero, suc, ◌<◌, inl, inr, List, [], length, get_or, refl, sym, ap, ap₂, subst, ◌∙◌, arith, ℤ, pos, negsuc, neg_ℤ, ◌*ℤ◌, unsigned_abs, ◌∣◌, ints, dvd-zero, Net, IsNetwork, SameClass, SameStrong, IsWeaklyReversible, entry, column, combination_at, IsPrimitive, AreMarks, SumsTo, HasConfluenceLine, InConfluenceSpace, IsConfluenceVector, IsNormalVector, IsRegular, negative, column_past, confluence_vectors_are_one, dot_zero, entry-column, entry-scale, length-column, length-scale, lt_or, minus_one, past_end, vector_long, IsMoved, IsRenumbered, IsVectorAnew, Renumbering, RenumberedShareConfluence}
 use lib.IntN.{*ℤ-zero}
-use Rattle.crn_laws.specs.Renumbered.{IsMoved, IsRenumbered, IsVectorAnew, Renumbering, RenumberedShareConfluence}
 use Rattle.crn_laws.proofs.Primitive.{primitive_same}
 use Rattle.crn_laws.proofs.Renumberings.{anew, entry_back, moved_anew, turned, turned_net}
 use Rattle.crn_laws.proofs.SharedClasses.{regular_anew, terminal_anew}

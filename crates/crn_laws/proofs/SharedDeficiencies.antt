@@ -1,16 +1,5 @@
 -- The deficiencies of the linkage classes, and the two theorems' hypotheses, do not depend on the numbering.
-use Rattle.std.proofs.Common.{◌≡◌, ℕ, zero, suc, ◌+◌, ◌<◌, ◌≤◌, ◌==◌, inl, inr, Bool, List, [], ◌∷◌, length, get_or, refl, sym, ap, subst, ◌∙◌, arith}
-use Rattle.std.specs.Prelude.{ℤ, pos, sum}
-use Rattle.std.proofs.lemmas.Bool.{eq-eqb, eqb-true, ne_eqb}
-use Rattle.std.proofs.lemmas.Int.{ints}
-use Rattle.std.proofs.lemmas.List.Sums.{sum_by-cons}
-use Rattle.crn_vec.specs.Lists.{IsIn}
-use Rattle.crn_vec.specs.Network.{Net, IsNetwork}
-use Rattle.crn_vec.specs.Linkage.{IsLabelCount}
-use Rattle.crn_vec.specs.Rank.{IsRank}
-use Rattle.crn_vec.specs.Deficiency.{vectors, class_members, class_reactions, class_vectors, AreAtMostOne, AreDeficiencies, IsClassDeficiency, IsComplex, IsDeficiency, IsDeficiencyOne, IsLabelled}
-use Rattle.crn_vec.proofs.CallerLemmas.{all_at, all_given, deficiency_is_one, eq_or, filter_distinct, filter_from, filter_has, first_goes, first_stays, inside_at, rank_is_one_number}
-use Rattle.crn_laws.specs.Renumbered.{IsInOrder, IsRenumbered, RenumberedShareHypotheses, RenumberedShareNumbers}
+use Rattle.crn_laws.proofs.Prelude.{◌≡◌, ℕ, zero, suc, ◌+◌, ◌<◌, ◌≤◌, ◌==◌, inl, inr, Bool, List, [], ◌∷◌, length, get_or, refl, sym, ap, subst, ◌∙◌, arith, ℤ, pos, sum, eq-eqb, eqb-true, ne_eqb, ints, sum_by-cons, IsIn, Net, IsNetwork, IsLabelCount, IsRank, vectors, class_members, class_reactions, class_vectors, AreAtMostOne, AreDeficiencies, IsClassDeficiency, IsComplex, IsDeficiency, IsDeficiencyOne, IsLabelled, all_at, all_given, deficiency_is_one, eq_or, filter_distinct, filter_from, filter_has, first_goes, first_stays, inside_at, rank_is_one_number, IsInOrder, IsRenumbered, RenumberedShareHypotheses, RenumberedShareNumbers}
 use Rattle.crn_laws.proofs.Deficiencies.{networks_have_deficiencies}
 use Rattle.crn_laws.proofs.Renumberings.{matching, reacts_anew, turned_net}
 use Rattle.crn_laws.proofs.SharedClasses.{one_terminal_anew}

@@ -1,12 +1,5 @@
 -- Positive dependence and conservation do not depend on the numbering.
-use Rattle.std.proofs.Common.{◌≡◌, ℕ, ◌<◌, inl, inr, List, [], length, get_or, sym, ap, subst, ◌∙◌, arith}
-use Rattle.std.specs.Prelude.{ℤ, pos, ◌≤ℤ◌}
-use Rattle.crn_vec.specs.Network.{Net, IsNetwork}
-use Rattle.crn_vec.specs.Vectors.{dot, column}
-use Rattle.crn_vec.specs.Rank.{combination_at}
-use Rattle.crn_vec.specs.Deficiency.{IsPositive, IsPositivelyDependent, IsConservative, vectors}
-use Rattle.crn_vec.proofs.CallerLemmas.{all_at, all_given, combined_past, lt_or, vectors_count}
-use Rattle.crn_laws.specs.Renumbered.{IsMoved, Renumbering, IsRenumbered, IsShared, RenumberedShareDependence}
+use Rattle.crn_laws.proofs.Prelude.{◌≡◌, ℕ, ◌<◌, inl, inr, List, [], length, get_or, sym, ap, subst, ◌∙◌, arith, ℤ, pos, ◌≤ℤ◌, Net, IsNetwork, dot, column, combination_at, IsPositive, IsPositivelyDependent, IsConservative, vectors, all_at, all_given, combined_past, lt_or, vectors_count, IsMoved, Renumbering, IsRenumbered, IsShared, RenumberedShareDependence}
 use Rattle.crn_laws.proofs.Totals.{dot_moved}
 use Rattle.crn_laws.proofs.Renumberings.{anew, column_moved, entry_back, moved_anew, turned_net, vector_moved}
 

@@ -1,16 +1,5 @@
 -- Ranks and the deficiency do not depend on the numbering.
-use Rattle.std.proofs.Common.{◌≡◌, ℕ, suc, ◌<◌, ◌≤◌, inl, inr, List, [], ◌∷◌, length, get_or, map, refl, sym, ap, ap₂, subst, ◌∙◌, arith}
-use Rattle.std.specs.Prelude.{ℤ, pos, ◌*ℤ◌}
-use Rattle.std.proofs.lemmas.Int.{ints}
-use Rattle.std.proofs.lemmas.List.{length-map}
-use Rattle.crn_vec.specs.Lists.{IsIn, AreDistinct, IsAbove, IsAscending}
-use Rattle.crn_vec.specs.Network.{Net, IsNetwork, reaction_vector}
-use Rattle.crn_vec.specs.Vectors.{entry, dot, column}
-use Rattle.crn_vec.specs.Rank.{IsZero, combination_at, IsIndependent, IsChoice, IsRank, chosen}
-use Rattle.crn_vec.specs.Deficiency.{vectors, IsDeficiency}
-use Rattle.crn_vec.proofs.CallerLemmas.{above_in, ascending_tail, distinct_of_map, in_map, inside_at, lt_or, map_distinct, pair, past_end, place_of, same_place, vector_at, vector_width}
-use Rattle.crn_space.proofs.CallerLemmas.{taken, taken_in, taken_vectors, zero_more}
-use Rattle.crn_laws.specs.Renumbered.{IsRenumbered}
+use Rattle.crn_laws.proofs.Prelude.{◌≡◌, ℕ, suc, ◌<◌, ◌≤◌, inl, inr, List, [], ◌∷◌, length, get_or, map, refl, sym, ap, ap₂, subst, ◌∙◌, arith, ℤ, pos, ◌*ℤ◌, ints, length-map, IsIn, AreDistinct, IsAbove, IsAscending, Net, IsNetwork, reaction_vector, entry, dot, column, IsZero, combination_at, IsIndependent, IsChoice, IsRank, chosen, vectors, IsDeficiency, above_in, ascending_tail, distinct_of_map, in_map, inside_at, lt_or, map_distinct, pair, past_end, place_of, same_place, vector_at, vector_width, taken, taken_in, taken_vectors, zero_more, IsRenumbered}
 use Rattle.crn_laws.proofs.SharedWalks.{classes_anew}
 use Rattle.crn_laws.proofs.Renumberings.{entries_same, reacts_anew, turned_net}
 use Rattle.crn_laws.proofs.Totals.{same_count}

@@ -1,21 +1,5 @@
 -- Signals do not depend on the numbering.
-use Rattle.std.proofs.Common.{◌≡◌, ℕ, ◌<◌, List, [], length, map, refl, sym, ap, subst, ◌∙◌, arith}
-use Rattle.std.specs.Prelude.{ℤ, ◌-ℤ◌, Option, Some, None}
-use Rattle.std.specs.List.{range_with_len}
-use Rattle.std.proofs.lemmas.List.{get_or-map, length-map}
-use Rattle.std.proofs.lemmas.List.FromFn.{length-range_with_len}
-use Rattle.crn_vec.specs.declared.signs.Sign.{Sign}
-use Rattle.crn_vec.specs.declared.signs.Sign.TheVariants.{Zero}
-use Rattle.crn_vec.specs.Network.{Net, IsNetwork}
-use Rattle.crn_vec.specs.Strong.{SameStrong, IsTerminal}
-use Rattle.crn_vec.specs.CutPairs.{IsCutPair, IsFreeStep, IsOnSide}
-use Rattle.crn_vec.specs.Vectors.{dot, entry, HasSign}
-use Rattle.crn_vec.specs.Deficiency.{IsComplex}
-use Rattle.crn_vec.specs.Concordance.{sign}
-use Rattle.crn_vec.specs.Signals.{HasPairSign, shelf_at, shelf_of}
-use Rattle.crn_vec.specs.NetSignals.{AreTops, complex_of, top_at}
-use Rattle.crn_vec.proofs.CallerLemmas.{some_is, top_inside, vector_long, zip_at, zip_from}
-use Rattle.crn_laws.specs.Renumbered.{HasSignal, IsMoved, IsRenumbered, IsVectorAnew, RenumberedShareSignals}
+use Rattle.crn_laws.proofs.Prelude.{◌≡◌, ℕ, ◌<◌, List, [], length, map, refl, sym, ap, subst, ◌∙◌, arith, ℤ, ◌-ℤ◌, Option, Some, None, range_with_len, get_or-map, length-map, length-range_with_len, Sign, Zero, Net, IsNetwork, SameStrong, IsTerminal, IsCutPair, IsFreeStep, IsOnSide, dot, entry, HasSign, IsComplex, sign, HasPairSign, shelf_at, shelf_of, AreTops, complex_of, top_at, some_is, top_inside, vector_long, zip_at, zip_from, HasSignal, IsMoved, IsRenumbered, IsVectorAnew, RenumberedShareSignals}
 use Rattle.crn_laws.proofs.FirstNumbers.{Numbered, first_numbers, place_in}
 use Rattle.crn_laws.proofs.Renumberings.{anew, entry_back, moved_anew, turned_net}
 use Rattle.crn_laws.proofs.SharedClasses.{between_anew, cut_anew, linked_inside, terminal_anew}

@@ -1,14 +1,5 @@
 -- Walks, linkage classes and reversibility do not depend on the numbering.
-use Rattle.std.proofs.Common.{ℕ, ◌<◌, inl, inr, List, [], ◌∷◌, length, map, refl, sym, ap, subst, ◌∙◌}
-use Rattle.std.proofs.lemmas.List.{length-map}
-use Rattle.crn_vec.specs.Lists.{IsIn}
-use Rattle.crn_vec.specs.Network.{Net, IsNetwork}
-use Rattle.crn_vec.specs.Walks.{IsAlong, LeadsTo, AreApart, IsNumberOf}
-use Rattle.crn_vec.specs.Linkage.{IsLinked, SameClass}
-use Rattle.crn_vec.specs.Strong.{ReactsTo, Reaches, SameStrong, IsReversible, IsWeaklyReversible, StaysStrong}
-use Rattle.crn_vec.specs.Deficiency.{IsComplex}
-use Rattle.crn_vec.proofs.CallerLemmas.{in_map, inside_at, map_in, weakly_reversible_by_reactions}
-use Rattle.crn_laws.specs.Renumbered.{IsRenumbered}
+use Rattle.crn_laws.proofs.Prelude.{ℕ, ◌<◌, inl, inr, List, [], ◌∷◌, length, map, refl, sym, ap, subst, ◌∙◌, length-map, IsIn, Net, IsNetwork, IsAlong, LeadsTo, AreApart, IsNumberOf, IsLinked, SameClass, ReactsTo, Reaches, SameStrong, IsReversible, IsWeaklyReversible, StaysStrong, IsComplex, in_map, inside_at, map_in, weakly_reversible_by_reactions, IsRenumbered}
 use Rattle.crn_laws.proofs.Renumberings.{reacts_anew, turned_net}
 
 along_anew : (S T : ℕ → ℕ → Type 0) (f : ℕ → ℕ) → ((y z : ℕ) → S y z → T (f y) (f z)) → (y z : ℕ) (steps : List ℕ) → IsAlong S y steps z → IsAlong T (f y) (map f steps) (f z)

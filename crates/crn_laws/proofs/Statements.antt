@@ -1,17 +1,5 @@
 -- Texts with the same statements in another order spell the same network in another order.
-use Rattle.std.proofs.Common.{◌≡◌, ℕ, ◌<◌, ◌≤◌, inl, inr, List, [], ◌∷◌, length, get_or, map, refl, sym, ap, ap₂, subst, ◌∙◌, arith}
-use Rattle.std.specs.Prelude.{ℤ, pos}
-use Rattle.std.specs.List.{flat_map}
-use Rattle.std.specs.Str.{bytes_eq}
-use Rattle.std.proofs.lemmas.Int.{ints}
-use Rattle.std.proofs.lemmas.List.{ext_get_or, get_or-map}
-use Rattle.crn_vec.specs.Lists.{IsIn, firsts}
-use Rattle.crn_vec.specs.Network.{Holds, Net, IsNetwork, Statement, amount_at, amount_in, amounts_in, ends, names_in, said_by, sides_eq, sides_of}
-use Rattle.crn_vec.proofs.CallerLemmas.{at_in, firsts_from, firsts_has, has_name, in_at, in_flat_map, in_left, in_map, in_right, inside_at, map_in, name_decides, none_said, pair, place_of, same_place, sides_decide, vector_long}
-use Rattle.crn_text.specs.Sides.{all_statements}
-use Rattle.crn_text.specs.Spells.{Spells}
-use Rattle.crn_text.specs.Tokens.{lines}
-use Rattle.crn_laws.specs.Renumbered.{AreAlike, IsRenumbered, StatementsInAnyOrder}
+use Rattle.crn_laws.proofs.Prelude.{◌≡◌, ℕ, ◌<◌, ◌≤◌, inl, inr, List, [], ◌∷◌, length, get_or, map, refl, sym, ap, ap₂, subst, ◌∙◌, arith, ℤ, pos, flat_map, bytes_eq, ints, ext_get_or, get_or-map, IsIn, firsts, Holds, Net, IsNetwork, Statement, amount_at, amount_in, amounts_in, ends, names_in, said_by, sides_eq, sides_of, at_in, firsts_from, firsts_has, has_name, in_at, in_flat_map, in_left, in_map, in_right, inside_at, map_in, name_decides, none_said, pair, place_of, same_place, sides_decide, vector_long, all_statements, Spells, lines, AreAlike, IsRenumbered, StatementsInAnyOrder}
 use Rattle.crn_laws.proofs.Renumberings.{end_at, ends_inside, matching, reaction_here}
 
 -- ---- what the statements say

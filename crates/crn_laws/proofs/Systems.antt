@@ -1,16 +1,5 @@
 -- The rows of each system of a network have an entry for each column.
-use Rattle.std.proofs.Common.{◌≡◌, ℕ, ◌+◌, ◌<◌, ◌==◌, inl, inr, List, [], ◌∷◌, ◌++◌, length, get_or, map, refl, ◌∙◌, arith, length-append}
-use Rattle.std.specs.Prelude.{ℤ, pos, negsuc}
-use Rattle.std.specs.List.{range_with_len}
-use Rattle.crn_vec.specs.Lists.{IsIn}
-use Rattle.crn_vec.specs.Network.{Net, minus, reaction_vector}
-use Rattle.crn_vec.specs.Vectors.{AreOfLength, column}
-use Rattle.crn_vec.specs.Sums.{label_marks}
-use Rattle.crn_vec.specs.Deficiency.{vectors, class_reactions}
-use Rattle.crn_vec.specs.NetSystems.{by_species}
-use Rattle.crn_vec.specs.Signals.{Shape, IsShape, complex_at, complex_row, pair_row, shelf_matrix}
-use Rattle.crn_vec.proofs.CallerLemmas.{all_at, all_in, filter_from, length-column, length-label_marks, length-minus, reaction_long, vectors_count}
-use Rattle.crn_laws.specs.Systems.{HasFullRows, NetworksHaveFullRows}
+use Rattle.crn_laws.proofs.Prelude.{◌≡◌, ℕ, ◌+◌, ◌<◌, ◌==◌, inl, inr, List, [], ◌∷◌, ◌++◌, length, get_or, map, refl, ◌∙◌, arith, length-append, ℤ, pos, negsuc, range_with_len, IsIn, Net, minus, reaction_vector, AreOfLength, column, label_marks, vectors, class_reactions, by_species, Shape, IsShape, complex_at, complex_row, pair_row, shelf_matrix, all_at, all_in, filter_from, length-column, length-label_marks, length-minus, reaction_long, vectors_count, HasFullRows, NetworksHaveFullRows}
 
 full : (n : ℕ) (rows : List (List ℤ)) → ((row : List ℤ) → IsIn row rows → length row ≡ n) → AreOfLength n rows
 full n [] h = tt

@@ -1,10 +1,5 @@
 -- Sums over the numbers below a bound do not depend on their order.
-use Rattle.std.proofs.Common.{◌≡◌, ◌≢◌, ℕ, zero, suc, ◌<◌, inl, inr, List, [], ◌∷◌, length, refl, sym, ap, ◌∙◌, arith}
-use Rattle.std.specs.Prelude.{ℤ, pos, ◌+ℤ◌, ◌*ℤ◌}
-use Rattle.std.proofs.lemmas.Int.{ints}
-use Rattle.crn_vec.specs.Vectors.{entry, dot}
-use Rattle.crn_vec.proofs.CallerLemmas.{eq_or}
-use Rattle.crn_laws.specs.Renumbered.{IsMoved, Renumbering}
+use Rattle.crn_laws.proofs.Prelude.{◌≡◌, ◌≢◌, ℕ, zero, suc, ◌<◌, inl, inr, List, [], ◌∷◌, length, refl, sym, ap, ◌∙◌, arith, ℤ, pos, ◌+ℤ◌, ◌*ℤ◌, ints, entry, dot, eq_or, IsMoved, Renumbering}
 
 -- f 0 + f 1 + .. , n terms
 abbrev pub total : ℕ → (ℕ → ℤ) → ℤ

@@ -1,24 +1,5 @@
 -- What adding a reaction to the tables means for the network that they hold.
-use Rattle.std.proofs.Common.{◌≡◌, ℕ, ◌<◌, ◌≤◌, true, false, cond, List, [], ◌∷◌, ◌++◌, length, take, map, refl, sym, ap, subst, ◌∙◌, inl, inr, arith, Ok, Err, Result}
-use Rattle.std.specs.Prelude.{ℤ}
-use Rattle.std.specs.Result.{is_err, OnErr}
-use Rattle.std.specs.Str.{bytes_eq}
-use Rattle.std.specs.Ordering.{int_eq}
-use Rattle.std.specs.Cmp.Lexicographic.{pointwise}
-use Rattle.std.proofs.lemmas.Slice.Eq.{bytes_eq-Decides}
-use Rattle.std.proofs.lemmas.List.{length-map, length_push}
-use Rattle.std.proofs.lemmas.List.Sums.{sum_by-cons}
-use Rattle.crn_vec.specs.Lists.{IsIn, firsts}
-use Rattle.crn_vec.specs.Network.{Net, IsPartialNetwork, IsName, sides_of, sides_eq, amount_in, amounts_in, said_by, names_in, Statement}
-use Rattle.crn_vec.specs.declared.limits.TheConstants.{MAX_SPECIES, MAX_COMPLEXES, MAX_REACTIONS}
-use Rattle.crn_net.specs.declared.fault.NetFault.{NetFault}
-use Rattle.crn_net.specs.declared.fault.NetFault.TheVariants.{SelfReaction, TooManySpecies, TooManyComplexes, TooManyReactions, NoReaction, NoMemory}
-use Rattle.crn_net.specs.declared.term.Term.{Term}
-use Rattle.crn_net.specs.Terms.{name_at, side_of, statement_of, IsTerm, IsSide}
-use Rattle.crn_net.specs.Views.{net_of, AreRows}
-use Rattle.crn_net.specs.Grows.{with_zeros, both_with_zeros, names_with, complexes_with, reactions_with, IsSelf, Grows, AddGives}
-use Rattle.crn_net.specs.Inner.Steps.{SaysSame, Built, IsOver, BuildGives}
-use Rattle.crn_vec.proofs.CallerLemmas.{all_in, amounts_same}
+use Rattle.crn_net.proofs.Prelude.{◌≡◌, ℕ, ◌<◌, ◌≤◌, true, false, cond, List, [], ◌∷◌, ◌++◌, length, take, map, refl, sym, ap, subst, ◌∙◌, inl, inr, arith, Ok, Err, Result, ℤ, is_err, OnErr, bytes_eq, int_eq, pointwise, bytes_eq-Decides, length-map, length_push, sum_by-cons, IsIn, firsts, Net, IsPartialNetwork, IsName, sides_of, sides_eq, amount_in, amounts_in, said_by, names_in, Statement, MAX_SPECIES, MAX_COMPLEXES, MAX_REACTIONS, NetFault, SelfReaction, TooManySpecies, TooManyComplexes, TooManyReactions, NoReaction, NoMemory, Term, name_at, side_of, statement_of, IsTerm, IsSide, net_of, AreRows, with_zeros, both_with_zeros, names_with, complexes_with, reactions_with, IsSelf, Grows, AddGives, SaysSame, Built, IsOver, BuildGives, all_in, amounts_same}
 use Rattle.crn_net.proofs.Amounts.{of_name}
 use Rattle.crn_net.proofs.Building.{amounts_say}
 use Rattle.crn_net.proofs.Growth.{Ready, complexes_are, reactions_are, left_over_limit, right_over_limit}

@@ -1,16 +1,6 @@
 -- Sums of numbers by buckets of names.
-use Rattle.std.proofs.Common.{◌≡◌, ℕ, ◌+◌, ◌*◌, ◌%◌, ◌^◌, ◌<◌, ◌≤◌, ◌==◌, true, cond, List, [], ◌∷◌, ◌++◌, length, get_or, take, refl, ap, ◌∙◌, inl, inr, arith}
-use Rattle.std.specs.Str.{bytes_eq}
-use Rattle.std.proofs.lemmas.Bool.{cases_Bool, eq-eqb}
-use Rattle.std.proofs.lemmas.List.{take_more}
-use Rattle.std.proofs.lemmas.List.Sums.{sum_by-le-sum_by}
-use Rattle.std.proofs.lemmas.Slice.Eq.{bytes_eq-Decides}
+use Rattle.crn_net.proofs.Prelude.{◌≡◌, ℕ, ◌+◌, ◌*◌, ◌%◌, ◌^◌, ◌<◌, ◌≤◌, ◌==◌, true, cond, List, [], ◌∷◌, ◌++◌, length, get_or, take, refl, ap, ◌∙◌, inl, inr, arith, bytes_eq, cases_Bool, eq-eqb, take_more, sum_by-le-sum_by, bytes_eq-Decides, amount_in, MAX_AMOUNT, Term, name_at, side_of, mark_after, mark, in_bucket, AreBucketSums}
 use native.Mathlib.Nat.{mod-lt}
-use Rattle.crn_vec.specs.Network.{amount_in}
-use Rattle.crn_vec.specs.declared.limits.TheConstants.{MAX_AMOUNT}
-use Rattle.crn_net.specs.declared.term.Term.{Term}
-use Rattle.crn_net.specs.Terms.{name_at, side_of}
-use Rattle.crn_net.specs.Inner.BucketSums.{mark_after, mark, in_bucket, AreBucketSums}
 use Rattle.crn_net.proofs.Members.{amount_is}
 
 -- ---- marks

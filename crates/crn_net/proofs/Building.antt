@@ -1,16 +1,5 @@
 -- The results of the steps of adding a reaction.
-use Rattle.std.proofs.Common.{◌≡◌, ◌⊎◌, ℕ, ◌≤◌, List, [], ◌++◌, length, get_or, take, map, sym, ap, subst, ◌∙◌, inl, inr, arith, Ok, Err, Result}
-use Rattle.std.specs.Prelude.{ℤ, pos}
-use Rattle.std.specs.Str.{bytes_eq}
-use Rattle.std.proofs.lemmas.Slice.Eq.{bytes_eq-Decides}
-use Rattle.std.proofs.lemmas.List.{get_or-map, length-take}
-use Rattle.crn_vec.specs.Lists.{IsIn, AreDistinct, firsts}
-use Rattle.crn_vec.specs.Network.{amount_in, amounts_in, names_in, Statement}
-use Rattle.crn_vec.specs.declared.limits.TheConstants.{MAX_SPECIES}
-use Rattle.crn_net.specs.declared.fault.NetFault.{NetFault}
-use Rattle.crn_net.specs.declared.fault.NetFault.TheVariants.{SelfReaction, TooManySpecies, TooManyComplexes, TooManyReactions, NoReaction, NoMemory}
-use Rattle.crn_net.specs.Inner.Steps.{SaysSame, Puts, NotesSide, AreNoted, NotesBoth, TellsApart, NotesSides, NotesRow, NotesReaction, PutsBoth, LeftIsOver, RightIsOver, BuildGives}
-use Rattle.crn_vec.proofs.CallerLemmas.{in_left, in_right, in_at, firsts_distinct, firsts_has, any_is, name_decides, none_said, amounts_same}
+use Rattle.crn_net.proofs.Prelude.{◌≡◌, ◌⊎◌, ℕ, ◌≤◌, List, [], ◌++◌, length, get_or, take, map, sym, ap, subst, ◌∙◌, inl, inr, arith, Ok, Err, Result, ℤ, pos, bytes_eq, bytes_eq-Decides, get_or-map, length-take, IsIn, AreDistinct, firsts, amount_in, amounts_in, names_in, Statement, MAX_SPECIES, NetFault, SelfReaction, TooManySpecies, TooManyComplexes, TooManyReactions, NoReaction, NoMemory, SaysSame, Puts, NotesSide, AreNoted, NotesBoth, TellsApart, NotesSides, NotesRow, NotesReaction, PutsBoth, LeftIsOver, RightIsOver, BuildGives, in_left, in_right, in_at, firsts_distinct, firsts_has, any_is, name_decides, none_said, amounts_same}
 use Rattle.crn_net.proofs.Names.{names_both, left_over}
 use Rattle.crn_net.proofs.Rows.{row_ext}
 use Rattle.crn_net.proofs.Counting.{counted_is, is_counted, counted_wider}

@@ -1,20 +1,5 @@
 -- The row of a side, counted term by term while its names are added.
-use Rattle.std.proofs.Common.{◌≡◌, ◌≢◌, ℕ, ◌<◌, ◌≤◌, ◌+◌, false, List, [], ◌∷◌, ◌++◌, length, get_or, take, map, replicate, set, refl, sym, ap, subst, ◌∙◌, inl, inr, arith, Ok, Err}
-use Rattle.std.specs.Prelude.{ℤ, pos, ◌+ℤ◌, ◌≤ℤ◌}
-use Rattle.std.specs.Str.{bytes_eq}
-use Rattle.std.proofs.lemmas.Bool.{cases_lt, cases_eq, cases_Bool}
-use Rattle.std.proofs.lemmas.Int.{ints}
-use Rattle.std.proofs.lemmas.Slice.Eq.{bytes_eq-Decides}
-use Rattle.std.proofs.lemmas.List.{length-set, get_or-set_same, get_or-set_other, get_or-take, get_or-map, length-map, length-take-le, length-replicate, length_push, ext_get_or, take_all}
-use Rattle.crn_vec.specs.Lists.{IsIn, AreDistinct, firsts}
-use Rattle.crn_vec.specs.Network.{IsAmount, amount_in, amounts_in}
-use Rattle.crn_vec.specs.declared.limits.TheConstants.{MAX_SPECIES, MAX_AMOUNT}
-use Rattle.crn_net.specs.declared.fault.NetFault.{NetFault}
-use Rattle.crn_net.specs.declared.fault.NetFault.TheVariants.{SelfReaction, TooManySpecies, TooManyComplexes, TooManyReactions, NoReaction, NoMemory}
-use Rattle.crn_net.specs.declared.term.Term.{Term}
-use Rattle.crn_net.specs.Terms.{name_at, side_of}
-use Rattle.crn_net.specs.Inner.Steps.{NotesName, NotesSide, IsRowFor}
-use Rattle.crn_vec.proofs.CallerLemmas.{in_at, in_right, same_place, distinct_push, firsts_has, none_said, entry_of_zeros}
+use Rattle.crn_net.proofs.Prelude.{◌≡◌, ◌≢◌, ℕ, ◌<◌, ◌≤◌, ◌+◌, false, List, [], ◌∷◌, ◌++◌, length, get_or, take, map, replicate, set, refl, sym, ap, subst, ◌∙◌, inl, inr, arith, Ok, Err, ℤ, pos, ◌+ℤ◌, ◌≤ℤ◌, bytes_eq, cases_lt, cases_eq, cases_Bool, ints, bytes_eq-Decides, length-set, get_or-set_same, get_or-set_other, get_or-take, get_or-map, length-map, length-take-le, length-replicate, length_push, ext_get_or, take_all, IsIn, AreDistinct, firsts, IsAmount, amount_in, amounts_in, MAX_SPECIES, MAX_AMOUNT, NetFault, SelfReaction, TooManySpecies, TooManyComplexes, TooManyReactions, NoReaction, NoMemory, Term, name_at, side_of, NotesName, NotesSide, IsRowFor, in_at, in_right, same_place, distinct_push, firsts_has, none_said, entry_of_zeros}
 use Rattle.crn_net.proofs.Amounts.{amount_yes, amount_no}
 use Rattle.crn_net.proofs.Members.{amount_part}
 use Rattle.crn_net.proofs.Names.{no_more, names_known, names_new, names_over, names_of_side, kept_push, kept_all}

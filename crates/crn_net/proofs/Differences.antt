@@ -1,14 +1,5 @@
 -- Differences of vectors, place by place.
-use Rattle.std.proofs.Common.{◌≡◌, ℕ, zero, suc, ◌<◌, ◌+◌, List, [], ◌∷◌, ◌++◌, length, get_or, take, map, refl, sym, ap, ap₂, subst, ◌∙◌, add-one, arith}
-use Rattle.std.specs.Prelude.{ℤ, ◌-ℤ◌}
-use Rattle.std.specs.List.{AllByRecursion}
-use Rattle.std.proofs.lemmas.Int.{ints}
-use Rattle.std.proofs.lemmas.List.{get_or-map, length-map, map_more, take_all}
-use Rattle.crn_vec.specs.Network.{Net, IsPartialNetwork, IsNetwork, IsAmount, IsVector, JoinsTwo, minus, reaction_vector}
-use Rattle.crn_vec.specs.Vectors.{AreWithin}
-use Rattle.crn_vec.specs.declared.limits.TheConstants.{MAX_SPECIES, MAX_AMOUNT}
-use Rattle.crn_net.specs.Views.{net_of, vectors_of, IsRow, AreRows}
-use Rattle.crn_vec.proofs.CallerLemmas.{all_in, all_at, all_from, map_in, map_same, map_twice}
+use Rattle.crn_net.proofs.Prelude.{◌≡◌, ℕ, zero, suc, ◌<◌, ◌+◌, List, [], ◌∷◌, ◌++◌, length, get_or, take, map, refl, sym, ap, ap₂, subst, ◌∙◌, add-one, arith, ℤ, ◌-ℤ◌, AllByRecursion, ints, get_or-map, length-map, map_more, take_all, Net, IsPartialNetwork, IsNetwork, IsAmount, IsVector, JoinsTwo, minus, reaction_vector, AreWithin, MAX_SPECIES, MAX_AMOUNT, net_of, vectors_of, IsRow, AreRows, all_in, all_at, all_from, map_in, map_same, map_twice}
 use Rattle.crn_net.proofs.Rows.{row_with_zeros}
 use Rattle.crn_net.proofs.Whole.{amounts_with_zeros}
 

@@ -1,21 +1,5 @@
 -- A statement within the limits makes a network grow: the tables that adding it would make exist.
-use Rattle.std.proofs.Common.{◌≡◌, ◌⊎◌, ℕ, ◌-◌, ◌<◌, ◌≤◌, ◌==◌, ◌&&◌, List, [], ◌∷◌, ◌++◌, Err, length, take, get_or, map, replicate, refl, sym, ap, subst, ◌∙◌, inl, inr, arith}
-use Rattle.std.specs.Prelude.{ℤ, pos}
-use Rattle.std.specs.List.{AllByRecursion}
-use Rattle.std.specs.Str.{bytes_eq}
-use Rattle.std.specs.Ordering.{int_eq}
-use Rattle.std.specs.Cmp.Lexicographic.{pointwise}
-use Rattle.std.proofs.lemmas.Bool.{cases_lt}
-use Rattle.std.proofs.lemmas.List.{length-append, length-map, length_push, length-replicate, get_or-append_right}
-use Rattle.std.proofs.Math.Seq.{take-append_seam, get_or-append_seam}
-use Rattle.crn_vec.specs.Lists.{IsIn, firsts}
-use Rattle.crn_vec.specs.Network.{Net, IsPartialNetwork, IsVector, Statement, amounts_in, amount_in, names_in}
-use Rattle.crn_vec.specs.declared.limits.TheConstants.{MAX_SPECIES, MAX_COMPLEXES, MAX_REACTIONS}
-use Rattle.crn_vec.proofs.CallerLemmas.{in_at, any_is, row_decides, reaction_decides, map_twice, map_same, all_in, entry_of_zeros}
-use Rattle.crn_net.specs.Grows.{Grows, AddGives, IsSelf, with_zeros, names_with, complexes_with, reactions_with}
-use Rattle.crn_net.specs.Views.{net_of, IsRow, AreRows}
-use Rattle.crn_net.specs.Inner.Steps.{SaysSame, Puts, IsRowFor, PutsBoth, Built, IsOver}
-use Rattle.crn_net.specs.declared.fault.NetFault.TheVariants.{TooManyReactions}
+use Rattle.crn_net.proofs.Prelude.{◌≡◌, ◌⊎◌, ℕ, ◌-◌, ◌<◌, ◌≤◌, ◌==◌, ◌&&◌, List, [], ◌∷◌, ◌++◌, Err, length, take, get_or, map, replicate, refl, sym, ap, subst, ◌∙◌, inl, inr, arith, ℤ, pos, AllByRecursion, bytes_eq, int_eq, pointwise, cases_lt, length-append, length-map, length_push, length-replicate, get_or-append_right, take-append_seam, get_or-append_seam, IsIn, firsts, Net, IsPartialNetwork, IsVector, Statement, amounts_in, amount_in, names_in, MAX_SPECIES, MAX_COMPLEXES, MAX_REACTIONS, in_at, any_is, row_decides, reaction_decides, map_twice, map_same, all_in, entry_of_zeros, Grows, AddGives, IsSelf, with_zeros, names_with, complexes_with, reactions_with, net_of, IsRow, AreRows, SaysSame, Puts, IsRowFor, PutsBoth, Built, IsOver, TooManyReactions}
 use Rattle.crn_net.proofs.Adding.{built_grows, build_stops, says_self}
 use Rattle.crn_net.proofs.Growth.{Ready, Wider, left_over_limit, right_over_limit}
 use Rattle.crn_net.proofs.Species.{IsSaid, wider_names}

@@ -1,14 +1,5 @@
 -- A network that statements make, one after another, from nothing: its names, complexes and reactions.
-use Rattle.std.proofs.Common.{◌≡◌, ℕ, ◌-◌, List, [], ◌∷◌, ◌++◌, length, map, replicate, refl, sym, ap, ap₂, subst, ◌∙◌, append_assoc, inl, inr, arith}
-use Rattle.std.specs.Prelude.{ℤ, pos}
-use Rattle.std.specs.List.{flat_map}
-use Rattle.std.specs.Str.{bytes_eq}
-use Rattle.std.proofs.lemmas.Slice.Eq.{bytes_eq-Decides}
-use Rattle.std.proofs.lemmas.List.{append-nil, length-map, map-append, map_push, length-append}
-use Rattle.crn_vec.specs.Lists.{IsIn, AreDistinct, firsts}
-use Rattle.crn_vec.specs.Network.{Net, IsPartialNetwork, sides_of, sides_eq, said_by, names_in, amount_in, amounts_in, Statement}
-use Rattle.crn_net.specs.Grows.{with_zeros, both_with_zeros, names_with, reactions_with, Grows, GrownFrom, Grown, no_net}
-use Rattle.crn_vec.proofs.CallerLemmas.{in_left, in_right, in_map, map_same, map_twice, firsts_distinct, firsts_has, firsts_firsts, firsts_map, none_said, same_test, sides_decide, pair, in_flat_map, flat_map_push, append_same, apart_of}
+use Rattle.crn_net.proofs.Prelude.{◌≡◌, ℕ, ◌-◌, List, [], ◌∷◌, ◌++◌, length, map, replicate, refl, sym, ap, ap₂, subst, ◌∙◌, append_assoc, inl, inr, arith, ℤ, pos, flat_map, bytes_eq, bytes_eq-Decides, append-nil, length-map, map-append, map_push, length-append, IsIn, AreDistinct, firsts, Net, IsPartialNetwork, sides_of, sides_eq, said_by, names_in, amount_in, amounts_in, Statement, with_zeros, both_with_zeros, names_with, reactions_with, Grows, GrownFrom, Grown, no_net, in_left, in_right, in_map, map_same, map_twice, firsts_distinct, firsts_has, firsts_firsts, firsts_map, none_said, same_test, sides_decide, pair, in_flat_map, flat_map_push, append_same, apart_of}
 use Rattle.crn_net.proofs.Species.{names_begin}
 
 -- ---- one statement more

@@ -1,18 +1,5 @@
 -- The complexes and reactions with those of a statement, as amounts, are those of the tables.
-use Rattle.std.proofs.Common.{◌≡◌, ℕ, ◌<◌, ◌≤◌, ◌&&◌, ◌==◌, Bool, List, [], ◌∷◌, ◌++◌, length, get_or, take, map, refl, sym, ap, ap₂, ◌∙◌, append_assoc, inl, inr, arith}
-use Rattle.std.specs.Prelude.{ℤ}
-use Rattle.std.specs.Bool.{Decides}
-use Rattle.std.specs.Ordering.{int_eq}
-use Rattle.std.specs.Cmp.Lexicographic.{pointwise}
-use Rattle.std.specs.Cmp.Rules.{signed_items}
-use Rattle.std.proofs.lemmas.List.{length-map, map_push, get_or-map, length_push, get_or_default}
-use Rattle.crn_vec.specs.Lists.{IsIn, AreDistinct, firsts}
-use Rattle.crn_vec.specs.Network.{IsPartialNetwork, JoinsTwo, sides_of, sides_eq, amounts_in, said_by, Statement}
-use Rattle.crn_vec.specs.declared.limits.TheConstants.{MAX_SPECIES, MAX_COMPLEXES}
-use Rattle.crn_net.specs.Views.{net_of, vectors_of, IsRow, AreRows}
-use Rattle.crn_net.specs.Grows.{with_zeros, both_with_zeros}
-use Rattle.crn_net.specs.Inner.Steps.{Puts, IsRowFor, PutsBoth, LeftIsOver, RightIsOver}
-use Rattle.crn_vec.proofs.CallerLemmas.{map_same, map_distinct, all_in, all_push, at_in, same_place, in_push, firsts_map, firsts_firsts, firsts_length, reaction_decides, same_test, pair, distinct_of_map, sides_decide}
+use Rattle.crn_net.proofs.Prelude.{◌≡◌, ℕ, ◌<◌, ◌≤◌, ◌&&◌, ◌==◌, Bool, List, [], ◌∷◌, ◌++◌, length, get_or, take, map, refl, sym, ap, ap₂, ◌∙◌, append_assoc, inl, inr, arith, ℤ, Decides, int_eq, pointwise, signed_items, length-map, map_push, get_or-map, length_push, get_or_default, IsIn, AreDistinct, firsts, IsPartialNetwork, JoinsTwo, sides_of, sides_eq, amounts_in, said_by, Statement, MAX_SPECIES, MAX_COMPLEXES, net_of, vectors_of, IsRow, AreRows, with_zeros, both_with_zeros, Puts, IsRowFor, PutsBoth, LeftIsOver, RightIsOver, map_same, map_distinct, all_in, all_push, at_in, same_place, in_push, firsts_map, firsts_firsts, firsts_length, reaction_decides, same_test, pair, distinct_of_map, sides_decide}
 use Rattle.crn_net.proofs.Rows.{row_ext, row_wider, row_with_zeros, vectors_with_zeros, puts_distinct, puts_firsts, puts_all, puts_keeps, puts_longer}
 
 rows_wider : (n m : ℕ) (rows : List (List ℤ)) → n ≤ m → AreRows n rows → AreRows m rows

@@ -18,3 +18,4 @@ mod Merged
 mod Narrow
 mod BucketSums
 mod SameRows
+mod Prelude

@@ -1,22 +1,5 @@
 -- The amount of a name on a side, term by term, and whether a table has a member.
-use Rattle.std.proofs.Common.{◌≡◌, ℕ, ◌<◌, ◌≤◌, ◌+◌, true, cond, List, [], ◌∷◌, ◌++◌, length, get_or, take, refl, sym, ap, ◌∙◌, inl, inr, arith, Some, None, nat_lt}
-use Rattle.crn_vec.proofs.CallerLemmas.{any_is}
-use Rattle.std.specs.Prelude.{ℤ}
-use Rattle.std.specs.List.{position, position_or_len, sum_by}
-use Rattle.std.specs.Bool.{Decides}
-use Rattle.std.specs.Str.{bytes_eq}
-use Rattle.std.specs.Ordering.{int_eq}
-use Rattle.std.specs.Cmp.Lexicographic.{pointwise}
-use Rattle.std.specs.Cmp.Rules.{signed_items}
-use Rattle.std.proofs.lemmas.Bool.{cases_Bool}
-use Rattle.std.proofs.lemmas.Bool.Decides.{Decides-ltb}
-use Rattle.std.proofs.lemmas.List.Sums.{sum_by-cons, sum_by_more, sum_by-take-le}
-use Rattle.std.proofs.lemmas.List.Quantifiers.{position-Some}
-use Rattle.indexmap.specs.IndexSet.{insert_key}
-use Rattle.crn_vec.specs.Lists.{IsIn}
-use Rattle.crn_vec.specs.Network.{amount_in}
-use Rattle.crn_net.specs.declared.term.Term.{Term}
-use Rattle.crn_net.specs.Terms.{name_at, side_of}
+use Rattle.crn_net.proofs.Prelude.{◌≡◌, ℕ, ◌<◌, ◌≤◌, ◌+◌, true, cond, List, [], ◌∷◌, ◌++◌, length, get_or, take, refl, sym, ap, ◌∙◌, inl, inr, arith, Some, None, nat_lt, any_is, ℤ, position, position_or_len, sum_by, Decides, bytes_eq, int_eq, pointwise, signed_items, cases_Bool, Decides-ltb, sum_by-cons, sum_by_more, sum_by-take-le, position-Some, insert_key, IsIn, amount_in, Term, name_at, side_of}
 
 -- the test by which a set of rows looks for one
 pub row_sought : (row known : List ℤ) → Decides (pointwise int_eq row known) (known ≡ row)

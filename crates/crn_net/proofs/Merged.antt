@@ -1,17 +1,5 @@
 -- Sums of names over shares that are added to others of their names.
-use Rattle.std.proofs.Common.{◌≡◌, ℕ, zero, suc, ◌+◌, ◌<◌, true, false, List, [], ◌∷◌, ◌++◌, length, get_or, set, take, map, refl, sym, ap, ◌∙◌, append_assoc, inl, inr, arith}
-use Rattle.std.specs.Prelude.{ℤ, pos, negsuc, ◌+ℤ◌, ◌-ℤ◌}
-use Rattle.std.specs.List.{fold}
-use Rattle.std.specs.Str.{bytes_eq}
-use Rattle.std.proofs.lemmas.Bool.{cases_Bool}
-use Rattle.std.proofs.lemmas.Int.{ints}
-use Rattle.std.proofs.lemmas.List.{take_more, map_push}
-use Rattle.std.proofs.lemmas.List.Sums.{fold-append}
-use Rattle.crn_vec.specs.Network.{amount_in}
-use Rattle.crn_net.specs.Terms.{side_of}
-use Rattle.crn_net.specs.declared.side_sums.Share.{Share}
-use Rattle.crn_net.specs.declared.term.Term.{Term}
-use Rattle.crn_net.specs.Inner.Sums.{share_of, name_in, sum_in, no_share}
+use Rattle.crn_net.proofs.Prelude.{◌≡◌, ℕ, zero, suc, ◌+◌, ◌<◌, true, false, List, [], ◌∷◌, ◌++◌, length, get_or, set, take, map, refl, sym, ap, ◌∙◌, append_assoc, inl, inr, arith, ℤ, pos, negsuc, ◌+ℤ◌, ◌-ℤ◌, fold, bytes_eq, cases_Bool, ints, take_more, map_push, fold-append, amount_in, side_of, Share, Term, share_of, name_in, sum_in, no_share}
 use Rattle.crn_net.proofs.Sums.{added, left_added, right_added}
 
 -- ---- sums from another start

@@ -1,13 +1,5 @@
 -- The names of a table with the new names of a side.
-use Rattle.std.proofs.Common.{◌≡◌, ℕ, ◌<◌, ◌≤◌, ◌+◌, List, [], ◌∷◌, ◌++◌, length, get_or, take, drop, map, refl, sym, ap, subst, ◌∙◌, append_assoc, arith}
-use Rattle.std.specs.Str.{bytes_eq}
-use Rattle.std.proofs.lemmas.Slice.Eq.{bytes_eq-Decides}
-use Rattle.std.proofs.lemmas.List.{append-nil, map_more, map-append, take-append-drop, take-append-le, length-take, length_push, take_all}
-use Rattle.crn_vec.specs.Lists.{IsIn, AreDistinct, firsts}
-use Rattle.crn_net.specs.declared.term.Term.{Term}
-use Rattle.crn_net.specs.Terms.{name_at, side_of}
-use Rattle.crn_vec.specs.Network.{names_in, Statement}
-use Rattle.crn_vec.proofs.CallerLemmas.{firsts_has, firsts_from, firsts_known, firsts_new, firsts_length, firsts_all, firsts_firsts}
+use Rattle.crn_net.proofs.Prelude.{◌≡◌, ℕ, ◌<◌, ◌≤◌, ◌+◌, List, [], ◌∷◌, ◌++◌, length, get_or, take, drop, map, refl, sym, ap, subst, ◌∙◌, append_assoc, arith, bytes_eq, bytes_eq-Decides, append-nil, map_more, map-append, take-append-drop, take-append-le, length-take, length_push, take_all, IsIn, AreDistinct, firsts, Term, name_at, side_of, names_in, Statement, firsts_has, firsts_from, firsts_known, firsts_new, firsts_length, firsts_all, firsts_firsts}
 
 pub no_more : (old : List (List ℕ)) → AreDistinct old → old ≡ firsts bytes_eq (old ++ [])
 no_more old h = sym (ap (firsts bytes_eq) (append-nil old) ∙ firsts_all bytes_eq bytes_eq-Decides old h)

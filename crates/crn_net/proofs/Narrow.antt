@@ -1,11 +1,5 @@
 -- Amounts in bytes, seen as numbers with a sign.
-use Rattle.std.proofs.Common.{◌≡◌, ℕ, zero, suc, List, [], ◌∷◌, get_or, map, refl, ap, ◌∙◌, sym}
-use Rattle.std.specs.Prelude.{pos, nat_abs, nat_eq}
-use Rattle.std.specs.Ordering.{int_eq}
-use Rattle.std.specs.Cmp.Lexicographic.{pointwise}
-use Rattle.std.specs.Cmp.Rules.{signed_items}
-use Rattle.std.proofs.lemmas.Slice.Eq.{bytes_eq-Decides}
-use Rattle.crn_vec.proofs.CallerLemmas.{same_test, abs_back}
+use Rattle.crn_net.proofs.Prelude.{◌≡◌, ℕ, zero, suc, List, [], ◌∷◌, get_or, map, refl, ap, ◌∙◌, sym, pos, nat_abs, nat_eq, int_eq, pointwise, signed_items, bytes_eq-Decides, same_test, abs_back}
 
 -- bytes are equal if contracts see them as equal
 pub same_seen : (x y : List ℕ) → pointwise int_eq (map pos x) (map pos y) ≡ pointwise nat_eq x y

@@ -1,19 +1,5 @@
 -- The place of a name in a table, to which it may be added.
-use Rattle.std.proofs.Common.{◌≡◌, ◌⊎◌, ℕ, ◌<◌, ◌≤◌, true, List, [], ◌∷◌, ◌++◌, length, get_or, sym, ap, subst, ◌∙◌, inl, inr, arith, Some, slice_get, Ok, Err}
-use Rattle.std.specs.Bool.{Decides}
-use Rattle.std.specs.List.{position_or_len}
-use Rattle.std.specs.Str.{bytes_eq}
-use Rattle.std.proofs.lemmas.Bool.{cases_Bool}
-use Rattle.std.proofs.lemmas.Option.{get_or_from_slice_get}
-use Rattle.std.proofs.lemmas.Slice.Eq.{bytes_eq-Decides}
-use Rattle.std.proofs.lemmas.List.{length_push}
-use Rattle.std.proofs.lemmas.List.Sums.{position_or_len_is}
-use Rattle.indexmap.specs.IndexSet.{insert_key}
-use Rattle.crn_vec.specs.Lists.{IsIn}
-use Rattle.crn_vec.specs.declared.limits.TheConstants.{MAX_SPECIES}
-use Rattle.crn_net.specs.declared.fault.NetFault.TheVariants.{TooManySpecies}
-use Rattle.crn_net.specs.Inner.Steps.{NotesName}
-use Rattle.crn_vec.proofs.CallerLemmas.{at_in, any_is}
+use Rattle.crn_net.proofs.Prelude.{◌≡◌, ◌⊎◌, ℕ, ◌<◌, ◌≤◌, true, List, [], ◌∷◌, ◌++◌, length, get_or, sym, ap, subst, ◌∙◌, inl, inr, arith, Some, slice_get, Ok, Err, Decides, position_or_len, bytes_eq, cases_Bool, get_or_from_slice_get, bytes_eq-Decides, length_push, position_or_len_is, insert_key, IsIn, MAX_SPECIES, TooManySpecies, NotesName, at_in, any_is}
 
 decides : (name known : List ℕ) → Decides (bytes_eq name known) (known ≡ name)
 decides name known = (λ h. sym ((bytes_eq-Decides name known).0 h), λ e. (bytes_eq-Decides name known).1 (sym e))

@@ -1,16 +1,5 @@
 -- Rows of amounts, which end in zeros, and tables with a member put in.
-use Rattle.std.proofs.Common.{◌≡◌, ◌⊎◌, ℕ, ◌<◌, ◌≤◌, ◌+◌, ◌-◌, Bool, List, [], ◌∷◌, ◌++◌, length, get_or, take, map, replicate, sym, ap, subst, ◌∙◌, inl, inr, arith}
-use Rattle.std.specs.Prelude.{ℤ, pos}
-use Rattle.std.specs.Bool.{Decides}
-use Rattle.std.specs.List.{AllByRecursion}
-use Rattle.std.proofs.lemmas.Bool.{cases_lt}
-use Rattle.std.proofs.lemmas.List.{length-replicate, ext_get_or, get_or-take, length-take-le, length-append, get_or_append_left, get_or-append_right, length_push}
-use Rattle.crn_vec.specs.Lists.{IsIn, AreDistinct, firsts}
-use Rattle.crn_vec.specs.declared.limits.TheConstants.{MAX_SPECIES}
-use Rattle.crn_net.specs.Views.{vectors_of, IsRow, AreRows}
-use Rattle.crn_net.specs.Grows.{with_zeros}
-use Rattle.crn_net.specs.Inner.Steps.{Puts}
-use Rattle.crn_vec.proofs.CallerLemmas.{map_twice, map_same, all_in, all_push, at_in, distinct_push, firsts_known, firsts_new, firsts_all, entry_of_zeros}
+use Rattle.crn_net.proofs.Prelude.{◌≡◌, ◌⊎◌, ℕ, ◌<◌, ◌≤◌, ◌+◌, ◌-◌, Bool, List, [], ◌∷◌, ◌++◌, length, get_or, take, map, replicate, sym, ap, subst, ◌∙◌, inl, inr, arith, ℤ, pos, Decides, AllByRecursion, cases_lt, length-replicate, ext_get_or, get_or-take, length-take-le, length-append, get_or_append_left, get_or-append_right, length_push, IsIn, AreDistinct, firsts, MAX_SPECIES, vectors_of, IsRow, AreRows, with_zeros, Puts, map_twice, map_same, all_in, all_push, at_in, distinct_push, firsts_known, firsts_new, firsts_all, entry_of_zeros}
 
 -- ---- rows as vectors
 

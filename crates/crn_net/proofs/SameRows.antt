@@ -1,7 +1,6 @@
 -- Lists that are compared place by place.
-use Rattle.std.proofs.Common.{◌≡◌, ◌++◌, ◌∷◌, [], ◌∙◌, ℕ, List, length, refl, ap, arith}
-use Rattle.std.specs.Prelude.{Bool, true, false, ◌&&◌, nat_eq}
-use Rattle.std.specs.Cmp.Lexicographic.{pointwise}
+use Rattle.crn_net.proofs.Prelude.{◌≡◌, ◌++◌, ◌∷◌, [], ◌∙◌, ℕ, List, length, refl, ap, arith, nat_eq, pointwise}
+use Rattle.std.specs.Prelude.{Bool, true, false, ◌&&◌}
 
 and_true : (b : Bool) → b ≡ (b && true)
 and_true true = refl

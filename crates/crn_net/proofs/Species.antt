@@ -1,18 +1,5 @@
 -- One step of the builder over plain tables: what it makes is a network as far as it is built.
-use Rattle.std.proofs.Common.{◌≡◌, ◌⊎◌, ℕ, ◌<◌, ◌≤◌, ◌+◌, List, [], ◌++◌, length, get_or, take, map, refl, sym, ap, subst, ◌∙◌, append_assoc, inl, inr, arith}
-use Rattle.std.specs.Prelude.{ℤ, pos, ◌≤ℤ◌}
-use Rattle.std.specs.List.{AllByRecursion}
-use Rattle.std.specs.Str.{bytes_eq}
-use Rattle.std.proofs.lemmas.Slice.Eq.{bytes_eq-Decides}
-use Rattle.std.proofs.lemmas.Bool.{cases_lt}
-use Rattle.std.proofs.lemmas.Int.{ints}
-use Rattle.std.proofs.lemmas.List.{length-map, get_or-map, length-append, get_or-take, get_or_append_left}
-use Rattle.crn_vec.specs.Lists.{IsIn, AreDistinct, firsts}
-use Rattle.crn_vec.specs.Network.{Net, IsPartialNetwork, IsName, IsAmount, IsVector, JoinsTwo, Holds, IsHeldBefore, ends, amount_at, amount_in, amounts_in, names_in, Statement}
-use Rattle.crn_vec.specs.declared.limits.TheConstants.{MAX_SPECIES, MAX_REACTIONS, MAX_AMOUNT}
-use Rattle.crn_net.specs.Views.{net_of, vectors_of, IsRow, AreRows}
-use Rattle.crn_net.specs.Inner.Steps.{Puts, PutsBoth, IsRowFor}
-use Rattle.crn_vec.proofs.CallerLemmas.{in_right, in_cases, in_at, at_in, map_in, all_in, all_from, all_map, same_place, firsts_distinct, firsts_from, firsts_has, firsts_prefix, firsts_all, has_name, none_said, appears_in_order, in_order_appears, ends_below, positive_some}
+use Rattle.crn_net.proofs.Prelude.{◌≡◌, ◌⊎◌, ℕ, ◌<◌, ◌≤◌, ◌+◌, List, [], ◌++◌, length, get_or, take, map, refl, sym, ap, subst, ◌∙◌, append_assoc, inl, inr, arith, ℤ, pos, ◌≤ℤ◌, AllByRecursion, bytes_eq, bytes_eq-Decides, cases_lt, ints, length-map, get_or-map, length-append, get_or-take, get_or_append_left, IsIn, AreDistinct, firsts, Net, IsPartialNetwork, IsName, IsAmount, IsVector, JoinsTwo, Holds, IsHeldBefore, ends, amount_at, amount_in, amounts_in, names_in, Statement, MAX_SPECIES, MAX_REACTIONS, MAX_AMOUNT, net_of, vectors_of, IsRow, AreRows, Puts, PutsBoth, IsRowFor, in_right, in_cases, in_at, at_in, map_in, all_in, all_from, all_map, same_place, firsts_distinct, firsts_from, firsts_has, firsts_prefix, firsts_all, has_name, none_said, appears_in_order, in_order_appears, ends_below, positive_some}
 use Rattle.crn_net.proofs.Rows.{row_length, row_with_zeros, puts_place, puts_all, puts_distinct}
 use Rattle.crn_net.proofs.Growth.{Ready, Wider, rows_distinct, vectors_distinct, both_keep, left_found, right_found}
 use Rattle.crn_net.proofs.Whole.{Covers, RowPlaces, covers_both, amounts_with_zeros, amounts_said}

@@ -1,30 +1,8 @@
 -- Sums of names over shares: in another order, over the terms of both sides, and over shares sorted by their names.
-use Rattle.std.proofs.Common.{◌≡◌, ℕ, zero, suc, ◌+◌, ◌*◌, ◌-◌, ◌^◌, ◌<◌, ◌≤◌, Bool, true, false, not, cond, List, [], ◌∷◌, length, get_or, take, map, refl, sym, ap, subst, ◌∙◌, inl, inr, arith}
-use Rattle.std.specs.Prelude.{ℤ, pos, negsuc, ◌+ℤ◌, ◌-ℤ◌, ◌≤ℤ◌}
-use Rattle.std.specs.List.{AllByRecursion, fold, sum_by}
-use Rattle.std.specs.List.Sorted.{IsPermutation}
-use Rattle.std.specs.Str.{bytes_eq}
-use Rattle.std.specs.Ordering.{nat_cmp, is_lt, is_eq, ordering_reverse}
-use Rattle.std.specs.declared.cmp.Ordering.{Ordering}
-use Rattle.std.specs.declared.cmp.Ordering.TheVariants.{Less, Equal, Greater}
-use Rattle.std.specs.Cmp.Lexicographic.{slice_cmp}
-use Rattle.std.proofs.lemmas.Bool.{cases_Bool, cases_lt}
-use Rattle.std.proofs.lemmas.Cmp.{nat_list_cmp_total}
-use Rattle.std.proofs.lemmas.Int.{ints}
-use Rattle.std.proofs.lemmas.Slice.Eq.{bytes_eq-Decides}
-use Rattle.std.proofs.lemmas.List.{take_all, get_or_default}
-use Rattle.std.proofs.lemmas.List.Sums.{sum_by-cons, fold_more}
-use Rattle.std.proofs.lemmas.List.Sorted.{sum_by-IsPermutation, sorted_far, ranks_by}
-use Rattle.std.proofs.lemmas.Map.Text.{is_eq-slice_cmp}
+use Rattle.crn_net.proofs.Prelude.{◌≡◌, ℕ, zero, suc, ◌+◌, ◌*◌, ◌-◌, ◌^◌, ◌<◌, ◌≤◌, Bool, true, false, not, cond, List, [], ◌∷◌, length, get_or, take, map, refl, sym, ap, subst, ◌∙◌, inl, inr, arith, ℤ, pos, negsuc, ◌+ℤ◌, ◌-ℤ◌, ◌≤ℤ◌, AllByRecursion, fold, sum_by, IsPermutation, bytes_eq, nat_cmp, is_lt, is_eq, ordering_reverse, Ordering, Less, Equal, Greater, slice_cmp, cases_Bool, cases_lt, nat_list_cmp_total, ints, bytes_eq-Decides, take_all, get_or_default, sum_by-cons, fold_more, sum_by-IsPermutation, sorted_far, ranks_by, is_eq-slice_cmp, amount_in, MAX_AMOUNT, MAX_TERMS, Share, Term, share_of, name_in, sum_in, AreByName, name_at, side_of}
 use borrow.Author.Differences.{up, down}
 use mir.Syntax.{w32}
 use mir.Val.{SFits}
-use Rattle.crn_vec.specs.Network.{amount_in}
-use Rattle.crn_vec.specs.declared.limits.TheConstants.{MAX_AMOUNT, MAX_TERMS}
-use Rattle.crn_net.specs.declared.side_sums.Share.{Share}
-use Rattle.crn_net.specs.declared.term.Term.{Term}
-use Rattle.crn_net.specs.Inner.Sums.{share_of, name_in, sum_in, AreByName}
-use Rattle.crn_net.specs.Terms.{name_at, side_of}
 
 -- what one share adds to the sum of a name
 abbrev pub added : List ℕ → List ℕ → Share → ℤ

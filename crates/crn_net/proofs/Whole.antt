@@ -1,15 +1,5 @@
 -- The tables with the reaction of a statement keep all that a network keeps.
-use Rattle.std.proofs.Common.{◌≡◌, ◌⊎◌, ℕ, suc, ◌<◌, ◌≤◌, ◌+◌, ◌-◌, List, [], ◌∷◌, ◌++◌, length, replicate, refl, sym, ap, subst, ◌∙◌, inl, inr, arith}
-use Rattle.std.specs.Prelude.{ℤ, pos}
-use Rattle.std.specs.List.{AllByRecursion}
-use Rattle.std.proofs.lemmas.Bool.{cases_lt}
-use Rattle.std.proofs.lemmas.Int.{ints}
-use Rattle.crn_vec.specs.Lists.{IsIn}
-use Rattle.crn_vec.specs.Network.{IsAmount, ends, amount_in, amounts_in}
-use Rattle.crn_vec.specs.declared.limits.TheConstants.{MAX_AMOUNT}
-use Rattle.crn_vec.proofs.CallerLemmas.{IsNumberedInOrder, in_left, in_right, in_push, in_at, all_from, all_map, all_append, entry_of_zeros}
-use Rattle.crn_net.specs.Grows.{with_zeros}
-use Rattle.crn_net.specs.Inner.Steps.{Puts}
+use Rattle.crn_net.proofs.Prelude.{◌≡◌, ◌⊎◌, ℕ, suc, ◌<◌, ◌≤◌, ◌+◌, ◌-◌, List, [], ◌∷◌, ◌++◌, length, replicate, refl, sym, ap, subst, ◌∙◌, inl, inr, arith, ℤ, pos, AllByRecursion, cases_lt, ints, IsIn, IsAmount, ends, amount_in, amounts_in, MAX_AMOUNT, IsNumberedInOrder, in_left, in_right, in_push, in_at, all_from, all_map, all_append, entry_of_zeros, with_zeros, Puts}
 
 -- ---- numbering
 

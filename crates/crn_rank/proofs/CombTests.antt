@@ -1,24 +1,6 @@
 -- The rows that a basis names pass the tests of combinations, if the rows have entered it.
-use Rattle.std.proofs.Common.{◌≡◌, ◌≢◌, ℕ, zero, suc, ◌+◌, ◌<◌, ◌≤◌, inl, inr, Bool, true, false, cond, not, List, [], ◌∷◌, length, get_or, map, take, drop, refl, sym, ap, ap₂, subst, ◌∙◌, arith}
-use Rattle.std.specs.Prelude.{ℤ, pos, ◌+ℤ◌, ◌*ℤ◌, ◌≤ℤ◌, neg_ℤ, unsigned_abs, nat_lt}
-use Rattle.std.specs.List.{AllZip, AllByRecursion}
-use Rattle.std.proofs.lemmas.Int.{ints}
-use Rattle.std.proofs.lemmas.Bool.{cases_Bool}
-use Rattle.std.proofs.lemmas.Bool.Decides.{nat_tests}
-use Rattle.std.proofs.lemmas.List.{get_or-drop, length-drop, length-map, map-append, take_all}
+use Rattle.crn_rank.proofs.Prelude.{◌≡◌, ◌≢◌, ℕ, zero, suc, ◌+◌, ◌<◌, ◌≤◌, inl, inr, Bool, true, false, cond, not, List, [], ◌∷◌, length, get_or, map, take, drop, refl, sym, ap, ap₂, subst, ◌∙◌, arith, ℤ, pos, ◌+ℤ◌, ◌*ℤ◌, ◌≤ℤ◌, neg_ℤ, unsigned_abs, nat_lt, AllZip, AllByRecursion, ints, cases_Bool, nat_tests, get_or-drop, length-drop, length-map, map-append, take_all, Mat, entry, dot, column, IsIn, IsNamed, chosen, Net, eq_or, lt_or, dot_zero, dot_step, mul-neg, entry-column, length-column, all_map, dot-last, column-chosen, column_past, row_count, AllHold, IsNarrow, AreFree, vector_of, IsComb, comb_tests, NamesRows, AreEntered, as_row, picked, is_inside, rows_inside, comb_numbers, IsCombOf}
 use lib.IntN.{*ℤ_comm, *ℤ-zero, zero-*ℤ}
-use Rattle.crn_vec.specs.Vectors.{Mat, entry, dot, column}
-use Rattle.crn_vec.specs.Lists.{IsIn}
-use Rattle.crn_vec.specs.Elementary.{IsNamed}
-use Rattle.crn_vec.specs.Rank.{chosen}
-use Rattle.crn_vec.specs.Network.{Net}
-use Rattle.crn_vec.proofs.CallerLemmas.{eq_or, lt_or, dot_zero, dot_step, mul-neg, entry-column, length-column, all_map, dot-last, column-chosen, column_past, row_count}
-use Rattle.crn_cert.specs.Tests.{AllHold}
-use Rattle.crn_cert.specs.Ranges.{IsNarrow, AreFree}
-use Rattle.crn_cert.specs.RankTests.{vector_of, IsComb, comb_tests}
-use Rattle.crn_tab.specs.Tableau.{NamesRows, AreEntered}
-use Rattle.crn_tab.proofs.CallerLemmas.{as_row}
-use Rattle.crn_rank.specs.Inner.Rows.{picked, is_inside, rows_inside, comb_numbers, IsCombOf}
 use Rattle.crn_rank.proofs.PickedRows.{at, picked_yes, picked_no, inside_out}
 
 -- ---- a number and its negative

@@ -1,19 +1,5 @@
 -- The columns that a basis names pass the tests of duals.
-use Rattle.std.proofs.Common.{◌≡◌, ℕ, suc, ◌+◌, ◌<◌, inl, inr, List, [], ◌∷◌, length, get_or, take, refl, sym, ap, subst, ◌∙◌, arith}
-use Rattle.std.specs.Prelude.{ℤ, pos, unsigned_abs}
-use Rattle.std.specs.List.{AllZip, AllByRecursion}
-use Rattle.std.proofs.lemmas.List.{get_or-take, length-take-le, length-map}
-use Rattle.crn_vec.specs.declared.limits.TheConstants.{WIDE_ENTRY}
-use Rattle.crn_vec.specs.Vectors.{Mat, entry, dot}
-use Rattle.crn_vec.specs.Lists.{IsIn, AreDistinct}
-use Rattle.crn_vec.specs.Rank.{chosen}
-use Rattle.crn_vec.proofs.CallerLemmas.{dot-comm, zip_at, zip_long, same_place, at_in, chosen_at}
-use Rattle.crn_farkas.proofs.CallerLemmas.{as_column, column_some}
-use Rattle.crn_cert.specs.Tests.{AllHold}
-use Rattle.crn_cert.specs.Ranges.{AreFree}
-use Rattle.crn_cert.specs.RankTests.{IsDual, dual_tests}
-use Rattle.crn_cert.proofs.CallerLemmas.{narrow_all}
-use Rattle.crn_rank.specs.Inner.Rows.{IsDualOf}
+use Rattle.crn_rank.proofs.Prelude.{◌≡◌, ℕ, suc, ◌+◌, ◌<◌, inl, inr, List, [], ◌∷◌, length, get_or, take, refl, sym, ap, subst, ◌∙◌, arith, ℤ, pos, unsigned_abs, AllZip, AllByRecursion, get_or-take, length-take-le, length-map, WIDE_ENTRY, Mat, entry, dot, IsIn, AreDistinct, chosen, dot-comm, zip_at, zip_long, same_place, at_in, chosen_at, as_column, column_some, AllHold, AreFree, IsDual, dual_tests, narrow_all, IsDualOf}
 
 -- the product of a dual with a row
 product : (a : Mat) (basis : List ℕ) (k q : ℕ) (dual : List ℤ) → IsIn (a.cols + k) basis → (d : IsDualOf a basis k dual) → q < length a.rows → dot dual (get_or a.rows q []) ≡ entry d.v (a.cols + q)

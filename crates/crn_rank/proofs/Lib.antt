@@ -5,3 +5,4 @@ mod DualTests
 mod CombTests
 mod Proven
 mod WideNames
+mod Prelude

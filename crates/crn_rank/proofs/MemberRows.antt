@@ -1,16 +1,5 @@
 -- The rows of the members: how many, how long, and one after another in a list.
-use Rattle.std.proofs.Common.{◌≡◌, ℕ, ◌-◌, ◌*◌, ◌≤◌, inl, inr, List, [], ◌∷◌, length, get_or, refl, ap, ap₂, ◌∙◌, arith, suc}
-use Rattle.std.specs.Prelude.{ℤ}
-use Rattle.std.specs.List.{flat_map}
-use Rattle.std.proofs.Math.Nat.{mul-le-mul_right}
-use Rattle.crn_vec.specs.Lists.{IsIn}
-use Rattle.crn_vec.specs.Network.{Net, IsNetwork, JoinsTwo}
-use Rattle.crn_vec.specs.Vectors.{Mat}
-use Rattle.crn_vec.specs.Matrices.{mat_of}
-use Rattle.crn_vec.specs.declared.limits.TheConstants.{MAX_REACTIONS}
-use Rattle.crn_vec.proofs.CallerLemmas.{all_at, length-minus, vector_long, rows_after, above_few}
-use Rattle.crn_cert.specs.RankTests.{vector_of}
-use Rattle.crn_rank.specs.Rank.{AreMembers, member_matrix}
+use Rattle.crn_rank.proofs.Prelude.{◌≡◌, ℕ, ◌-◌, ◌*◌, ◌≤◌, inl, inr, List, [], ◌∷◌, length, get_or, refl, ap, ap₂, ◌∙◌, arith, suc, ℤ, flat_map, mul-le-mul_right, IsIn, Net, IsNetwork, JoinsTwo, Mat, mat_of, MAX_REACTIONS, all_at, length-minus, vector_long, rows_after, above_few, vector_of, AreMembers, member_matrix}
 
 -- ---- how many members
 

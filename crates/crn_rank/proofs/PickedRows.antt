@@ -1,16 +1,5 @@
 -- The numbers that pass a test, and the members of a list at these places.
-use Rattle.std.proofs.Common.{◌≡◌, ℕ, zero, suc, ◌+◌, ◌<◌, ◌≤◌, inl, inr, Bool, true, false, cond, List, [], ◌∷◌, ◌++◌, length, get_or, map, take, refl, sym, ap, subst, ◌∙◌, arith, add-one, ◌==◌, not}
-use Rattle.std.specs.Prelude.{ℤ}
-use Rattle.std.specs.List.{AllZip, filter, list_any}
-use Rattle.std.proofs.lemmas.Bool.{cases_Bool}
-use Rattle.std.proofs.lemmas.Bool.Decides.{Decides-eqb}
-use Rattle.std.proofs.lemmas.List.{length-append, map-append, take_all}
-use Rattle.std.proofs.lemmas.List.Elements.{filter_more}
-use Rattle.crn_vec.specs.Lists.{IsIn, IsAscending, AreDistinct}
-use Rattle.crn_vec.specs.Vectors.{Mat}
-use Rattle.crn_vec.proofs.CallerLemmas.{in_left, in_right, in_push, in_map, map_in, same_place, eq_or, any_is, any_true, any_false, above_ascending, above_in, ascending_push, zip_push}
-use Rattle.crn_cert.specs.RankTests.{outside}
-use Rattle.crn_rank.specs.Inner.Rows.{picked, is_inside}
+use Rattle.crn_rank.proofs.Prelude.{◌≡◌, ℕ, zero, suc, ◌+◌, ◌<◌, ◌≤◌, inl, inr, Bool, true, false, cond, List, [], ◌∷◌, ◌++◌, length, get_or, map, take, refl, sym, ap, subst, ◌∙◌, arith, add-one, ◌==◌, not, ℤ, AllZip, filter, list_any, cases_Bool, Decides-eqb, length-append, map-append, take_all, filter_more, IsIn, IsAscending, AreDistinct, Mat, in_left, in_right, in_push, in_map, map_in, same_place, eq_or, any_is, any_true, any_false, above_ascending, above_in, ascending_push, zip_push, outside, picked, is_inside}
 
 suc_yes : (p : ℕ → Bool) (k : ℕ) → p k ≡ true → picked p (suc k) ≡ picked p k ++ k ∷ []
 suc_yes p k h = ap (λ (b : Bool). cond b (picked p k ++ k ∷ []) (picked p k)) h

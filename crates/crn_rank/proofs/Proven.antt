@@ -1,21 +1,5 @@
 -- A base with its duals and combinations, as a basis shows them after the rows have entered it, is a proof of the rank.
-use Rattle.std.proofs.Common.{◌≡◌, ℕ, zero, suc, ◌+◌, ◌<◌, inl, inr, Bool, true, false, not, List, [], ◌∷◌, length, get_or, map, refl, sym, ap, subst, ◌∙◌, arith}
-use Rattle.std.specs.Prelude.{ℤ}
-use Rattle.std.specs.List.{AllZip, AllByRecursion}
-use Rattle.std.proofs.lemmas.List.{get_or-map, length-map}
-use Rattle.crn_vec.specs.Vectors.{Mat}
-use Rattle.crn_vec.specs.Lists.{IsIn, IsAscending}
-use Rattle.crn_vec.specs.Network.{Net}
-use Rattle.crn_vec.specs.Rank.{IsRank, chosen}
-use Rattle.crn_vec.proofs.CallerLemmas.{in_map, at_in, zip_long, above_in}
-use Rattle.crn_cert.specs.declared.answer.RankProof.{RankProof}
-use Rattle.crn_cert.specs.Tests.{AllHold}
-use Rattle.crn_cert.specs.Ranges.{AreFree}
-use Rattle.crn_cert.specs.RankTests.{vector_of, vectors_of, outside, IsComb, dual_tests, comb_tests}
-use Rattle.crn_cert.proofs.CallerLemmas.{hold_append}
-use Rattle.crn_tab.specs.Tableau.{NamesRows, AreEntered, ArePlacesOfRows, EnteredRowsGiveTheRank}
-use Rattle.crn_rank.specs.Rank.{AreMembers, member_matrix, ProvesRank}
-use Rattle.crn_rank.specs.Inner.Rows.{is_inside, is_outside, rows_inside, rows_outside, IsDualOf, IsCombOf}
+use Rattle.crn_rank.proofs.Prelude.{◌≡◌, ℕ, zero, suc, ◌+◌, ◌<◌, inl, inr, Bool, true, false, not, List, [], ◌∷◌, length, get_or, map, refl, sym, ap, subst, ◌∙◌, arith, ℤ, AllZip, AllByRecursion, get_or-map, length-map, Mat, IsIn, IsAscending, Net, IsRank, chosen, in_map, at_in, zip_long, above_in, RankProof, AllHold, AreFree, vector_of, vectors_of, outside, IsComb, dual_tests, comb_tests, hold_append, NamesRows, AreEntered, ArePlacesOfRows, EnteredRowsGiveTheRank, AreMembers, member_matrix, ProvesRank, is_inside, is_outside, rows_inside, rows_outside, IsDualOf, IsCombOf}
 use Rattle.crn_rank.proofs.PickedRows.{at, picked_below, picked_has, picked_ascending, picked_count, ascending_distinct, outside_picked, inside_yes, inside_in}
 use Rattle.crn_rank.proofs.DualTests.{AreInside, duals_hold, duals_free}
 use Rattle.crn_rank.proofs.CombTests.{is_comb, combs_free, combs_hold, zip_map}

@@ -1,10 +1,5 @@
 -- The names of wide vectors: of an exchange that was refused, and of a column of the basis itself.
-use Rattle.std.proofs.Common.{◌≡◌, ◌≢◌, ℕ, ◌+◌, ◌-◌, ◌⊎◌, inl, inr, List, sym, subst, arith}
-use Rattle.crn_vec.specs.Vectors.{Mat}
-use Rattle.crn_vec.specs.Lists.{IsIn}
-use Rattle.crn_vec.specs.Elementary.{NamesWide, WideAt}
-use Rattle.crn_vec.proofs.CallerLemmas.{eq_or, same_members}
-use Rattle.crn_tab.specs.Tableau.{NamesRows, IsNumbered, IsRefused}
+use Rattle.crn_rank.proofs.Prelude.{◌≡◌, ◌≢◌, ℕ, ◌+◌, ◌-◌, ◌⊎◌, inl, inr, List, sym, subst, arith, Mat, IsIn, NamesWide, WideAt, eq_or, same_members, NamesRows, IsNumbered, IsRefused}
 
 pub wide_refused : (a : Mat) (basis : List ℕ) (leave enter index : ℕ) (numbers : List ℕ) → IsRefused a basis leave enter index → IsNumbered basis leave enter numbers → NamesWide a index numbers
 wide_refused a basis leave enter index numbers r n = record { from_zero = n.next; numbered = n.numbered; counted = r.counted; wide = r.wide n.next n.exchanged }

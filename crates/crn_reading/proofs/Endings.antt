@@ -1,20 +1,5 @@
 -- A call for a line after the last line of a document, and the step to the end.
-use Rattle.std.proofs.Common.{◌≡◌, ◌<◌, ◌++◌, ◌∙◌, ℕ, true, List, [], Option, Some, None, refl, sym, subst, ap, append_assoc, inl, Result, Ok, Err}
-use Rattle.crn_io.specs.declared.next.Next.{Next}
-use Rattle.crn_io.specs.declared.next.Next.TheVariants.{Line, Last, End, LineTooLong, DocumentTooLong, Failed}
-use Rattle.crn_io.specs.declared.lines.TheConstants.{MAX_DOCUMENT}
-use Rattle.crn_io.specs.Device.{SourceSeen}
-use Rattle.crn_io.specs.Lines.{Place, IsBegun, BreaksLine, HasMore}
-use Rattle.crn_io.specs.Pull.{HasNoneLeft}
-use Rattle.crn_io.specs.Next.{KeptLines, NextIs, NextGives, place, code_of, EndIs}
-use Rattle.crn_io.proofs.CallerLemmas.{end_is, asked_begun}
-use Rattle.crn_ctext.specs.Course.{Course, Give, ◌>>=◌, Gives, FailsFirst, ends}
-use Rattle.crn_ctext.specs.Steps.{Awaits, IsRest, StepGives, StepFails, StepAwaits, StepEnds, cut}
-use Rattle.crn_ctext.proofs.CallerLemmas.{step_ends_then}
-use Rattle.crn_reading.specs.declared.reading.Reading.{Reading}
-use Rattle.crn_reading.specs.declared.fault.CheckStop.{CheckStop}
-use Rattle.crn_reading.specs.Ending.{EndStepIs, ends_with}
-use Rattle.crn_reading.specs.Steps.{StopIs}
+use Rattle.crn_reading.proofs.Prelude.{◌≡◌, ◌<◌, ◌++◌, ◌∙◌, ℕ, true, List, [], Option, Some, None, refl, sym, subst, ap, append_assoc, inl, Result, Ok, Err, Next, Line, Last, End, LineTooLong, DocumentTooLong, Failed, MAX_DOCUMENT, SourceSeen, Place, IsBegun, BreaksLine, HasMore, HasNoneLeft, KeptLines, NextIs, NextGives, place, code_of, EndIs, end_is, asked_begun, Course, Give, ◌>>=◌, Gives, FailsFirst, ends, Awaits, IsRest, StepGives, StepFails, StepAwaits, StepEnds, cut, step_ends_then, Reading, CheckStop, EndStepIs, ends_with, StopIs}
 use Rattle.crn_reading.proofs.Steps.{stop_after, stop_first}
 
 -- ---- nothing is left

@@ -1,14 +1,7 @@
 -- Lines and a test of them, as a step of a document's course.
-use Rattle.std.proofs.Common.{◌≡◌, ℕ, inl, refl, Ok}
-use Rattle.crn_io.specs.Device.{SourceSeen}
-use Rattle.crn_io.specs.Lines.{Place}
-use Rattle.crn_ctext.specs.Course.{Course, Gives, FailsFirst, find, ◌>>=◌}
-use Rattle.crn_ctext.specs.Steps.{StepGives}
-use Rattle.crn_reading.specs.Steps.{CanRead, StepIs, StopIs}
-use Rattle.crn_reading.specs.declared.reading.Reading.{Reading}
+use Rattle.crn_reading.proofs.Prelude.{◌≡◌, ℕ, inl, refl, Ok, SourceSeen, Place, Course, Gives, FailsFirst, find, ◌>>=◌, StepGives, CanRead, StepIs, StopIs, Reading, Fault, fault_number}
 use Rattle.crn_reading.specs.declared.fault.CheckStop.TheVariants as stop
 use Rattle.crn_reading.proofs.Steps.{stop_after, step_then_is, stops_here, tests_give, tests_fail}
-use Rattle.crn_cert.specs.Faults.{Fault, fault_number}
 
 -- the value that passes is found
 pub found_here : {A : Type 0} (n : ℕ) (fault : Fault) (P : A → Type 0) (x : A) → P x → (at : Place) → Gives (find n fault A P) at x at

@@ -1,12 +1,5 @@
 -- Steps up to the end of a document.
-use Rattle.std.proofs.Common.{◌≡◌, ◌∙◌, sym, subst, ap, Result, Ok, Err}
-use Rattle.crn_io.specs.Device.{SourceSeen}
-use Rattle.crn_ctext.specs.Course.{Course, ◌>>=◌}
-use Rattle.crn_ctext.specs.Steps.{StepGives}
-use Rattle.crn_reading.specs.declared.reading.Reading.{Reading}
-use Rattle.crn_reading.specs.declared.fault.CheckStop.{CheckStop}
-use Rattle.crn_reading.specs.Ending.{EndStepIs, LastIs}
-use Rattle.crn_reading.specs.Steps.{StopIs}
+use Rattle.crn_reading.proofs.Prelude.{◌≡◌, ◌∙◌, sym, subst, ap, Result, Ok, Err, SourceSeen, Course, ◌>>=◌, StepGives, Reading, CheckStop, EndStepIs, LastIs, StopIs}
 use Rattle.crn_reading.proofs.Endings.{step_then_ends}
 use Rattle.crn_reading.proofs.Steps.{stop_after}
 use Rattle.crn_reading.proofs.Texts.{ends_all, stops_all}

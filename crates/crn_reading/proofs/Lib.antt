@@ -12,3 +12,4 @@ mod LastSteps
 mod Whole
 mod PartLines
 mod PartDocuments
+mod Prelude

@@ -1,18 +1,5 @@
 -- No canonical text has a line that is longer than a line of a network can be.
-use Rattle.std.proofs.Common.{◌≡◌, ◌+◌, ◌-◌, ◌==◌, ◌<◌, ◌≤◌, ◌++◌, ◌∙◌, ℕ, false, inl, inr, List, [], ◌∷◌, length, drop, get_or, sym, ap, subst, append_assoc, arith}
-use Rattle.std.specs.Prelude.{codes}
-use Rattle.std.specs.List.{AllByRecursion, flat_map}
-use Rattle.std.proofs.Math.Seq.{get_or-append_seam, drop-append_seam}
-use Rattle.std.proofs.lemmas.Bool.{false≢true}
-use Rattle.std.proofs.lemmas.List.{length-append, drop-append-le, get_or_append_left, get_or-append_right}
-use Rattle.crn_vec.specs.Network.{Net, IsNetwork, IsPartialNetwork, IsVector, JoinsTwo}
-use Rattle.crn_vec.proofs.CallerLemmas.{all_at, lt_or}
-use Rattle.crn_io.specs.Lines.{IsLine}
-use Rattle.crn_text.specs.Canonical.{canonical, complex_text, reaction_line}
-use Rattle.crn_text.proofs.CallerLemmas.{held, side_text, line_text, side_held, good_terms, side_length, held_length}
-use Rattle.crn_ctext.specs.Blocks.{ended}
-use Rattle.crn_reading.specs.Inner.Opening.{HasLongLine, IsLongLine}
-use Rattle.crn_reading.specs.declared.opening.TheConstants.{NETWORK_LINE}
+use Rattle.crn_reading.proofs.Prelude.{◌≡◌, ◌+◌, ◌-◌, ◌==◌, ◌<◌, ◌≤◌, ◌++◌, ◌∙◌, ℕ, false, inl, inr, List, [], ◌∷◌, length, drop, get_or, sym, ap, subst, append_assoc, arith, codes, AllByRecursion, flat_map, get_or-append_seam, drop-append_seam, false≢true, length-append, drop-append-le, get_or_append_left, get_or-append_right, Net, IsNetwork, IsPartialNetwork, IsVector, JoinsTwo, all_at, lt_or, IsLine, canonical, complex_text, reaction_line, held, side_text, line_text, side_held, good_terms, side_length, held_length, ended, HasLongLine, IsLongLine, NETWORK_LINE}
 
 -- the line of a reaction without its LF
 abbrev line_of : Net → ℕ × ℕ → List ℕ

@@ -1,16 +1,6 @@
 -- The lines of a network one after another, as steps of a document's course, and the text that they are.
-use Rattle.std.proofs.Common.{◌≡◌, ◌++◌, ◌∷◌, [], ◌∙◌, ◌⊎◌, inl, inr, ℕ, suc, Bool, true, false, List, Option, sym, ap, subst, Result, Ok}
-use Rattle.std.proofs.lemmas.List.{append-nil, append_assoc}
-use Rattle.crn_io.specs.Device.{SourceSeen}
-use Rattle.crn_io.specs.Lines.{IsLine}
-use Rattle.crn_io.specs.Next.{KeptLines}
-use Rattle.crn_ctext.specs.Course.{Course, Give, Gives, due, ◌>>=◌}
-use Rattle.crn_ctext.specs.Blocks.{asks_lines, ended}
-use Rattle.crn_ctext.specs.Steps.{StepGives}
-use Rattle.crn_reading.specs.Inner.Opening.{AreAdded, HasLongLine, IsAddedLine, IsLongLine}
-use Rattle.crn_reading.specs.Steps.{StepIs}
-use Rattle.crn_reading.specs.declared.reading.Reading.{Reading}
-use Rattle.crn_reading.specs.declared.fault.CheckStop.{CheckStop}
+use Rattle.crn_reading.proofs.Prelude.{◌≡◌, ◌++◌, ◌∷◌, [], ◌∙◌, ◌⊎◌, inl, inr, ℕ, suc, Bool, true, false, List, Option, sym, ap, subst, Result, Ok, append-nil, SourceSeen, IsLine, KeptLines, Course, Give, Gives, due, ◌>>=◌, asks_lines, ended, StepGives, AreAdded, HasLongLine, IsAddedLine, IsLongLine, StepIs, Reading, CheckStop}
+use Rattle.std.proofs.lemmas.List.{append_assoc}
 use Rattle.crn_reading.proofs.Steps.{step_gives, step_map, step_then_is}
 
 -- what follows the first of several lines

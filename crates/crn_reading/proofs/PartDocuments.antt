@@ -1,18 +1,5 @@
 -- A document of a part, as it is read from its title to its end.
-use Rattle.std.proofs.Common.{◌≡◌, ℕ, [], sym, subst, inl, arith, Result}
-use Rattle.crn_vec.specs.Network.{Net}
-use Rattle.crn_io.specs.Device.{SourceSeen}
-use Rattle.crn_io.specs.Lines.{beginning}
-use Rattle.crn_io.proofs.CallerLemmas.{begun_none}
-use Rattle.crn_ctext.specs.Course.{Course, ◌>>=◌}
-use Rattle.crn_ctext.specs.Courses.{IsSettled}
-use Rattle.crn_ctext.specs.Parts.{Part, part_opening, part_ending, part_course}
-use Rattle.crn_ctext.specs.Steps.{Awaits, StepGives}
-use Rattle.crn_reading.specs.Ending.{LastIs}
-use Rattle.crn_reading.specs.Steps.{IsNew, StopIs}
-use Rattle.crn_reading.specs.Reads.{ReadingGives, IsAnsweredBy}
-use Rattle.crn_reading.specs.declared.reading.Reading.{Reading}
-use Rattle.crn_reading.specs.declared.fault.CheckStop.{CheckStop}
+use Rattle.crn_reading.proofs.Prelude.{◌≡◌, ℕ, [], sym, subst, inl, arith, Result, Net, SourceSeen, beginning, begun_none, Course, ◌>>=◌, IsSettled, Part, part_opening, part_ending, part_course, Awaits, StepGives, LastIs, IsNew, StopIs, ReadingGives, IsAnsweredBy, Reading, CheckStop}
 use Rattle.crn_reading.proofs.Steps.{stop_first}
 use Rattle.crn_reading.proofs.LastSteps.{last_then}
 use Rattle.crn_reading.proofs.Whole.{text_read, text_answered}

@@ -1,23 +1,6 @@
 -- A line of a part, as it is read: by the words and the forms of the part, the place of its word, and a test after it.
-use Rattle.std.proofs.Common.{◌≡◌, ◌<◌, ◌+◌, ℕ, zero, suc, Bool, true, List, [], ◌∷◌, length, refl, sym, subst, ◌∙◌, inl, arith, Result}
-use Rattle.std.specs.Prelude.{ℤ, if◌then◌else◌, slice_index_or, ◌==◌, ◌&&◌}
-use Rattle.std.specs.Str.{bytes_eq}
-use Rattle.std.proofs.lemmas.Bool.{eqb-true}
-use Rattle.crn_vec.proofs.CallerLemmas.{and_cases}
-use Rattle.crn_io.specs.Device.{SourceSeen}
-use Rattle.crn_ctext.specs.Records.{Record, Form}
-use Rattle.crn_ctext.specs.Course.{Course, ◌>>=◌, test_own, Gives, FailsFirst}
-use Rattle.crn_ctext.specs.Blocks.{word_of}
-use Rattle.crn_ctext.specs.Parts.{asks_part}
-use Rattle.crn_ctext.specs.PartLines.{forms_in}
-use Rattle.crn_ctext.specs.Steps.{StepGives}
-use Rattle.crn_ctext.specs.declared.part.Field.{Field as Run}
-use Rattle.crn_ctext.specs.declared.part.Choice.{Choice}
-use Rattle.crn_reading.specs.Steps.{CanRead, StepIs, StopIs}
-use Rattle.crn_reading.specs.Records.{IsPartSaid, ReadsPart}
-use Rattle.crn_reading.specs.declared.reading.Reading.{Reading}
-use Rattle.crn_reading.specs.declared.fault.CheckStop.{CheckStop}
-use Rattle.crn_reading.specs.declared.fault.CheckStop.TheVariants.{Rejected}
+use Rattle.crn_reading.proofs.Prelude.{◌≡◌, ◌<◌, ◌+◌, ℕ, zero, suc, Bool, true, List, [], ◌∷◌, length, refl, sym, subst, ◌∙◌, inl, arith, Result, ℤ, if◌then◌else◌, slice_index_or, ◌&&◌, bytes_eq, eqb-true, and_cases, SourceSeen, Record, Form, Course, ◌>>=◌, test_own, Gives, FailsFirst, word_of, asks_part, forms_in, StepGives, Run, Choice, CanRead, StepIs, StopIs, IsPartSaid, ReadsPart, Reading, CheckStop, Rejected}
+use Rattle.std.specs.Prelude.{◌==◌}
 use Rattle.crn_reading.proofs.Steps.{tests_give, tests_fail, step_then_is, stop_first}
 
 -- ---- words and forms

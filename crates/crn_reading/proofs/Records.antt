@@ -1,11 +1,5 @@
 -- What a record that was read is.
-use Rattle.std.proofs.Common.{ℕ, Bool, List, subst}
-use Rattle.crn_io.specs.Lines.{Place}
-use Rattle.crn_cert.specs.Faults.{Fault}
-use Rattle.crn_ctext.specs.Records.{Record, Form}
-use Rattle.crn_ctext.specs.Course.{Gives}
-use Rattle.crn_ctext.specs.Blocks.{reads_of}
-use Rattle.crn_ctext.specs.Documents.{IsOneOf}
+use Rattle.crn_reading.proofs.Prelude.{ℕ, Bool, List, subst, Place, Fault, Record, Form, Gives, reads_of, IsOneOf}
 
 -- the record that passes all tests of a line is one of those that were due
 pub reads_one : (words trees : List (List ℕ)) (n : ℕ) (after : Bool) (forms : List Form) (mis : Fault) (line : List ℕ) (at end : Place) (r : Record) → Gives (reads_of words trees n after forms mis line) at r end → IsOneOf forms r

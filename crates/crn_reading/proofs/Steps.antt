@@ -1,20 +1,6 @@
 -- What one call for a line, and steps one after another, do by the course of a document.
-use Rattle.std.proofs.Common.{◌≡◌, ◌≤◌, ◌<◌, ◌+◌, ◌++◌, ℕ, Bool, List, [], length, Option, refl, sym, ap, subst, ◌∙◌, arith, Ok, Err, Result}
-use Rattle.std.proofs.lemmas.List.{append-nil, length-append}
-use Rattle.crn_io.specs.declared.next.Next.{Next}
-use Rattle.crn_io.specs.declared.next.Next.TheVariants.{Line, Last, End, LineTooLong, DocumentTooLong, Failed}
-use Rattle.crn_io.specs.declared.lines.TheConstants.{MAX_DOCUMENT, MAX_AHEAD}
-use Rattle.crn_io.specs.Device.{SourceSeen, Rose}
-use Rattle.crn_io.specs.Lines.{Place, early}
-use Rattle.crn_io.specs.Next.{KeptLines, NextGives, place, code_of}
-use Rattle.crn_ctext.specs.Course.{Course, Give, due, Gives, FailsFirst, ◌>>=◌}
-use Rattle.crn_io.proofs.CallerLemmas.{Consumes-none, Consumes-then}
-use Rattle.crn_ctext.specs.Steps.{StepGives, StepFails}
-use Rattle.crn_ctext.proofs.CallerLemmas.{IsNoLine, line_is_missing, gives_counts, step_then, step_fails_then, step_fails_before, step_awaits_then, step_awaits_before}
-use Rattle.crn_reading.specs.declared.reading.Reading.{Reading}
-use Rattle.crn_reading.specs.declared.fault.CheckStop.{CheckStop}
+use Rattle.crn_reading.proofs.Prelude.{◌≡◌, ◌≤◌, ◌<◌, ◌+◌, ◌++◌, ℕ, Bool, List, [], length, Option, refl, sym, ap, subst, ◌∙◌, arith, Ok, Err, Result, append-nil, length-append, Next, Line, Last, End, LineTooLong, DocumentTooLong, Failed, MAX_DOCUMENT, MAX_AHEAD, SourceSeen, Rose, Place, early, KeptLines, NextGives, place, code_of, Course, Give, due, Gives, FailsFirst, ◌>>=◌, Consumes-none, Consumes-then, StepGives, StepFails, IsNoLine, line_is_missing, gives_counts, step_then, step_fails_then, step_fails_before, step_awaits_then, step_awaits_before, Reading, CheckStop, CanRead, StepStops, StopIs, StepIs}
 use Rattle.crn_reading.specs.declared.fault.CheckStop.TheVariants as stop
-use Rattle.crn_reading.specs.Steps.{CanRead, StepStops, StopIs, StepIs}
 
 -- the count of faults is as before at an answer that is no line and no fault
 pub no_line_keeps_count : (answer : Next) (old new : KeptLines) (before now : SourceSeen) → IsNoLine answer → NextGives answer old new before now → now.faults ≡ before.faults

@@ -1,20 +1,7 @@
 -- What steps through a whole document say of its text.
-use Rattle.std.proofs.Common.{◌≡◌, ◌≤◌, ◌+◌, ◌-◌, ◌++◌, ◌∙◌, ℕ, List, [], length, take, drop, length-drop, Option, Some, None, refl, sym, subst, ap, inl, inr, arith, Result, Ok, Err}
-use Rattle.std.proofs.lemmas.List.{append-nil, take-append-drop}
-use Rattle.std.proofs.lemmas.Bool.{cases_lt}
-use Rattle.crn_io.specs.declared.lines.TheConstants.{MAX_DOCUMENT, MAX_AHEAD}
-use Rattle.crn_io.specs.Device.{SourceSeen}
-use Rattle.crn_io.specs.Lines.{Place, beginning}
-use Rattle.crn_io.specs.Next.{KeptLines, place}
-use Rattle.crn_io.specs.Pull.{Consumes}
-use Rattle.crn_ctext.specs.Course.{Course, Give, Line, Test, End, ◌>>=◌, Gives, FailsFirst}
-use Rattle.crn_ctext.specs.Steps.{Awaits, IsRest, StepFails, StepAwaits, StepEnds, cut}
-use Rattle.crn_reading.specs.Reads.{AwaitedIn, IsRead, IsTextOf, PullsAwaited, PullsDocument}
-use Rattle.crn_reading.specs.declared.reading.Reading.{Reading}
-use Rattle.crn_reading.specs.declared.fault.CheckStop.{CheckStop}
+use Rattle.crn_reading.proofs.Prelude.{◌≡◌, ◌≤◌, ◌+◌, ◌-◌, ◌++◌, ◌∙◌, ℕ, List, [], length, take, drop, length-drop, Option, Some, None, refl, sym, subst, ap, inl, inr, arith, Result, Ok, Err, append-nil, take-append-drop, cases_lt, MAX_DOCUMENT, MAX_AHEAD, SourceSeen, Place, beginning, KeptLines, place, Consumes, Course, Give, Test, ◌>>=◌, Gives, FailsFirst, Awaits, IsRest, StepFails, StepAwaits, StepEnds, cut, AwaitedIn, IsRead, IsTextOf, PullsAwaited, PullsDocument, Reading, CheckStop, StepIs, StepStops, StopIs, EndStepIs}
+use Rattle.crn_ctext.specs.Course.{Line, End}
 use Rattle.crn_reading.specs.declared.fault.CheckStop.TheVariants as stop
-use Rattle.crn_reading.specs.Steps.{StepIs, StepStops, StopIs}
-use Rattle.crn_reading.specs.Ending.{EndStepIs}
 
 -- ---- courses one after another, in other brackets
 

@@ -1,9 +1,6 @@
 -- The first lines of the two versions, byte by byte.
-use Rattle.std.proofs.Common.{◌≡◌, ◌++◌, ◌∙◌, inl, inr, ap, ℕ, List, codes, false, IsTrue, arith}
-use Rattle.std.proofs.lemmas.Bool.{false≢true}
-use Rattle.std.proofs.lemmas.Fmt.{decimal_digit}
-use Rattle.crn_ctext.specs.Blocks.{title}
-use Rattle.crn_reading.specs.Opening.{IsTitleOf}
+use Rattle.crn_reading.proofs.Prelude.{◌≡◌, ◌++◌, ◌∙◌, inl, inr, ap, ℕ, List, false, IsTrue, arith, false≢true, decimal_digit, title, IsTitleOf}
+use Rattle.std.proofs.Common.{codes}
 
 -- the first line of version 1
 pub title_one : title 1 ≡ codes "crn certificate 1"

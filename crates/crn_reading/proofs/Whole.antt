@@ -1,18 +1,6 @@
 -- A whole text, from its first line to its end, and what the answer says of it.
-use Rattle.std.proofs.Common.{◌≡◌, ◌∙◌, ◌⊎◌, ℕ, List, [], refl, subst, ap, inl, inr, arith, Option, Some, None, Result, Ok, Err}
-use Rattle.crn_io.specs.Device.{SourceSeen, Rose}
-use Rattle.crn_io.specs.Lines.{Place, beginning}
-use Rattle.crn_io.proofs.CallerLemmas.{Consumes-none}
-use Rattle.crn_ctext.specs.Course.{Course, Gives, FailsFirst}
-use Rattle.crn_ctext.specs.Courses.{IsSettled}
-use Rattle.crn_ctext.specs.Steps.{Awaits, StepFails, StepAwaits, StepEnds}
-use Rattle.crn_ctext.proofs.CallerLemmas.{first_is_one, gives_one, gives_or_fails}
-use Rattle.crn_reading.specs.declared.reading.Reading.{Reading}
-use Rattle.crn_reading.specs.declared.fault.CheckStop.{CheckStop}
+use Rattle.crn_reading.proofs.Prelude.{◌≡◌, ◌∙◌, ◌⊎◌, ℕ, List, [], refl, subst, ap, inl, inr, arith, Option, Some, None, Result, Ok, Err, SourceSeen, Rose, Place, beginning, Consumes-none, Course, Gives, FailsFirst, IsSettled, Awaits, StepFails, StepAwaits, StepEnds, first_is_one, gives_one, gives_or_fails, Reading, CheckStop, IsNew, LastIs, IsTextOf, ReadingGives, AnswersWith, IsAnsweredBy}
 use Rattle.crn_reading.specs.declared.fault.CheckStop.TheVariants as stop
-use Rattle.crn_reading.specs.Steps.{IsNew}
-use Rattle.crn_reading.specs.Ending.{LastIs}
-use Rattle.crn_reading.specs.Reads.{IsTextOf, ReadingGives, AnswersWith, IsAnsweredBy}
 use Rattle.crn_reading.proofs.Texts.{text_awaits, text_fails, text_gives, text_stops}
 
 from_first : (P : ℕ → Type 0) (at : Reading) → IsNew at → P at.line → P 1

@@ -1,35 +1,6 @@
 -- The answer on confluence vectors that the solutions of the confluence system give.
-use Rattle.std.proofs.Common.{◌≡◌, ℕ, zero, suc, ◌+◌, ◌-◌, ◌<◌, ◌≤◌, ◌++◌, inl, inr, Bool, false, List, [], ◌∷◌, length, refl, sym, ap, subst, ◌∙◌, arith}
-use Rattle.std.specs.Prelude.{ℤ, pos, negsuc, ◌*ℤ◌, ◌↔◌, IsTrue, unsigned_abs}
+use Rattle.crn_reg.proofs.Prelude.{◌≡◌, ℕ, zero, suc, ◌+◌, ◌-◌, ◌<◌, ◌≤◌, ◌++◌, inl, inr, Bool, false, List, [], ◌∷◌, length, refl, sym, ap, subst, ◌∙◌, arith, ℤ, pos, negsuc, ◌*ℤ◌, ◌↔◌, IsTrue, unsigned_abs, AllZip, AllByRecursion, range_with_len, ints, length-append, length-range_with_len, KeptInts, KeptNums, Net, IsNetwork, entry, NamesWide, IsWeaklyReversible, confluence_system, IsRegular, IsNonzero, HasConfluenceLine, LeadsPositive, eq_or, in_at, all_from, zip_long, no_zero, range_more, YesVec, OnlyZero, Plane, Nothing, Ties, Earlier, Q4, Q11, Q12, on, IsYes, IsNarrow, AreFree, AreFreeRows, AreLinkageClasses, AreStrongClasses, AllHold, IsInSpace, DoTerminalsGather, least_from, others_than, tie_tests, IsBasisOf, linkage, linkage_count, strong, exits, IsAnswer, GiveClasses, wide_basis, vector_is_formed, zero_is_formed, AreSmall, IsSolution, IsFirstPlace, IsTieOf, AreTies, numbers_but, IsLine, ArePlane, IsOnlyZero, IsSameOrNegative, GathersFirst, wide_answer}
 use lib.IntN.{zero-*ℤ}
-use Rattle.std.specs.List.{AllZip, AllByRecursion, range_with_len}
-use Rattle.std.proofs.lemmas.Int.{ints}
-use Rattle.std.proofs.lemmas.List.{length-append}
-use Rattle.std.proofs.lemmas.List.FromFn.{length-range_with_len}
-use Rattle.crn_vec.specs.Kept.{KeptInts, KeptNums}
-use Rattle.crn_vec.specs.Network.{Net, IsNetwork}
-use Rattle.crn_vec.specs.Vectors.{entry}
-use Rattle.crn_vec.specs.Elementary.{NamesWide}
-use Rattle.crn_vec.specs.Strong.{IsWeaklyReversible}
-use Rattle.crn_vec.specs.NetSystems.{confluence_system}
-use Rattle.crn_vec.specs.Confluence.{IsRegular, IsNonzero, HasConfluenceLine, LeadsPositive}
-use Rattle.crn_vec.proofs.CallerLemmas.{eq_or, in_at, all_from, zip_long, no_zero, range_more}
-use Rattle.crn_cert.specs.declared.answer.Verdict.TheVariants.{YesVec, OnlyZero, Plane}
-use Rattle.crn_cert.specs.declared.answer.Proof.TheVariants.{Nothing, Ties}
-use Rattle.crn_cert.specs.Questions.{Earlier, Q4, Q11, Q12, on, IsYes}
-use Rattle.crn_cert.specs.Ranges.{IsNarrow, AreFree, AreFreeRows}
-use Rattle.crn_cert.specs.Says.{AreLinkageClasses, AreStrongClasses}
-use Rattle.crn_cert.specs.Tests.{AllHold}
-use Rattle.crn_cert.specs.ConfluenceTests.{IsInSpace, DoTerminalsGather, least_from, others_than, tie_tests}
-use Rattle.crn_cert.specs.Data.{IsBasisOf}
-use Rattle.crn_cert.specs.Valid.{linkage, linkage_count, strong, exits}
-use Rattle.crn_cert.specs.Answered.{IsAnswer}
-use Rattle.crn_cert.specs.Given.{GiveClasses}
-use Rattle.crn_cert.proofs.CallerLemmas.{wide_basis, vector_is_formed, zero_is_formed}
-use Rattle.crn_tab.specs.Tableau.{AreSmall}
-use Rattle.crn_reg.specs.Inner.Spaces.{IsSolution, IsFirstPlace, IsTieOf, AreTies, numbers_but, IsLine, ArePlane, IsOnlyZero}
-use Rattle.crn_reg.specs.Inner.Normal.{IsSameOrNegative, GathersFirst}
-use Rattle.crn_reg.specs.Inner.Verdicts.{wide_answer}
 use Rattle.crn_reg.proofs.Named.{but_yes, but_no}
 use Rattle.crn_reg.proofs.Solutions.{row_count, tests_by_solution, space_by_solution, solution_by_space, gathers, vector_by}
 use Rattle.crn_reg.proofs.Negatives.{either_kept, either_first}

@@ -1,15 +1,5 @@
 -- Every linked pair of a terminal strong class is joined by a first reaction, and is a cut pair if the pair of that reaction has a side.
-use Rattle.std.proofs.Common.{◌≡◌, ◌⊎◌, ℕ, zero, suc, ◌-◌, ◌<◌, ◌≤◌, List, [], ◌∷◌, length, get_or, refl, sym, ap, subst, ◌∙◌, inl, inr, arith}
-use Rattle.std.specs.Prelude.{ℤ}
-use Rattle.std.specs.List.{AllZip}
-use Rattle.crn_vec.specs.Lists.{IsIn}
-use Rattle.crn_vec.specs.Network.{Net}
-use Rattle.crn_vec.specs.Strong.{IsReaction}
-use Rattle.crn_vec.specs.CutPairs.{IsBetween, IsCutPair, IsTerminalPair, IsFirstOfPair, ArePairs}
-use Rattle.crn_vec.proofs.CallerLemmas.{eq_or, is_between, linked_back, place_of, strong_back, terminal_on, cut_back}
-use Rattle.crn_cert.specs.Says.{from_zero}
-use Rattle.crn_cert.specs.Licensed.{AreAllCutPairs}
-use Rattle.crn_graph.specs.Pair.{HasSide}
+use Rattle.crn_reg.proofs.Prelude.{◌≡◌, ◌⊎◌, ℕ, zero, suc, ◌-◌, ◌<◌, ◌≤◌, List, [], ◌∷◌, length, get_or, refl, sym, ap, subst, ◌∙◌, inl, inr, arith, ℤ, AllZip, IsIn, Net, IsReaction, IsBetween, IsCutPair, IsTerminalPair, IsFirstOfPair, ArePairs, eq_or, is_between, linked_back, place_of, strong_back, terminal_on, cut_back, from_zero, AreAllCutPairs, HasSide}
 
 -- ---- a pair in either order
 

@@ -6,3 +6,4 @@ mod RegularAnswers
 mod Rows
 mod SidesMore
 mod Solutions
+mod Prelude

@@ -1,24 +1,6 @@
 -- The vectors that a basis names by the columns, after the rows have entered it: solutions and ties.
-use Rattle.std.proofs.Common.{◌≡◌, ◌≢◌, ℕ, ◌+◌, ◌-◌, ◌<◌, ◌≤◌, ◌⊎◌, ◌++◌, inl, inr, Bool, not, ◌==◌, ne_eqb, List, [], ◌∷◌, length, get_or, take, drop, sym, ap, ap₂, subst, ◌∙◌, arith}
-use Rattle.std.specs.Prelude.{ℤ, pos, neg_ℤ, ◌*ℤ◌, unsigned_abs}
-use Rattle.std.specs.Int.{◌∣◌}
-use Rattle.std.specs.List.{AllZip, filter, range_with_len}
-use Rattle.std.proofs.lemmas.Int.{ints}
-use Rattle.std.proofs.lemmas.Bool.{eq-eqb}
-use Rattle.std.proofs.lemmas.List.{get_or-take, get_or-drop, length-take-le, length-drop, length-append, get_or_append_left, get_or-append-add}
-use Rattle.std.proofs.Math.Seq.{take-append_seam}
+use Rattle.crn_reg.proofs.Prelude.{◌≡◌, ◌≢◌, ℕ, ◌+◌, ◌-◌, ◌<◌, ◌≤◌, ◌⊎◌, ◌++◌, inl, inr, Bool, not, ◌==◌, ne_eqb, List, [], ◌∷◌, length, get_or, take, drop, sym, ap, ap₂, subst, ◌∙◌, arith, ℤ, pos, neg_ℤ, ◌*ℤ◌, unsigned_abs, ◌∣◌, AllZip, filter, range_with_len, ints, eq-eqb, get_or-take, get_or-drop, length-take-le, length-drop, length-append, get_or_append_left, get_or-append-add, take-append_seam, WIDE_ENTRY, Mat, entry, dot, column, IsIn, IsZero, width, InRowSpace, IsNamed, IsNamedColumn, AreProportional, eq_or, lt_or, past_end, in_at, at_in, no_zero, orthogonal, zeros, length-zeros, entry-zeros, zip_push, ratios_cross, range_more, filter_yes, filter_no, dot_single, as_column, column_some, own_some, AreSmall, NamesRows, AreEntered, isIn_or, one_column, as_row, IsSolution, IsTieOf, numbers_but, HasNoColumn, IsFirstColumn, HasNoOther, IsColumnPart}
 use lib.IntN.{*ℤ_comm, *ℤ-zero, zero-*ℤ}
-use Rattle.crn_vec.specs.declared.limits.TheConstants.{WIDE_ENTRY}
-use Rattle.crn_vec.specs.Vectors.{Mat, entry, dot, column}
-use Rattle.crn_vec.specs.Lists.{IsIn}
-use Rattle.crn_vec.specs.Rank.{IsZero}
-use Rattle.crn_vec.specs.Elementary.{width, InRowSpace, IsNamed, IsNamedColumn, AreProportional}
-use Rattle.crn_vec.proofs.CallerLemmas.{eq_or, lt_or, past_end, in_at, at_in, no_zero, orthogonal, zeros, length-zeros, entry-zeros, zip_push}
-use Rattle.crn_vec.proofs.CallerLemmas.{ratios_cross, range_more, filter_yes, filter_no, dot_single}
-use Rattle.crn_farkas.proofs.CallerLemmas.{as_column, column_some, own_some}
-use Rattle.crn_tab.specs.Tableau.{AreSmall, NamesRows, AreEntered}
-use Rattle.crn_tab.proofs.CallerLemmas.{isIn_or, one_column, as_row}
-use Rattle.crn_reg.specs.Inner.Spaces.{IsSolution, IsTieOf, numbers_but, HasNoColumn, IsFirstColumn, HasNoOther, IsColumnPart}
 
 -- ---- entries that are not zero
 

@@ -1,16 +1,5 @@
 -- A list and its negative: sums over classes, first entries, and what is kept.
-use Rattle.std.proofs.Common.{◌≡◌, ◌≢◌, ℕ, zero, suc, ◌<◌, ◌⊎◌, inl, inr, List, [], ◌∷◌, length, map, refl, sym, ap, subst, ◌∙◌, arith}
-use Rattle.std.specs.Prelude.{ℤ, pos, negsuc, neg_ℤ, ◌≤ℤ◌, unsigned_abs}
-use Rattle.std.specs.Int.{◌∣◌}
-use Rattle.std.proofs.lemmas.Int.{ints}
-use Rattle.std.proofs.lemmas.List.{length-map, ext_get_or}
-use Rattle.crn_vec.specs.declared.limits.TheConstants.{WIDE_ENTRY}
-use Rattle.crn_vec.specs.Vectors.{Mat, entry, dot}
-use Rattle.crn_vec.specs.Sums.{label_marks}
-use Rattle.crn_vec.specs.Confluence.{IsNonzero, LeadsPositive}
-use Rattle.crn_vec.proofs.CallerLemmas.{lt_or, entry-neg, dot-neg}
-use Rattle.crn_reg.specs.Inner.Spaces.{IsKeptSolution, IsFirstPlace}
-use Rattle.crn_reg.specs.Inner.Normal.{IsSameOrNegative, class_sum, AreZeroBefore, IsFirstSum, GathersFirst, IsFirstEntry}
+use Rattle.crn_reg.proofs.Prelude.{◌≡◌, ◌≢◌, ℕ, zero, suc, ◌<◌, ◌⊎◌, inl, inr, List, [], ◌∷◌, length, map, refl, sym, ap, subst, ◌∙◌, arith, ℤ, pos, negsuc, neg_ℤ, ◌≤ℤ◌, unsigned_abs, ◌∣◌, ints, length-map, ext_get_or, WIDE_ENTRY, Mat, entry, dot, label_marks, IsNonzero, LeadsPositive, lt_or, entry-neg, dot-neg, IsKeptSolution, IsFirstPlace, IsSameOrNegative, class_sum, AreZeroBefore, IsFirstSum, GathersFirst, IsFirstEntry}
 
 -- ---- the negative of a list
 

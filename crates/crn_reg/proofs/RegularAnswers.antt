@@ -1,33 +1,5 @@
 -- The answers on regularity, in the words of the definitions and of the tests.
-use Rattle.std.proofs.Common.{◌≡◌, ◌⊎◌, ℕ, suc, ◌-◌, ◌≤◌, ◌&&◌, List, [], ◌∷◌, length, refl, sym, ap, subst, ◌∙◌, inl, inr, arith}
-use Rattle.std.specs.Prelude.{ℤ}
-use Rattle.std.specs.List.{AllByRecursion, AllZip, range_with_len}
-use Rattle.crn_vec.specs.Kept.{KeptInts, KeptNums}
-use Rattle.crn_vec.specs.Lists.{IsIn}
-use Rattle.crn_vec.specs.Network.{Net, IsNetwork}
-use Rattle.crn_vec.specs.CutPairs.{IsTerminalPair, IsCutPair, ArePairs}
-use Rattle.crn_vec.specs.Deficiency.{IsLabelled, HasOneTerminalEach, IsPositivelyDependent, IsFirstSplitClass}
-use Rattle.crn_vec.proofs.CallerLemmas.{and_cases, all_from, zip_long, map_in, filter_from}
-use Rattle.crn_cert.specs.declared.answer.Gap.{Gap}
-use Rattle.crn_cert.specs.declared.answer.Gap.TheVariants.{Rests}
-use Rattle.crn_cert.specs.declared.answer.Verdict.{Verdict}
-use Rattle.crn_cert.specs.declared.answer.Verdict.TheVariants.{Strong, Yes, YesVec, NoVec, NoTerminal, NoDependence, NoCycle, Unknown}
-use Rattle.crn_cert.specs.declared.answer.Proof.TheVariants.{Sides}
-use Rattle.crn_cert.specs.Verdicts.{tight}
-use Rattle.crn_cert.specs.Questions.{Earlier, Q2, Q7, Q11, on, IsOpen, IsYes, IsNo}
-use Rattle.crn_cert.specs.Ranges.{IsFrom, AreBits}
-use Rattle.crn_cert.specs.Says.{AreStrongClasses, IsCycle, from_zero}
-use Rattle.crn_cert.specs.Tests.{AllHold}
-use Rattle.crn_cert.specs.ClassTests.{AreSideMarks}
-use Rattle.crn_cert.specs.Parts.{AreSides}
-use Rattle.crn_cert.specs.Valid.{linkage, linkage_count, exits, ends_at, is_within_terminal, is_least_of_pair, pair_places, side_tests, HaveOneEach, IsFirstSplit}
-use Rattle.crn_cert.specs.Law.{IsTrueOrOpen}
-use Rattle.crn_cert.specs.Answered.{IsAnswer}
-use Rattle.crn_cert.specs.Given.{GiveClasses}
-use Rattle.crn_cert.proofs.CallerLemmas.{pair_places_are_pairs, range_bounds, sides_are_formed}
-use Rattle.crn_graph.specs.Pair.{HasSide, HasWayRound}
-use Rattle.crn_pairs.specs.Pairs.{pairs_to, is_pair}
-use Rattle.crn_reg.specs.Inner.Verdicts.{plain, by_dependence}
+use Rattle.crn_reg.proofs.Prelude.{◌≡◌, ◌⊎◌, ℕ, suc, ◌-◌, ◌≤◌, ◌&&◌, List, [], ◌∷◌, length, refl, sym, ap, subst, ◌∙◌, inl, inr, arith, ℤ, AllByRecursion, AllZip, range_with_len, KeptInts, KeptNums, IsIn, Net, IsNetwork, IsTerminalPair, IsCutPair, ArePairs, IsLabelled, HasOneTerminalEach, IsPositivelyDependent, IsFirstSplitClass, and_cases, all_from, zip_long, map_in, filter_from, Gap, Rests, Verdict, Strong, Yes, YesVec, NoVec, NoTerminal, NoDependence, NoCycle, Unknown, Sides, tight, Earlier, Q2, Q7, Q11, on, IsOpen, IsYes, IsNo, IsFrom, AreBits, AreStrongClasses, IsCycle, from_zero, AllHold, AreSideMarks, AreSides, linkage, linkage_count, exits, ends_at, is_within_terminal, is_least_of_pair, pair_places, side_tests, HaveOneEach, IsFirstSplit, IsTrueOrOpen, IsAnswer, GiveClasses, pair_places_are_pairs, range_bounds, sides_are_formed, HasSide, HasWayRound, pairs_to, is_pair, plain, by_dependence}
 use Rattle.crn_reg.proofs.FirstPairs.{all_cut_pairs}
 
 -- ---- pairs

@@ -1,15 +1,5 @@
 -- The rows of the confluence system one after another in a list.
-use Rattle.std.proofs.Common.{◌≡◌, ℕ, suc, ◌+◌, ◌*◌, ◌<◌, ◌≤◌, ◌==◌, get_or, inl, inr, List, [], ◌∷◌, ◌++◌, length, map, take, drop, append_assoc, refl, sym, ap, ap₂, ◌∙◌, arith}
-use Rattle.std.specs.Prelude.{ℤ, pos, if◌then◌else◌}
-use Rattle.std.specs.List.{flat_map, range_with_len}
-use Rattle.std.proofs.lemmas.List.{length-append, length-map}
-use Rattle.std.proofs.lemmas.List.FromFn.{length-range_with_len}
-use Rattle.std.proofs.Math.Seq.{take-append_seam}
-use Rattle.crn_vec.specs.Lists.{IsIn}
-use Rattle.crn_vec.specs.Network.{Net, IsNetwork}
-use Rattle.crn_vec.specs.Sums.{label_marks}
-use Rattle.crn_vec.proofs.CallerLemmas.{length-column, inside_at, reaction_in, drop_seam, length-rows_after}
-use Rattle.crn_vec.specs.Vectors.{rows_of, column}
+use Rattle.crn_reg.proofs.Prelude.{◌≡◌, ℕ, suc, ◌+◌, ◌*◌, ◌<◌, ◌≤◌, ◌==◌, get_or, inl, inr, List, [], ◌∷◌, ◌++◌, length, map, take, drop, append_assoc, refl, sym, ap, ap₂, ◌∙◌, arith, ℤ, pos, if◌then◌else◌, flat_map, range_with_len, length-append, length-map, length-range_with_len, take-append_seam, IsIn, Net, IsNetwork, label_marks, length-column, inside_at, reaction_in, drop_seam, length-rows_after, rows_of, column}
 
 -- the rows of lists one after another, and then of others, are these lists and then those of the others
 pub rows_then : (n m : ℕ) (f : ℕ → List ℤ) (rs : List ℕ) (ys : List ℤ) → ((r : ℕ) → IsIn r rs → length (f r) ≡ n) → rows_of (length rs + m) n (flat_map f rs ++ ys) ≡ map f rs ++ rows_of m n ys

@@ -1,9 +1,5 @@
 -- One side more.
-use Rattle.std.proofs.Common.{ℕ, List, [], ◌∷◌, ◌++◌}
-use Rattle.std.specs.Prelude.{ℤ}
-use Rattle.std.specs.List.{AllZip}
-use Rattle.crn_vec.specs.Network.{Net}
-use Rattle.crn_graph.specs.Pair.{HasSide}
+use Rattle.crn_reg.proofs.Prelude.{ℕ, List, [], ◌∷◌, ◌++◌, ℤ, AllZip, Net, HasSide}
 
 pub sides_push : (net : Net) (rs : List ℕ) (sides : List (List ℤ)) (r : ℕ) (marks : List ℤ) → AllZip (HasSide net) rs sides → HasSide net r marks → AllZip (HasSide net) (rs ++ r ∷ []) (sides ++ marks ∷ [])
 sides_push net [] [] r marks h s = (s, tt)

@@ -1,29 +1,6 @@
 -- The solutions of the confluence system are the confluence space, and their sums over terminal classes.
-use Rattle.std.proofs.Common.{◌≡◌, ◌≢◌, ℕ, zero, suc, ◌+◌, ◌-◌, ◌<◌, ◌≤◌, ◌⊎◌, inl, inr, List, [], length, get_or, map, Bool, false, refl, sym, ap, subst, ◌∙◌, arith}
-use Rattle.std.specs.Prelude.{ℤ, pos, negsuc, neg_ℤ, ◌*ℤ◌, ◌≤ℤ◌, ◌<ℤ◌, IsTrue}
-use Rattle.std.proofs.lemmas.Bool.{cases_Bool}
-use Rattle.std.specs.List.{range_with_len}
-use Rattle.std.proofs.lemmas.Int.{ints}
-use Rattle.std.proofs.lemmas.List.{length-append, length-map}
-use Rattle.std.proofs.lemmas.List.FromFn.{length-range_with_len}
+use Rattle.crn_reg.proofs.Prelude.{◌≡◌, ◌≢◌, ℕ, zero, suc, ◌+◌, ◌-◌, ◌<◌, ◌≤◌, ◌⊎◌, inl, inr, List, [], length, get_or, map, Bool, false, refl, sym, ap, subst, ◌∙◌, arith, ℤ, pos, negsuc, neg_ℤ, ◌*ℤ◌, ◌≤ℤ◌, ◌<ℤ◌, IsTrue, cases_Bool, range_with_len, ints, length-append, length-map, length-range_with_len, Net, IsNetwork, IsIn, SameClass, IsLabelCount, AreLabelsOf, entry, dot, column, AreProportional, SameStrong, IsTerminal, IsWeaklyReversible, SumsTo, label_marks, by_species, confluence_system, IsRegular, InConfluenceSpace, IsNonzero, HasConfluenceLine, IsConfluenceVector, AreConfluencesOne, negative, lt_or, past_end, in_left, in_right, in_cases, in_map, map_in, vector_long, entry-column, length-column, dot-comm, dot_zero, dot_ratio, dot-scale, no_zero, mul-neg, pos_pos, label_sum, label_sum_is, confluence_vectors_are_one, neg-mul, up_up, in_range, AreLinkageClasses, AreStrongClasses, IsInSpace, DoTerminalsGather, range_bounds, IsSolution, class_sum, AreZeroBefore, GathersFirst}
 use lib.IntN.{*ℤ_comm, *ℤ-zero, zero-*ℤ}
-use Rattle.crn_vec.specs.Network.{Net, IsNetwork}
-use Rattle.crn_vec.specs.Lists.{IsIn}
-use Rattle.crn_vec.specs.Linkage.{SameClass, IsLabelCount}
-use Rattle.crn_vec.specs.Walks.{AreLabelsOf}
-use Rattle.crn_vec.specs.Vectors.{entry, dot, column}
-use Rattle.crn_vec.specs.Elementary.{AreProportional}
-use Rattle.crn_vec.specs.Strong.{SameStrong, IsTerminal, IsWeaklyReversible}
-use Rattle.crn_vec.specs.Sums.{SumsTo, label_marks}
-use Rattle.crn_vec.specs.NetSystems.{by_species, confluence_system}
-use Rattle.crn_vec.specs.Confluence.{IsRegular, InConfluenceSpace, IsNonzero, HasConfluenceLine, IsConfluenceVector, AreConfluencesOne, negative}
-use Rattle.crn_vec.proofs.CallerLemmas.{lt_or, past_end, in_left, in_right, in_cases, in_map, map_in, vector_long, entry-column, length-column, dot-comm, dot_zero, dot_ratio, dot-scale, no_zero, mul-neg, pos_pos, label_sum, label_sum_is, confluence_vectors_are_one}
-use Rattle.crn_vec.proofs.CallerLemmas.{neg-mul, up_up, in_range}
-use Rattle.crn_cert.specs.Says.{AreLinkageClasses, AreStrongClasses}
-use Rattle.crn_cert.specs.ConfluenceTests.{IsInSpace, DoTerminalsGather}
-use Rattle.crn_cert.proofs.CallerLemmas.{range_bounds}
-use Rattle.crn_reg.specs.Inner.Spaces.{IsSolution}
-use Rattle.crn_reg.specs.Inner.Normal.{class_sum, AreZeroBefore, GathersFirst}
 
 -- ---- the rows of the system
 

@@ -1,9 +1,5 @@
 -- The words of all verdicts, one after another.
-use Rattle.std.proofs.Common.{◌≡◌, ◌<◌, ◌+◌, ℕ, suc, List, ◌++◌, length, get_or, take, drop, ap, ◌∙◌, codes}
-use Rattle.crn_io.proofs.CallerLemmas.{flat_map_step, flat_map_whole}
-use Rattle.crn_cert.specs.declared.answer.Verdict.{Verdict}
-use Rattle.crn_cert.specs.declared.answer.Verdict.TheVariants.{NotApplicable}
-use Rattle.crn_render.specs.Summary.{brief, briefs}
+use Rattle.crn_render.proofs.Prelude.{◌≡◌, ◌<◌, ◌+◌, ℕ, suc, List, ◌++◌, length, get_or, take, drop, ap, ◌∙◌, codes, flat_map_step, flat_map_whole, Verdict, NotApplicable, brief, briefs}
 
 -- one word more
 pub briefs_step : (vs : List Verdict) (i : ℕ) (v : Verdict) → i < length vs → get_or vs i NotApplicable ≡ v → briefs (take (i + 1) vs) ≡ briefs (take i vs) ++ (codes " " ++ brief v)

@@ -1,14 +1,6 @@
 -- The lines of classes that a loop writes, and the members of a class.
-use Rattle.std.proofs.Common.{◌≡◌, ◌≢◌, ℕ, zero, suc, ◌+◌, ◌<◌, ◌==◌, List, [], ◌∷◌, ◌++◌, length, take, drop, get_or, refl, sym, ap, ◌∙◌, append_assoc, add-one, add-zero, zero-add, ◌-◌, arith}
-use Rattle.std.proofs.lemmas.List.{get_or-map, append-nil, length-append, length-map}
-use Rattle.std.proofs.lemmas.Bool.Decides.{nat_tests}
-use Rattle.std.specs.List.{flat_map, AllByRecursion}
-use Rattle.std.specs.Prelude.{codes, if◌then◌else◌}
-use Rattle.crn_vec.specs.Network.{Net}
-use Rattle.crn_io.specs.Joined.{joined, with_separator}
-use Rattle.crn_io.proofs.CallerLemmas.{joined_push, joined_more}
-use Rattle.crn_text.specs.Canonical.{side, complex_text}
-use Rattle.crn_render.specs.Details.{complex_texts, of_label, lines_from}
+use Rattle.crn_render.proofs.Prelude.{◌≡◌, ◌≢◌, ℕ, zero, suc, ◌+◌, ◌<◌, ◌==◌, List, [], ◌∷◌, ◌++◌, length, take, drop, get_or, refl, sym, ap, ◌∙◌, append_assoc, add-one, add-zero, zero-add, ◌-◌, arith, get_or-map, append-nil, length-append, length-map, nat_tests, flat_map, AllByRecursion, if◌then◌else◌, Net, joined, with_separator, joined_push, joined_more, side, complex_text, complex_texts, of_label, lines_from}
+use Rattle.std.specs.Prelude.{codes}
 
 -- ---- the sides of a network
 

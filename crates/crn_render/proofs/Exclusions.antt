@@ -1,15 +1,5 @@
 -- Verdicts on one question that exclude each other.
-use Rattle.std.proofs.Common.{◌≡◌, ◌-◌, ℕ, List, sym, ◌∙◌, ap, refl, arith}
-use Rattle.std.proofs.lemmas.Int.{ints}
-use Rattle.std.specs.Prelude.{Bool, true, false, IsTrue, ◌↔◌, ℤ, sum}
-use Rattle.crn_vec.specs.Network.{Net}
-use Rattle.crn_vec.specs.Rank.{IsZero}
-use Rattle.crn_vec.specs.Elementary.{AreProportional}
-use Rattle.crn_vec.specs.Strong.{IsReversible, StaysStrong, ReactsTo}
-use Rattle.crn_vec.specs.Deficiency.{IsDeficiencyOne, HasOtherSum}
-use Rattle.crn_vec.specs.Confluence.{HasConfluenceLine, HasNoConfluence}
-use Rattle.crn_vec.proofs.CallerLemmas.{reaction_in}
-use Rattle.crn_cert.specs.Says.{IsReactionNumber, HasNoReverse, LeavesStrongClass, IsPlane}
+use Rattle.crn_render.proofs.Prelude.{◌≡◌, ◌-◌, ℕ, List, sym, ◌∙◌, ap, refl, arith, ints, Bool, true, false, IsTrue, ◌↔◌, ℤ, sum, Net, IsZero, AreProportional, IsReversible, StaysStrong, ReactsTo, IsDeficiencyOne, HasOtherSum, HasConfluenceLine, HasNoConfluence, reaction_in, IsReactionNumber, HasNoReverse, LeavesStrongClass, IsPlane}
 use Rattle.crn_render.proofs.OneNumbers.{total_one, classes_one}
 
 -- ---- reversibility

@@ -1,7 +1,6 @@
 -- The numbers and names of the refusals of a network text.
-use Rattle.std.proofs.Common.{refl}
-use Rattle.crn_text.specs.declared.fault.TextCode.TheVariants.{SelfReaction, TooManySpecies, TooManyComplexes, TooManyReactions, NoReaction, NoMemory, NotAscii, NoArrow, EmptySide, BadName, NameTooLong, ZeroCoefficient, CoefficientTooLarge, StrayMark, TextTooLong}
-use Rattle.crn_render.specs.Faults.{TextCodesHaveTheirNames}
+use Rattle.crn_render.proofs.Prelude.{refl, SelfReaction, TooManySpecies, TooManyComplexes, TooManyReactions, NoMemory, NotAscii, NoArrow, EmptySide, BadName, NameTooLong, ZeroCoefficient, CoefficientTooLarge, StrayMark, TextTooLong, TextCodesHaveTheirNames}
+use Rattle.crn_text.specs.declared.fault.TextCode.TheVariants.{NoReaction}
 
 pub text_codes_have_their_names : TextCodesHaveTheirNames
 text_codes_have_their_names SelfReaction = refl

@@ -1,39 +1,7 @@
 -- Formed answers have short verdicts, so their reports are short.
-use Rattle.std.proofs.Common.{◌≡◌, ◌⊎◌, ◌+◌, ◌-◌, ◌*◌, ◌^◌, ◌<◌, ◌≤◌, ◌==◌, ◌++◌, ◌&&◌, ℕ, zero, suc, Bool, true, false, inl, inr, List, [], ◌∷◌, length, map, get_or, refl, ap, ◌∙◌, arith}
-use Rattle.std.specs.Prelude.{min, ℤ, pos, negsuc, ◌*ℤ◌, ◌+ℤ◌, ◌-ℤ◌, unsigned_abs}
-use Rattle.std.specs.List.{AllByRecursion, range_with_len}
-use Rattle.std.proofs.lemmas.Bool.{cases_Bool, eqb-true}
-use Rattle.std.proofs.lemmas.Int.{ints}
-use Rattle.std.proofs.lemmas.List.{length-map}
-use Rattle.std.proofs.lemmas.List.FromFn.{length-range_with_len}
-use Rattle.std.proofs.Math.Nat.{suc-mul}
-use Rattle.crn_vec.specs.declared.limits.TheConstants.{MAX_BUDGET}
-use Rattle.crn_vec.specs.Network.{Net, IsNetwork, IsAmount, IsVector, minus, reaction_vector}
-use Rattle.crn_vec.specs.Vectors.{entry, dot, column}
-use Rattle.crn_vec.specs.Deficiency.{vectors}
-use Rattle.crn_vec.proofs.CallerLemmas.{all_from, all_given, all_in, entry-column, filter_few, length-column, lt_or, past_end, product_within, range_bounds, sum_within, vector_at, vectors_count}
-use Rattle.crn_cert.specs.Questions.{Earlier, Question, Q1, Q2, Q3, Q4, Q5, Q6, Q7, Q8, Q9, Q10, Q11, Q12, Q13, Q14, Q15, number, on, count_of, terminal_of, has_vector}
-use Rattle.crn_cert.specs.Ranges.{IsFrom, IsNarrow, AreFrom, AreFree}
-use Rattle.crn_cert.specs.Says.{IsTurn}
-use Rattle.crn_cert.specs.Valid.{linkage, linkage_count, class_places, pair_places, ends_at, is_within_terminal, is_least_of_pair}
-use Rattle.crn_cert.specs.Data.{Num, IsBasisOf}
-use Rattle.crn_cert.specs.Table.{sizes_of}
-use Rattle.crn_cert.specs.Blocks.{FitsHead}
-use Rattle.crn_cert.specs.Parts.{AreSignalRows}
-use Rattle.crn_cert.specs.Formed.{HeadMayBe, IsWideGap, AreFormed}
-use Rattle.crn_cert.specs.FormedVerdicts.{IsBaseList, ListsMayBe}
+use Rattle.crn_render.proofs.Prelude.{◌≡◌, ◌⊎◌, ◌+◌, ◌-◌, ◌*◌, ◌^◌, ◌<◌, ◌≤◌, ◌==◌, ◌++◌, ◌&&◌, ℕ, zero, suc, inl, inr, List, [], ◌∷◌, length, get_or, refl, ap, ◌∙◌, arith, min, ℤ, pos, negsuc, ◌*ℤ◌, ◌+ℤ◌, ◌-ℤ◌, unsigned_abs, AllByRecursion, range_with_len, cases_Bool, eqb-true, ints, length-map, length-range_with_len, suc-mul, MAX_BUDGET, Net, IsNetwork, IsAmount, IsVector, minus, reaction_vector, entry, dot, column, vectors, all_from, all_given, all_in, entry-column, filter_few, length-column, lt_or, past_end, product_within, range_bounds, sum_within, vector_at, vectors_count, Earlier, Question, Q1, Q2, Q3, Q4, Q5, Q6, Q7, Q8, Q9, Q10, Q11, Q12, Q13, Q14, Q15, number, on, count_of, terminal_of, has_vector, IsFrom, IsNarrow, AreFrom, AreFree, IsTurn, linkage, linkage_count, class_places, pair_places, ends_at, is_within_terminal, is_least_of_pair, Num, IsBasisOf, sizes_of, FitsHead, AreSignalRows, HeadMayBe, IsWideGap, AreFormed, IsBaseList, ListsMayBe, formed_answers_have_formed_verdicts, verdicts_of, tight, built, Gap, Wide, Budget, Rests, Verdict, Classes, Strong, Rank, Deficiency, Yes, YesWeak, YesVec, YesSignal, No, NoReaction, NoVec, NoNumber, NoTerminal, NoClass, NoSum, NoDependence, NoCycle, NoPair, NotRegular, OnlyZero, Plane, NotApplicable, Unknown, Answer, sigma, ReportsAreShort}
+use Rattle.std.proofs.Common.{Bool, true, false, map}
 use Rattle.crn_cert.specs.declared.head_kind.HeadKind.TheVariants as head
-use Rattle.crn_cert.proofs.CallerLemmas.{formed_answers_have_formed_verdicts}
-use Rattle.crn_cert.specs.Answers.{verdicts_of}
-use Rattle.crn_cert.specs.Verdicts.{tight}
-use Rattle.crn_cert.specs.Built.{built}
-use Rattle.crn_cert.specs.declared.answer.Gap.{Gap}
-use Rattle.crn_cert.specs.declared.answer.Gap.TheVariants.{Wide, Budget, Rests}
-use Rattle.crn_cert.specs.declared.answer.Verdict.{Verdict}
-use Rattle.crn_cert.specs.declared.answer.Verdict.TheVariants.{Classes, Strong, Rank, Deficiency, Yes, YesWeak, YesVec, YesSignal, No, NoReaction, NoVec, NoNumber, NoTerminal, NoClass, NoSum, NoDependence, NoCycle, NoPair, NotRegular, OnlyZero, Plane, NotApplicable, Unknown}
-use Rattle.crn_cert.specs.declared.answer.Answer.{Answer}
-use Rattle.crn_render.specs.Details.{sigma}
-use Rattle.crn_render.specs.Length.{ReportsAreShort}
 use Rattle.crn_render.proofs.SumEntries.{sigma_count, sigma_entry}
 use Rattle.crn_render.proofs.Lengths.{AreShort, AreShortCounts, IsShort, IsShortGap, IsShortNumber, short_reports}
 

@@ -12,3 +12,4 @@ mod WorkedRows
 mod Lengths
 mod FormedShort
 mod ShortLines
+mod Prelude

@@ -1,18 +1,7 @@
 -- Two verdicts that are true of one network have one line.
 -- For each question and each verdict that may be true of a network, a table goes through the other one.
-use Rattle.std.proofs.Common.{◌≡◌, ℕ, List, ◌++◌, ap, ap₂, refl}
-use Rattle.std.specs.Prelude.{Bool, ℤ, codes, decimal, map}
-use Rattle.crn_vec.specs.Kept.{KeptInts, KeptNums}
-use Rattle.crn_vec.specs.Network.{Net}
-use Rattle.crn_vec.specs.Concordance.{sign}
-use Rattle.crn_vec.specs.Deficiency.{vectors}
-use Rattle.crn_vec.proofs.CallerLemmas.{deficiency_is_one, rank_is_one_number}
-use Rattle.crn_cert.specs.Questions.{Question, Q1, Q2, Q3, Q4, Q5, Q6, Q7, Q8, Q9, Q10, Q11, Q12, Q13, Q14, Q15}
-use Rattle.crn_cert.specs.Says.{IsTrueOf, by_turn, SaysLinkageClasses, SaysStrongClasses, SaysReversible, SaysWeaklyReversible, SaysRank, SaysDeficiency, SaysPositivelyDependent, SaysConservative, SaysDeficiencyZero, SaysDeficiencyOne, SaysRegular, SaysConfluence, SaysSignal, SaysConcordant, SaysStronglyConcordant}
-use Rattle.crn_cert.specs.declared.answer.Verdict.{Verdict}
-use Rattle.crn_cert.specs.declared.answer.Verdict.TheVariants.{Classes, Deficiency, No, NoClass, NoCycle, NoDependence, NoNumber, NoPair, NoReaction, NoSum, NoTerminal, NoVec, NotApplicable, NotRegular, OnlyZero, Plane, Rank, Strong, Yes, YesSignal, YesVec, YesWeak}
-use Rattle.crn_render.specs.Words.{title, numbers_text, weak_words, verdict_words}
-use Rattle.crn_render.specs.Titles.{AreTwoReasons, TrueVerdictsHaveOneLine}
+use Rattle.crn_render.proofs.Prelude.{◌≡◌, ℕ, List, ◌++◌, ap, ap₂, refl, Bool, ℤ, decimal, map, KeptInts, KeptNums, Net, sign, vectors, deficiency_is_one, rank_is_one_number, Question, Q1, Q2, Q3, Q4, Q5, Q6, Q7, Q8, Q9, Q10, Q11, Q12, Q13, Q14, Q15, IsTrueOf, by_turn, SaysLinkageClasses, SaysStrongClasses, SaysReversible, SaysWeaklyReversible, SaysRank, SaysDeficiency, SaysPositivelyDependent, SaysConservative, SaysDeficiencyZero, SaysDeficiencyOne, SaysRegular, SaysConfluence, SaysSignal, SaysConcordant, SaysStronglyConcordant, Verdict, Classes, Deficiency, No, NoClass, NoCycle, NoDependence, NoNumber, NoPair, NoReaction, NoSum, NoTerminal, NoVec, NotApplicable, NotRegular, OnlyZero, Plane, Rank, Strong, Yes, YesSignal, YesVec, YesWeak, title, numbers_text, weak_words, verdict_words, AreTwoReasons, TrueVerdictsHaveOneLine}
+use Rattle.std.specs.Prelude.{codes}
 use Rattle.crn_render.proofs.OneNumbers.{linkage_one, strong_one, terminal_one, one_is_not_several, split_one, split_count_one, total_one, classes_one, small_is_not_large, large_one, large_number_one}
 use Rattle.crn_render.proofs.Exclusions.{reverse_or_not, stays_or_not, tests_one, sum_is_other, sums_one, line_is_not_zero, plane_is_not_zero}
 

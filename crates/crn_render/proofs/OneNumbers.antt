@@ -1,16 +1,5 @@
 -- Numbers and lists that verdicts say of a network are one.
-use Rattle.std.proofs.Common.{◌≡◌, ◌≤◌, ◌<◌, ◌+◌, ◌-◌, ℕ, List, [], length, get_or, sym, ◌∙◌, ap, refl, inl, inr, arith}
-use Rattle.std.specs.Prelude.{slice_index}
-use Rattle.std.proofs.lemmas.Bool.{cases_lt}
-use Rattle.std.proofs.lemmas.Grind.{same_number_lists}
-use Rattle.crn_vec.specs.Network.{Net}
-use Rattle.crn_vec.specs.Linkage.{SameClass}
-use Rattle.crn_vec.specs.Walks.{IsNumberOf}
-use Rattle.crn_vec.specs.Strong.{SameStrong, IsTerminal}
-use Rattle.crn_vec.specs.Deficiency.{IsComplex, IsLabelled, AreDeficiencies, IsClassDeficiency, class_vectors, HasTerminalClasses, HasOneTerminalEach, IsFirstSplitClass, IsFirstLargeClass, AreAtMostOne}
-use Rattle.crn_vec.proofs.CallerLemmas.{all_at, number_is_one, deficiency_is_one, rank_is_one_number, class_then, class_back, strong_then, strong_back}
-use Rattle.crn_cert.specs.Says.{AreLinkageClasses, AreStrongClasses}
-use Rattle.crn_graph.proofs.CallerLemmas.{one_labels, one_strong_labels, one_count}
+use Rattle.crn_render.proofs.Prelude.{◌≡◌, ◌≤◌, ◌<◌, ◌+◌, ◌-◌, ℕ, List, [], length, get_or, sym, ◌∙◌, ap, refl, inl, inr, arith, slice_index, cases_lt, same_number_lists, Net, SameClass, IsNumberOf, SameStrong, IsTerminal, IsComplex, IsLabelled, AreDeficiencies, IsClassDeficiency, class_vectors, HasTerminalClasses, HasOneTerminalEach, IsFirstSplitClass, IsFirstLargeClass, AreAtMostOne, all_at, number_is_one, deficiency_is_one, rank_is_one_number, class_then, class_back, strong_then, strong_back, AreLinkageClasses, AreStrongClasses, one_labels, one_strong_labels, one_count}
 
 -- ---- classes
 

@@ -1,21 +1,5 @@
 -- What a report reads of formed verdicts is inside their lists and the network.
-use Rattle.std.proofs.Common.{◌≡◌, ◌≤◌, ◌<◌, ◌+◌, ◌-◌, ℕ, zero, suc, List, [], ◌∷◌, ◌++◌, length, get_or, sym, ap, ap₂, arith, ◌∙◌, refl, take, drop, take_all, add-one, Some}
-use Rattle.std.specs.Prelude.{slice_get}
-use Rattle.std.proofs.lemmas.Option.{get_or_from_slice_get}
-use Rattle.std.specs.List.{flat_map, zip}
-use Rattle.std.proofs.lemmas.Slice.Zip.{get_or-zip, length-zip}
-use Rattle.crn_io.proofs.CallerLemmas.{flat_map_step, flat_map_whole}
-use Rattle.crn_vec.specs.Kept.{KeptInts, KeptNums}
-use Rattle.crn_vec.specs.Network.{Net}
-use Rattle.crn_cert.specs.Built.{built}
-use Rattle.crn_cert.specs.Verdicts.{tight}
-use Rattle.crn_cert.specs.FormedVerdicts.{IsFormedVerdict, AreFormedVerdicts}
-use Rattle.crn_cert.proofs.CallerLemmas.{numbered}
-use Rattle.crn_cert.specs.Questions.{Earlier, Question, number, Q1, Q2, Q3, Q4, Q11, Q14, Q15}
-use Rattle.crn_cert.specs.declared.answer.Verdict.{Verdict}
-use Rattle.crn_cert.specs.declared.answer.Verdict.TheVariants.{Classes, Strong, NoReaction, NoCycle, NoPair, NotApplicable, Unknown}
-use Rattle.crn_render.specs.Inner.Reading.{question_at, IsReadable}
-use Rattle.crn_render.specs.Report.{question_lines, all_lines, one_if_open, open_count}
+use Rattle.crn_render.proofs.Prelude.{◌≡◌, ◌≤◌, ◌<◌, ◌+◌, ◌-◌, ℕ, zero, suc, List, [], ◌∷◌, ◌++◌, length, get_or, sym, ap, ap₂, arith, ◌∙◌, refl, take, drop, take_all, add-one, Some, slice_get, get_or_from_slice_get, flat_map, zip, get_or-zip, length-zip, flat_map_step, flat_map_whole, KeptInts, KeptNums, Net, built, tight, IsFormedVerdict, AreFormedVerdicts, numbered, Earlier, Question, number, Q1, Q2, Q3, Q4, Q11, Q14, Q15, Verdict, Classes, Strong, NoReaction, NoCycle, NoPair, NotApplicable, Unknown, question_at, IsReadable, question_lines, all_lines, one_if_open, open_count}
 
 -- ---- one verdict
 

@@ -1,20 +1,7 @@
 -- Summaries of formed answers and lines of faults are short.
-use Rattle.std.proofs.Common.{◌≡◌, ◌+◌, ◌*◌, ◌^◌, ◌<◌, ◌≤◌, ◌==◌, ◌++◌, ℕ, inl, inr, List, [], ◌∷◌, length, rules, arith}
-use Rattle.std.specs.Prelude.{codes, decimal}
-use Rattle.std.specs.List.{AllByRecursion}
-use Rattle.std.proofs.lemmas.Bool.{cases_Bool}
-use Rattle.std.proofs.lemmas.List.{length-append}
-use Rattle.crn_vec.specs.Network.{Net, IsNetwork}
-use Rattle.crn_io.specs.declared.lines.TheConstants.{MAX_DOCUMENT}
-use Rattle.crn_text.specs.declared.fault.TextCode.{TextCode}
-use Rattle.crn_text.specs.declared.fault.TextCode.TheVariants.{SelfReaction, TooManySpecies, TooManyComplexes, TooManyReactions, NoReaction, NoMemory, NotAscii, NoArrow, EmptySide, BadName, NameTooLong, ZeroCoefficient, CoefficientTooLarge, StrayMark, TextTooLong}
-use Rattle.crn_text.specs.Codes.{code_number, code_name}
-use Rattle.crn_cert.specs.Answers.{verdicts_of}
-use Rattle.crn_cert.specs.declared.answer.Verdict.{Verdict}
-use Rattle.crn_cert.specs.declared.answer.Verdict.TheVariants.{Classes, Strong, Rank, Deficiency, Yes, YesWeak, YesVec, YesSignal, No, NoReaction as NoReactionVerdict, NoVec, NoNumber, NoTerminal, NoClass, NoSum, NoDependence, NoCycle, NoPair, NotRegular, OnlyZero, Plane, NotApplicable, Unknown}
-use Rattle.crn_render.specs.Faults.{fault_line, document_codes, document_name, name_beside}
-use Rattle.crn_render.specs.Length.{FaultLinesAreShort, SummariesAreShort}
-use Rattle.crn_render.specs.Summary.{accepted_line, brief, briefs, sample_line, summary, verdicts_line}
+use Rattle.crn_render.proofs.Prelude.{◌≡◌, ◌+◌, ◌*◌, ◌^◌, ◌<◌, ◌≤◌, ◌==◌, ◌++◌, ℕ, inl, inr, List, [], ◌∷◌, length, rules, arith, decimal, AllByRecursion, cases_Bool, length-append, Net, IsNetwork, MAX_DOCUMENT, TextCode, SelfReaction, TooManySpecies, TooManyComplexes, TooManyReactions, NoMemory, NotAscii, NoArrow, EmptySide, BadName, NameTooLong, ZeroCoefficient, CoefficientTooLarge, StrayMark, TextTooLong, code_number, code_name, verdicts_of, Verdict, Classes, Strong, Rank, Deficiency, Yes, YesWeak, YesVec, YesSignal, No, NoReactionVerdict, NoVec, NoNumber, NoTerminal, NoClass, NoSum, NoDependence, NoCycle, NoPair, NotRegular, OnlyZero, Plane, NotApplicable, Unknown, fault_line, document_codes, document_name, name_beside, FaultLinesAreShort, SummariesAreShort, accepted_line, brief, briefs, sample_line, summary, verdicts_line}
+use Rattle.std.specs.Prelude.{codes}
+use Rattle.crn_text.specs.declared.fault.TextCode.TheVariants.{NoReaction}
 use Rattle.crn_render.proofs.FormedShort.{verdicts_short}
 use Rattle.crn_render.proofs.Lengths.{IsShort, count_most, decimal_most, four, six, three}
 

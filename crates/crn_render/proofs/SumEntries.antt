@@ -1,13 +1,5 @@
 -- The entries of the sum of the reaction vectors with weights.
-use Rattle.std.proofs.Common.{◌≡◌, ◌<◌, ◌∙◌, ℕ, List, [], length, get_or, ap, arith}
-use Rattle.std.specs.Prelude.{ℤ, pos, map}
-use Rattle.std.specs.List.{range_with_len}
-use Rattle.std.proofs.lemmas.List.{get_or-map, length-map}
-use Rattle.std.proofs.lemmas.List.FromFn.{get_or-range_with_len, length-range_with_len}
-use Rattle.crn_vec.specs.Network.{Net}
-use Rattle.crn_vec.specs.Vectors.{dot, column}
-use Rattle.crn_vec.specs.Deficiency.{vectors}
-use Rattle.crn_render.specs.Details.{sigma}
+use Rattle.crn_render.proofs.Prelude.{◌≡◌, ◌<◌, ◌∙◌, ℕ, List, [], length, get_or, ap, arith, ℤ, pos, map, range_with_len, get_or-map, length-map, get_or-range_with_len, length-range_with_len, Net, dot, column, vectors, sigma}
 
 -- the sum has an entry for each species
 pub sigma_count : (net : Net) (weights : List ℤ) → length (sigma net weights) ≡ length net.names

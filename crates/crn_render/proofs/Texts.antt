@@ -1,10 +1,5 @@
 -- Texts that a loop writes: the members of a list, one after another.
-use Rattle.std.proofs.Common.{◌≡◌, ℕ, suc, ◌+◌, ◌<◌, ◌≤◌, List, [], ◌++◌, length, take, drop, get_or, ap, ◌∙◌, arith, take_all}
-use Rattle.std.proofs.lemmas.List.{get_or-map, length-map}
-use Rattle.std.specs.List.{flat_map}
-use Rattle.std.specs.Prelude.{map}
-use Rattle.crn_io.specs.Joined.{joined, with_separator}
-use Rattle.crn_io.proofs.CallerLemmas.{joined_step, joined_whole}
+use Rattle.crn_render.proofs.Prelude.{◌≡◌, ℕ, suc, ◌+◌, ◌<◌, ◌≤◌, List, [], ◌++◌, length, take, drop, get_or, ap, ◌∙◌, arith, take_all, get_or-map, length-map, flat_map, map, joined, with_separator, joined_step, joined_whole}
 
 -- one member more
 pub mapped_step : {A : Type 0} (separator : List ℕ) (f : A → List ℕ) (xs : List A) (i : ℕ) (d : A) → i < length xs

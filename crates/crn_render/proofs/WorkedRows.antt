@@ -1,16 +1,5 @@
 -- Reports of worked networks, by computation. The expected texts are written by hand.
-use Rattle.std.proofs.Common.{◌≡◌, ℕ, List, [], ◌∷◌, ◌++◌, refl, codes}
-use Rattle.std.specs.Prelude.{ℤ, pos, negsuc, true, false}
-use Rattle.std.specs.Fmt.{digits}
-use Rattle.crn_vec.specs.Kept.{KeptInts, KeptNums}
-use Rattle.crn_vec.specs.Network.{Net}
-use Rattle.crn_text.specs.Canonical.{side}
-use Rattle.crn_cert.specs.Questions.{Question, questions, Q5, Q6, Q9, Q10, Q11, Q12, Q13, Q14, Q15}
-use Rattle.crn_cert.specs.declared.answer.Gap.TheVariants.{Wide, Budget, Rests}
-use Rattle.crn_cert.specs.declared.answer.Verdict.{Verdict}
-use Rattle.crn_cert.specs.declared.answer.Verdict.TheVariants.{Classes, Strong, Rank, Deficiency, Yes, YesWeak, YesVec, YesSignal, No, NoReaction, NoVec, NoNumber, NoTerminal, NoClass, NoSum, NoDependence, NoCycle, NoPair, NotRegular, OnlyZero, Plane, NotApplicable, Unknown}
-use Rattle.crn_render.specs.Details.{class_line, strong_line, system_line, index_line}
-use Rattle.crn_render.specs.Report.{render, first_line, species_line, complexes_line, reactions_line, open_line}
+use Rattle.crn_render.proofs.Prelude.{◌≡◌, ℕ, List, [], ◌∷◌, ◌++◌, refl, codes, ℤ, pos, negsuc, true, false, digits, KeptInts, KeptNums, Net, side, Question, questions, Q5, Q6, Q9, Q10, Q11, Q12, Q13, Q14, Q15, Wide, Budget, Rests, Verdict, Classes, Strong, Rank, Deficiency, Yes, YesWeak, YesVec, YesSignal, No, NoReaction, NoVec, NoNumber, NoTerminal, NoClass, NoSum, NoDependence, NoCycle, NoPair, NotRegular, OnlyZero, Plane, NotApplicable, Unknown, class_line, strong_line, system_line, index_line, render, first_line, species_line, complexes_line, reactions_line, open_line}
 
 nums : List ℕ → KeptNums
 nums ns = record { list = ns; spare = 0 }

@@ -1,12 +1,5 @@
 -- One case of the hypotheses on robustness holds of a network.
-use Rattle.std.proofs.Common.{◌≡◌, ◌≢◌, ℕ, ◌-◌, ◌≤◌, inl, inr, refl, ap, subst, arith}
-use Rattle.crn_vec.specs.Network.{Net}
-use Rattle.crn_vec.specs.Deficiency.{IsDeficiency}
-use Rattle.crn_vec.proofs.CallerLemmas.{eq_or, deficiency_is_one}
-use Rattle.crn_space.proofs.CallerLemmas.{one_leaves_line}
-use Rattle.crn_robust.specs.declared.robust.Robust.TheVariants.{Yes, Number, None, Rests}
-use Rattle.crn_robust.specs.Robust.{IsRobustPair, IsLeastPair, IsNoLater}
-use Rattle.crn_robust.specs.Law.{CasesAreOne, CasesDecideRobustness, LinesAreTrue}
+use Rattle.crn_robust.proofs.Prelude.{◌≡◌, ◌≢◌, ℕ, ◌-◌, ◌≤◌, inl, inr, refl, ap, subst, arith, Net, IsDeficiency, eq_or, deficiency_is_one, one_leaves_line, Yes, Number, None, Rests, IsRobustPair, IsLeastPair, IsNoLater, CasesAreOne, CasesDecideRobustness, LinesAreTrue}
 
 -- ---- the least pair is one
 

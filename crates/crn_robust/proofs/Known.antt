@@ -1,19 +1,5 @@
 -- What accepted verdicts say of linkage classes, strong classes and the rank.
-use Rattle.std.proofs.Common.{◌≡◌, ◌⊎◌, ℕ, ◌+◌, ◌≤◌, inl, inr, length, refl, arith}
-use Rattle.crn_vec.specs.Kept.{KeptNums}
-use Rattle.crn_vec.specs.Network.{Net, IsNetwork}
-use Rattle.crn_vec.specs.Rank.{IsRank}
-use Rattle.crn_vec.specs.Deficiency.{vectors, IsDeficiency}
-use Rattle.crn_cert.specs.declared.answer.Verdict.{Verdict}
-use Rattle.crn_cert.specs.declared.answer.Verdict.TheVariants.{Classes, Strong, Rank, Unknown}
-use Rattle.crn_cert.specs.Questions.{Q1, Q2, Q5, on, IsOpen, count_of, labels_of, exits_of}
-use Rattle.crn_cert.specs.Says.{IsTrueOf, AreLinkageClasses}
-use Rattle.crn_cert.specs.Law.{IsTrueOrOpen}
-use Rattle.crn_check.specs.Facts.{KeptFacts, AreFactsOf}
-use Rattle.crn_check.proofs.CallerLemmas.{sound_on, linkage_true, strong_true}
-use Rattle.crn_space.proofs.CallerLemmas.{number_of_classes, rank_leaves}
-use Rattle.crn_robust.specs.Inner.Pairs.{HasStrong}
-use Rattle.crn_robust.specs.Pick.{HoldsBlocks}
+use Rattle.crn_robust.proofs.Prelude.{◌≡◌, ◌⊎◌, ℕ, ◌+◌, ◌≤◌, inl, inr, length, refl, arith, KeptNums, Net, IsNetwork, IsRank, vectors, IsDeficiency, Verdict, Classes, Strong, Rank, Unknown, Q1, Q2, Q5, on, IsOpen, count_of, labels_of, exits_of, IsTrueOf, AreLinkageClasses, IsTrueOrOpen, KeptFacts, AreFactsOf, sound_on, linkage_true, strong_true, number_of_classes, rank_leaves, HasStrong, HoldsBlocks}
 
 linkage_known : (net : Net) (v : Verdict) → IsTrueOf net Q1 v → AreLinkageClasses net (count_of v) (labels_of v)
 linkage_known net (Classes count label) h = h

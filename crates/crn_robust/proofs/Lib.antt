@@ -2,3 +2,4 @@ pub mod CallerLemmas
 mod Pairs
 mod Known
 mod Cases
+mod Prelude

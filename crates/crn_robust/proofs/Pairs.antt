@@ -1,12 +1,5 @@
 -- Pairs of complexes that differ at one species alone.
-use Rattle.std.proofs.Common.{◌≡◌, ℕ, ◌+◌, ◌<◌, ◌≤◌, inl, inr, List, [], length, get_or, sym, subst, ◌∙◌, arith}
-use Rattle.std.specs.Prelude.{ℤ}
-use Rattle.crn_vec.specs.Network.{Net, IsNetwork}
-use Rattle.crn_vec.specs.declared.limits.TheConstants.{MAX_SPECIES, MAX_COMPLEXES}
-use Rattle.crn_vec.specs.Vectors.{entry}
-use Rattle.crn_vec.proofs.CallerLemmas.{eq_or, lt_or, past_end, vector_long}
-use Rattle.crn_robust.specs.Robust.{DifferAt, IsRobustPair, IsLeastPair, IsNoLater}
-use Rattle.crn_robust.specs.Inner.Pairs.{IsDifference, HasNoPartner, HasNoFirst}
+use Rattle.crn_robust.proofs.Prelude.{◌≡◌, ℕ, ◌+◌, ◌<◌, ◌≤◌, inl, inr, List, [], length, get_or, sym, subst, ◌∙◌, arith, ℤ, Net, IsNetwork, MAX_SPECIES, MAX_COMPLEXES, entry, eq_or, lt_or, past_end, vector_long, DifferAt, IsRobustPair, IsLeastPair, IsNoLater, IsDifference, HasNoPartner, HasNoFirst}
 
 -- lists as long as each other agree past their end
 agree_past : (one two : List ℤ) (t : ℕ) → length one ≡ length two → length one ≤ t → entry one t ≡ entry two t

@@ -1,31 +1,6 @@
 -- The lines of a document on robustness are those of the formed answers whose tests hold.
-use Rattle.std.proofs.Common.{◌≡◌, ◌≢◌, ◌≤◌, ◌+◌, ◌++◌, ℕ, Bool, true, false, List, [], ◌∷◌, length, map, refl, sym, ap, subst, ◌∙◌, inl, inr, arith}
-use Rattle.std.specs.Prelude.{ℤ, pos, codes}
-use Rattle.std.specs.List.{AllByRecursion, list_any}
-use Rattle.std.specs.Str.{bytes_eq}
-use Rattle.std.proofs.lemmas.Int.{ints}
-use Rattle.std.proofs.lemmas.List.{map-append}
-use Rattle.crn_vec.specs.Lists.{IsIn}
-use Rattle.crn_vec.specs.Network.{Net, IsNetwork}
-use Rattle.crn_vec.proofs.CallerLemmas.{eq_or, zip_append}
-use Rattle.crn_cert.specs.declared.answer.Verdict.{Verdict}
-use Rattle.crn_cert.specs.declared.answer.Verdict.TheVariants.{Unknown}
-use Rattle.crn_cert.specs.Questions.{Earlier, Q5, IsOpen, on, rank_of}
-use Rattle.crn_cert.specs.Valid.{IsLeft}
-use Rattle.crn_ctext.specs.Records.{Record, Form, Says, Fits, kind_of, record_text}
-use Rattle.crn_ctext.specs.Kinds.{small, record_form, small_form}
-use Rattle.crn_ctext.specs.Course.{Course, Give, ◌>>=◌, test_own}
-use Rattle.crn_ctext.specs.Courses.{IsWrittenBy}
-use Rattle.crn_ctext.specs.Blocks.{AfterBlocks, asks_blocks, either}
-use Rattle.crn_ctext.specs.Documents.{AreFormed, IsOneOf}
-use Rattle.crn_ctext.specs.Questions.{first_number}
-use Rattle.crn_ctext.specs.Answers.{small_record}
-use Rattle.crn_ctext.specs.Meaning.{Known, meaning}
-use Rattle.crn_ctext.specs.Parts.{asks_part}
-use Rattle.crn_ctext.proofs.CallerLemmas.{AllPlain, IsPlain, IsBounded, AreTreeless, FitFields, are_words, HasNoEnd, IsAnswered, all_of, blocks_no_end, blocks_read, blocks_written, fitting_is_plain, formed_are_plain, valid_are_formed, give_back, give_no_end, in_by_test, meaning_short, IsSmall, networks_are_small, no_end_then, number_back, number_then, part_no_end, plain_is_line, record_is, short_both, small_numbers, test_no_end, written_cuts, written_then, only, bare_back, one_back, bare_row, first_back, Say, one_said, none_said, line_on, test_back, test_on, given, either_no_end}
-use Rattle.crn_robust.specs.declared.robust.Robust.{Robust}
-use Rattle.crn_robust.specs.declared.robust.Robust.TheVariants.{Yes, Number, None, Rests}
-use Rattle.crn_robust_text.specs.Document.{rests_on, words, rests_forms, line_forms, case_forms, case_in, IsDeficiencyBy, SaysLineBy, IsCaseBy, is_open, asks_rests, asks_case, before, asks_verdict, asks_robust, part, line_of, verdict_record, case_records, Said, AreInside, IsFormed, IsValid, records, meant}
+use Rattle.crn_robust_text.proofs.Prelude.{◌≡◌, ◌≢◌, ◌≤◌, ◌+◌, ◌++◌, ℕ, Bool, true, false, List, [], ◌∷◌, length, map, refl, sym, ap, subst, ◌∙◌, inl, inr, arith, ℤ, pos, codes, AllByRecursion, list_any, bytes_eq, ints, map-append, IsIn, Net, IsNetwork, eq_or, zip_append, Verdict, Unknown, Earlier, Q5, IsOpen, on, rank_of, IsLeft, Record, Form, Says, Fits, kind_of, record_text, small, record_form, small_form, Course, Give, ◌>>=◌, test_own, IsWrittenBy, AfterBlocks, asks_blocks, either, IsOneOf, first_number, small_record, Known, meaning, asks_part, AllPlain, IsPlain, IsBounded, AreTreeless, FitFields, are_words, HasNoEnd, IsAnswered, all_of, blocks_no_end, blocks_read, blocks_written, fitting_is_plain, formed_are_plain, valid_are_formed, give_back, give_no_end, in_by_test, meaning_short, IsSmall, networks_are_small, no_end_then, number_back, number_then, part_no_end, plain_is_line, record_is, short_both, small_numbers, test_no_end, written_cuts, written_then, only, bare_back, one_back, bare_row, first_back, Say, one_said, none_said, line_on, test_back, test_on, given, either_no_end, Robust, Yes, Number, None, Rests, rests_on, words, rests_forms, line_forms, case_forms, case_in, IsDeficiencyBy, SaysLineBy, IsCaseBy, is_open, asks_rests, asks_case, before, asks_verdict, asks_robust, part, line_of, verdict_record, case_records, Said, AreInside, IsFormed, IsValid, records, meant}
+use Rattle.crn_ctext.specs.Documents.{AreFormed}
 use Rattle.crn_robust_text.proofs.TestsTrue.{deficiency_by_one}
 
 -- ---- the blocks have no trees

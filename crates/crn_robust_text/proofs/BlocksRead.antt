@@ -1,21 +1,5 @@
 -- The blocks of a document on robustness, read one after another as facts.
-use Rattle.std.proofs.Common.{◌≡◌, ◌<◌, ℕ, List, [], ◌∷◌, map, refl, sym, ap, subst, inl, inr, arith, Result, Ok, Err}
-use Rattle.std.specs.Prelude.{IfOk}
-use Rattle.crn_vec.specs.Network.{Net, IsNetwork}
-use Rattle.crn_cert.specs.declared.answer.Verdict.{Verdict}
-use Rattle.crn_cert.specs.Questions.{Earlier, Question, Q1, Q2, Q5, number}
-use Rattle.crn_io.specs.Device.{SourceSeen}
-use Rattle.crn_ctext.specs.Blocks.{AfterBlocks, asks_all, asks_block, asks_blocks}
-use Rattle.crn_ctext.specs.Meaning.{Known, meaning}
-use Rattle.crn_ctext.specs.Steps.{StepGives}
-use Rattle.crn_check.specs.Facts.{KeptFacts, AreFactsOf, HoldsNoneFrom, HoldsOn}
-use Rattle.crn_document.specs.Facts.{IsAfterFacts, IsKnownFor, after_facts}
-use Rattle.crn_reading.specs.Steps.{StepIs, StopIs}
-use Rattle.crn_reading.specs.declared.reading.Reading.{Reading}
-use Rattle.crn_reading.specs.declared.fault.CheckStop.{CheckStop}
-use Rattle.crn_reading.proofs.CallerLemmas.{step_then_is, step_map, stop_first}
-use Rattle.crn_robust.specs.Pick.{HoldsBlocks}
-use Rattle.crn_robust_text.specs.Document.{before}
+use Rattle.crn_robust_text.proofs.Prelude.{◌≡◌, ◌<◌, ℕ, List, [], ◌∷◌, map, refl, sym, ap, subst, inl, inr, arith, Result, Ok, Err, IfOk, Net, IsNetwork, Verdict, Earlier, Question, Q1, Q2, Q5, number, SourceSeen, AfterBlocks, asks_all, asks_block, asks_blocks, Known, meaning, StepGives, KeptFacts, AreFactsOf, HoldsNoneFrom, HoldsOn, IsAfterFacts, IsKnownFor, after_facts, StepIs, StopIs, Reading, CheckStop, step_then_is, step_map, stop_first, HoldsBlocks, before}
 
 -- ---- steps
 

@@ -1,20 +1,5 @@
 -- A document on robustness, as it is read from its title to its end.
-use Rattle.std.proofs.Common.{◌≡◌, ℕ, [], refl, sym, subst, arith, Result}
-use Rattle.std.specs.Prelude.{◌↔◌}
-use Rattle.crn_vec.specs.Network.{Net, IsNetwork}
-use Rattle.crn_vec.specs.Confluence.{HasConfluenceLine}
-use Rattle.crn_io.specs.Device.{SourceSeen}
-use Rattle.crn_ctext.specs.Blocks.{AfterBlocks, asks_blocks}
-use Rattle.crn_ctext.specs.Meaning.{Known, meaning}
-use Rattle.crn_ctext.specs.Steps.{StepGives}
-use Rattle.crn_reading.specs.Steps.{StepIs, StopIs}
-use Rattle.crn_reading.specs.declared.reading.Reading.{Reading}
-use Rattle.crn_reading.specs.declared.fault.CheckStop.{CheckStop}
-use Rattle.crn_reading.proofs.CallerLemmas.{step_then_is, stop_first}
-use Rattle.crn_robust.specs.declared.robust.Robust.{Robust}
-use Rattle.crn_robust.specs.declared.robust.Robust.TheVariants.{Rests}
-use Rattle.crn_robust_text.specs.Document.{rests_on, before, asks_verdict, asks_robust, line_of}
-use Rattle.crn_robust_text.specs.Inner.LinesRead.{IsTrueVerdict, ReadsVerdict}
+use Rattle.crn_robust_text.proofs.Prelude.{◌≡◌, ℕ, [], refl, sym, subst, arith, Result, ◌↔◌, Net, IsNetwork, HasConfluenceLine, SourceSeen, AfterBlocks, asks_blocks, Known, meaning, StepGives, StepIs, StopIs, Reading, CheckStop, step_then_is, stop_first, Robust, Rests, rests_on, before, asks_verdict, asks_robust, line_of, IsTrueVerdict, ReadsVerdict}
 use Rattle.crn_robust_text.proofs.TestsTrue.{line_by}
 
 -- ---- the answer

@@ -9,3 +9,4 @@ mod LinesRead
 mod VerdictsRead
 mod BlocksRead
 mod DocumentsRead
+mod Prelude

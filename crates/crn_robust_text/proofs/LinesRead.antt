@@ -1,13 +1,5 @@
 -- The forms of the lines that may stand next, as they are handed to the reader.
-use Rattle.std.proofs.Common.{◌≡◌, ℕ, List, [], ◌∷◌, length, refl, ap, ap₂}
-use Rattle.std.specs.Prelude.{codes}
-use Rattle.crn_vec.specs.Network.{Net}
-use Rattle.crn_ctext.specs.Records.{Field}
-use Rattle.crn_ctext.specs.Kinds.{small, record_form, end_form}
-use Rattle.crn_ctext.specs.PartLines.{forms_in, field_of}
-use Rattle.crn_ctext.specs.declared.part.Field.{Field as Run}
-use Rattle.crn_ctext.specs.declared.part.Choice.{Choice}
-use Rattle.crn_robust_text.specs.Document.{words, rests_forms, line_forms, case_forms}
+use Rattle.crn_robust_text.proofs.Prelude.{◌≡◌, ℕ, List, [], ◌∷◌, length, refl, ap, ap₂, codes, Net, Field, small, record_form, end_form, forms_in, field_of, Run, Choice, words, rests_forms, line_forms, case_forms}
 
 abbrev choice : ℕ → ℕ → ℕ → Choice
 choice word first count = record { word = word; first = first; count = count }

@@ -1,18 +1,5 @@
 -- The course of a document on robustness is settled.
-use Rattle.std.proofs.Common.{◌+◌, ℕ, [], refl, arith}
-use Rattle.crn_vec.specs.Network.{Net, IsNetwork}
-use Rattle.crn_cert.specs.Questions.{Earlier, Q5, on}
-use Rattle.crn_ctext.specs.Records.{Record}
-use Rattle.crn_ctext.specs.Course.{Course, Give, ◌>>=◌, test_own}
-use Rattle.crn_ctext.specs.Courses.{IsSettled}
-use Rattle.crn_ctext.specs.Blocks.{asks_blocks}
-use Rattle.crn_ctext.specs.Questions.{first_number}
-use Rattle.crn_ctext.specs.Meaning.{meaning}
-use Rattle.crn_ctext.specs.Parts.{asks_part, part_course}
-use Rattle.crn_ctext.proofs.CallerLemmas.{forms_yes, settled_then, own_settled, give_settled, either_settled, asks_part_settled, part_settled, blocks_settled, OfNetwork, meaning_decided}
-use Rattle.crn_robust.specs.declared.robust.Robust.{Robust}
-use Rattle.crn_robust.specs.declared.robust.Robust.TheVariants.{Rests}
-use Rattle.crn_robust_text.specs.Document.{rests_on, words, rests_forms, line_forms, case_forms, case_in, SaysLineBy, IsCaseBy, is_open, asks_rests, asks_case, before, asks_verdict, asks_robust, IsOwn, part}
+use Rattle.crn_robust_text.proofs.Prelude.{◌+◌, ℕ, [], refl, arith, Net, IsNetwork, Earlier, Q5, on, Record, Course, Give, ◌>>=◌, test_own, IsSettled, asks_blocks, first_number, meaning, asks_part, part_course, forms_yes, settled_then, own_settled, give_settled, either_settled, asks_part_settled, part_settled, blocks_settled, OfNetwork, meaning_decided, Robust, Rests, rests_on, words, rests_forms, line_forms, case_forms, case_in, SaysLineBy, IsCaseBy, is_open, asks_rests, asks_case, before, asks_verdict, asks_robust, IsOwn, part}
 use Rattle.crn_robust_text.proofs.TestsDecided.{line_decided, case_decided}
 
 rests_settled : (n : ℕ) → IsSettled IsOwn (asks_rests n)

@@ -1,18 +1,5 @@
 -- The tests of a document on robustness are decided, whatever its records hold.
-use Rattle.std.proofs.Common.{◌≡◌, ◌≢◌, ◌≤◌, ◌<◌, ◌+◌, ◌-◌, ℕ, List, [], length, sym, ◌∙◌, inl, inr, arith}
-use Rattle.std.specs.Prelude.{ℤ, slice_index_or}
-use Rattle.crn_vec.specs.Network.{Net, IsNetwork}
-use Rattle.crn_vec.specs.Strong.{IsTerminal}
-use Rattle.crn_vec.specs.Vectors.{entry}
-use Rattle.crn_vec.proofs.CallerLemmas.{past_end, lt_or}
-use Rattle.crn_cert.specs.declared.answer.Verdict.{Verdict}
-use Rattle.crn_cert.specs.declared.answer.Verdict.TheVariants.{Unknown}
-use Rattle.crn_cert.specs.Questions.{Earlier, Q5, IsOpen, on, rank_of}
-use Rattle.crn_ctext.proofs.CallerLemmas.{IsDecided, both_decided, one_decided, not_decided, if_decided, moved, nat_decided, lt_decided, le_decided, int_decided, each_below, left_decided, terminal_decided}
-use Rattle.crn_robust.specs.declared.robust.Robust.{Robust}
-use Rattle.crn_robust.specs.declared.robust.Robust.TheVariants.{Yes, Number, None, Rests}
-use Rattle.crn_robust.specs.Robust.{DifferAt, IsRobustPair, IsNoLater, IsLeastPair, HasNoPair}
-use Rattle.crn_robust_text.specs.Document.{IsDeficiencyBy, SaysLineBy, IsCaseBy}
+use Rattle.crn_robust_text.proofs.Prelude.{◌≡◌, ◌≢◌, ◌≤◌, ◌<◌, ◌+◌, ◌-◌, ℕ, List, [], length, sym, ◌∙◌, inl, inr, arith, ℤ, slice_index_or, Net, IsNetwork, IsTerminal, entry, past_end, lt_or, Verdict, Unknown, Earlier, Q5, IsOpen, on, rank_of, IsDecided, both_decided, one_decided, not_decided, if_decided, moved, nat_decided, lt_decided, le_decided, int_decided, each_below, left_decided, terminal_decided, Robust, Yes, Number, None, Rests, DifferAt, IsRobustPair, IsNoLater, IsLeastPair, HasNoPair, IsDeficiencyBy, SaysLineBy, IsCaseBy}
 
 -- ---- pairs
 

@@ -1,32 +1,6 @@
 -- The tests of a document say what they say of the network, if the blocks are true; and valid blocks are true or leave the rank open.
-use Rattle.std.proofs.Common.{◌≡◌, ◌⊎◌, ◌∙◌, ◌-◌, ℕ, false, List, [], ◌∷◌, length, refl, sym, ap, subst, inl, inr, arith}
-use Rattle.std.specs.Prelude.{◌↔◌, Option, Some, None as NoRank, slice_index_or}
-use Rattle.crn_vec.specs.Network.{Net, IsNetwork}
-use Rattle.crn_vec.specs.Deficiency.{IsDeficiency}
-use Rattle.crn_vec.specs.Confluence.{HasConfluenceLine}
-use Rattle.crn_vec.proofs.CallerLemmas.{deficiency_is_one}
-use Rattle.crn_space.proofs.CallerLemmas.{one_leaves_line}
-use Rattle.crn_cert.specs.declared.answer.Answer.{Answer}
-use Rattle.crn_cert.specs.declared.answer.Gap.TheVariants.{Wide, Budget, Rests as RestsOn}
-use Rattle.crn_cert.specs.declared.answer.Proof.{Proof}
-use Rattle.crn_cert.specs.declared.answer.Verdict.{Verdict}
-use Rattle.crn_cert.specs.declared.answer.Verdict.TheVariants.{Rank, Unknown, Yes as SaysYes}
-use Rattle.crn_cert.specs.Answers.{verdicts_of}
-use Rattle.crn_cert.specs.Questions.{Earlier, Q1, Q5, IsOpen, on, count_of, rank_of}
-use Rattle.crn_cert.specs.Formed.{IsFormedOf, AreFormed}
-use Rattle.crn_cert.specs.Law.{IsTrueOrOpen, AllTrueOrOpen, AreBuilt}
-use Rattle.crn_cert.specs.Says.{IsTrueOf}
-use Rattle.crn_cert.specs.Valid.{IsLeft}
-use Rattle.crn_cert.proofs.CallerLemmas.{valid_documents_are_true}
-use Rattle.crn_ctext.specs.Records.{Record}
-use Rattle.crn_ctext.specs.Documents.{AreValid}
-use Rattle.crn_ctext.specs.Meaning.{meaning, verdicts_said}
-use Rattle.crn_ctext.proofs.CallerLemmas.{AreInOrder, answers_by, back_by, valid_are_formed}
-use Rattle.crn_robust.specs.declared.robust.Robust.{Robust}
-use Rattle.crn_robust.specs.declared.robust.Robust.TheVariants.{Yes, Number, None, Rests}
-use Rattle.crn_robust.specs.Robust.{IsCase, SaysLine}
-use Rattle.crn_robust.proofs.CallerLemmas.{classes_leave, deficiency_by}
-use Rattle.crn_robust_text.specs.Document.{rests_on, IsDeficiencyBy, SaysLineBy, IsCaseBy, earlier_of, line_of, ValidAreTrue, ValidLinesAreTrue}
+use Rattle.crn_robust_text.proofs.Prelude.{◌≡◌, ◌⊎◌, ◌∙◌, ◌-◌, ℕ, false, List, [], ◌∷◌, length, refl, sym, ap, subst, inl, inr, arith, ◌↔◌, Option, NoRank, slice_index_or, Net, IsNetwork, IsDeficiency, HasConfluenceLine, deficiency_is_one, one_leaves_line, Answer, Wide, Budget, RestsOn, Proof, Verdict, Rank, Unknown, SaysYes, verdicts_of, Earlier, Q1, Q5, IsOpen, on, count_of, rank_of, IsFormedOf, AreFormed, IsTrueOrOpen, AllTrueOrOpen, AreBuilt, IsTrueOf, IsLeft, valid_documents_are_true, Record, AreValid, meaning, verdicts_said, AreInOrder, answers_by, back_by, valid_are_formed, Robust, Yes, Number, None, Rests, IsCase, SaysLine, classes_leave, deficiency_by, rests_on, IsDeficiencyBy, SaysLineBy, IsCaseBy, earlier_of, line_of, ValidAreTrue, ValidLinesAreTrue}
+use Rattle.std.specs.Prelude.{Some}
 
 -- the verdicts on linkage classes and on the rank are true, but for an open rank
 pub record AreTrue (net : Net) (earlier : Earlier) : Type 0 where

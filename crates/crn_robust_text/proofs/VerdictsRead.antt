@@ -1,36 +1,6 @@
 -- The lines below the blocks, as they are read one after another.
-use Rattle.std.proofs.Common.{◌≡◌, ◌≢◌, ◌≤◌, ◌<◌, ◌+◌, ◌-◌, ◌^◌, ℕ, Bool, true, false, List, [], ◌∷◌, length, refl, sym, ap, subst, ◌∙◌, inl, inr, arith, Result, Ok, Err}
-use Rattle.std.proofs.Math.Bool.{beq}
-use Rattle.std.specs.Prelude.{ℤ, pos, codes, not, ◌↔◌, slice_index_or, unsigned_abs}
-use Rattle.crn_vec.specs.Network.{Net, IsNetwork}
-use Rattle.crn_cert.specs.declared.answer.Gap.{Gap}
-use Rattle.crn_cert.specs.declared.answer.Verdict.{Verdict}
-use Rattle.crn_cert.specs.declared.answer.Verdict.TheVariants.{Unknown}
-use Rattle.crn_cert.specs.Questions.{Earlier, Q5, on}
-use Rattle.crn_io.specs.Device.{SourceSeen}
-use Rattle.crn_ctext.specs.Records.{Record}
-use Rattle.crn_ctext.specs.Kinds.{small_form}
-use Rattle.crn_ctext.specs.Course.{Course, Give, ◌>>=◌, test_own}
-use Rattle.crn_ctext.specs.Blocks.{AfterBlocks, either, word_of}
-use Rattle.crn_ctext.specs.Meaning.{Known, number}
-use Rattle.crn_ctext.specs.Parts.{asks_part}
-use Rattle.crn_ctext.specs.Steps.{StepGives}
-use Rattle.crn_ctext.specs.Questions.{first_number}
-use Rattle.crn_ctext.proofs.CallerLemmas.{only, one_back}
-use Rattle.crn_check.specs.Facts.{KeptFacts, AreFactsOf}
-use Rattle.crn_reading.specs.Steps.{CanRead, StepIs, StopIs}
-use Rattle.crn_reading.specs.Records.{IsPartSaid}
-use Rattle.crn_reading.specs.declared.reading.Reading.{Reading}
-use Rattle.crn_reading.specs.declared.fault.CheckStop.{CheckStop}
-use Rattle.crn_reading.specs.declared.fault.CheckStop.TheVariants.{Rejected}
-use Rattle.crn_reading.proofs.CallerLemmas.{step_then_is, step_gives, stop_first, stop_after, IsGiven, find, place_is, own_holds, own_fails}
-use Rattle.crn_robust.specs.declared.robust.Robust.{Robust}
-use Rattle.crn_robust.specs.declared.robust.Robust.TheVariants.{Yes, Number, None, Rests}
-use Rattle.crn_robust.specs.Pick.{HoldsBlocks, IsPicked}
-use Rattle.crn_robust.specs.Robust.{IsCase}
-use Rattle.crn_robust.proofs.CallerLemmas.{cases_are_one, classes_known, rank_known}
-use Rattle.crn_robust_text.specs.Document.{words, rests_forms, line_forms, case_forms, case_in, AreInside, SaysLineBy, IsCaseBy, is_open, asks_rests, asks_case, asks_verdict, line_of, verdict_record}
-use Rattle.crn_robust_text.specs.Inner.LinesRead.{AreSmall, CaseSaid, Decides}
+use Rattle.crn_robust_text.proofs.Prelude.{◌≡◌, ◌≢◌, ◌≤◌, ◌<◌, ◌+◌, ◌-◌, ◌^◌, ℕ, Bool, true, false, List, [], ◌∷◌, length, refl, sym, ap, subst, ◌∙◌, inl, inr, arith, Result, Ok, Err, beq, ℤ, pos, codes, not, ◌↔◌, slice_index_or, unsigned_abs, Net, IsNetwork, Gap, Verdict, Unknown, Earlier, Q5, on, SourceSeen, Record, small_form, Course, Give, ◌>>=◌, test_own, AfterBlocks, either, word_of, Known, asks_part, StepGives, first_number, only, one_back, KeptFacts, AreFactsOf, CanRead, StepIs, StopIs, IsPartSaid, Reading, CheckStop, Rejected, step_then_is, step_gives, stop_first, stop_after, IsGiven, find, place_is, own_holds, own_fails, Robust, Yes, Number, None, Rests, HoldsBlocks, IsPicked, IsCase, cases_are_one, classes_known, rank_known, words, rests_forms, line_forms, case_forms, case_in, AreInside, SaysLineBy, IsCaseBy, is_open, asks_rests, asks_case, asks_verdict, line_of, verdict_record, AreSmall, CaseSaid, Decides}
+use Rattle.crn_ctext.specs.Meaning.{number}
 use Rattle.crn_robust_text.proofs.TestsTrue.{AreTrue, case_true, true_case}
 use Rattle.crn_robust_text.proofs.Answered.{verdict_back, line_said, is_open_by}
 

@@ -1,20 +1,6 @@
 -- The lines of a document on robustness, as they are written.
-use Rattle.std.proofs.Common.{◌≡◌, ◌≤◌, ◌++◌, ◌∙◌, ℕ, Some, List, [], ◌∷◌, codes, length, slice_get, refl, sym, ap, append_assoc, arith}
-use Rattle.std.proofs.lemmas.List.{append-nil}
-use Rattle.crn_vec.specs.Network.{Net}
-use Rattle.crn_cert.specs.declared.answer.Answer.{Answer}
-use Rattle.crn_cert.specs.Questions.{Question, Q1, Q2, Q5}
-use Rattle.crn_cert.specs.Formed.{AreFormed}
-use Rattle.crn_cert.specs.Verdicts.{tight}
-use Rattle.crn_ctext.specs.Records.{Record}
-use Rattle.crn_ctext.specs.Questions.{Shapes}
-use Rattle.crn_ctext.specs.Answers.{all_records, head_of, records_below, records as answer_records}
-use Rattle.crn_ctext.specs.Documents.{record_lines}
-use Rattle.crn_ctext.specs.PartBlocks.{HoldsNoSides}
-use Rattle.crn_ctext.specs.Meaning.{Known, meaning}
-use Rattle.crn_ctext.specs.Parts.{part_document, part_head}
-use Rattle.crn_ctext.proofs.CallerLemmas.{all_of, lines_append, sees_first, sees_second, sees_rank}
-use Rattle.crn_robust_text.specs.Document.{rests_on, blocks_of, records, Said, case_records}
+use Rattle.crn_robust_text.proofs.Prelude.{◌≡◌, ◌≤◌, ◌++◌, ◌∙◌, ℕ, Some, List, [], ◌∷◌, length, slice_get, refl, sym, ap, append_assoc, arith, append-nil, Net, Answer, Question, Q1, Q2, Q5, AreFormed, tight, Record, Shapes, all_records, head_of, records_below, answer_records, record_lines, HoldsNoSides, Known, meaning, part_document, part_head, all_of, lines_append, sees_first, sees_second, sees_rank, rests_on, blocks_of, records, Said, case_records}
+use Rattle.std.proofs.Common.{codes}
 
 -- the three answers, with the shapes by which their records are
 pub record AreThree (net : Net) (answers : List Answer) : Type 0 where

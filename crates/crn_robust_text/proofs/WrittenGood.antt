@@ -1,25 +1,6 @@
 -- What is written of formed and valid answers and of the verdict that they give is a document.
-use Rattle.std.proofs.Common.{◌≡◌, ◌≤◌, ◌-◌, ◌<◌, false, List, [], ◌∷◌, length, refl, sym, subst, inl, inr, arith}
-use Rattle.std.proofs.Common.{get_or}
-use Rattle.std.specs.Prelude.{codes}
-use Rattle.std.proofs.lemmas.List.{length-append}
-use Rattle.crn_vec.specs.Network.{Net, IsNetwork}
-use Rattle.crn_vec.proofs.CallerLemmas.{vector_long}
-use Rattle.crn_cert.specs.declared.answer.Answer.{Answer}
-use Rattle.crn_cert.specs.Questions.{Earlier, Q1, Q5}
-use Rattle.crn_cert.specs.Formed.{AreFormed}
-use Rattle.crn_cert.specs.Law.{AllTrueOrOpen}
-use Rattle.crn_cert.proofs.CallerLemmas.{true_tight, is_true_tight, valid_documents_are_true}
+use Rattle.crn_robust_text.proofs.Prelude.{◌≡◌, ◌≤◌, ◌-◌, ◌<◌, false, List, [], ◌∷◌, length, refl, sym, subst, inl, inr, arith, get_or, codes, length-append, Net, IsNetwork, vector_long, Answer, Earlier, Q1, Q5, AreFormed, AllTrueOrOpen, true_tight, is_true_tight, valid_documents_are_true, all_records, verdicts_on, meaning, all_of, answers_few, answers_learned, built_few, formed_by, meaning_short, networks_are_small, valid_by, part_document_short, Robust, Yes, Number, None, Rests, IsPicked, IsCase, rests_on, IsCaseBy, case_records, Said, earlier_of, AreInside, IsFormed, records, said_of, WrittenAreDocuments}
 use Rattle.crn_ctext.specs.Documents as documents
-use Rattle.crn_ctext.specs.Answers.{all_records}
-use Rattle.crn_ctext.specs.PartBlocks.{verdicts_on}
-use Rattle.crn_ctext.specs.Meaning.{meaning}
-use Rattle.crn_ctext.proofs.CallerLemmas.{all_of, answers_few, answers_learned, built_few, formed_by, meaning_short, networks_are_small, valid_by, part_document_short}
-use Rattle.crn_robust.specs.declared.robust.Robust.{Robust}
-use Rattle.crn_robust.specs.declared.robust.Robust.TheVariants.{Yes, Number, None, Rests}
-use Rattle.crn_robust.specs.Pick.{IsPicked}
-use Rattle.crn_robust.specs.Robust.{IsCase}
-use Rattle.crn_robust_text.specs.Document.{rests_on, IsCaseBy, case_records, Said, earlier_of, AreInside, IsFormed, records, said_of, WrittenAreDocuments}
 use Rattle.crn_robust_text.proofs.TestsTrue.{AreTrue, each_built, first_closed, in_order, true_case}
 use Rattle.crn_robust_text.proofs.Answered.{records_plain, robust_is_answered, treeless}
 

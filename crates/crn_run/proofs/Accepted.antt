@@ -1,12 +1,5 @@
 -- A good document in memory is accepted, unless memory runs out.
-use Rattle.std.proofs.Common.{◌≡◌, ℕ, List, Some, Result, Err, arith, sym, ◌∙◌, subst, inl, inr}
-use Rattle.std.specs.Prelude.{◌↔◌}
-use Rattle.crn_io.specs.Device.{Rose, SourceSeen}
-use Rattle.crn_ctext.specs.Blocks.{ReadOf}
-use Rattle.crn_ctext.specs.Judged.{IsGood, IsReadOf}
-use Rattle.crn_document.specs.Check.{IsAccepted, IsAnswered}
-use Rattle.crn_document.specs.declared.check.Accepted.{Accepted}
-use Rattle.crn_reading.specs.declared.fault.CheckStop.{CheckStop}
+use Rattle.crn_run.proofs.Prelude.{◌≡◌, ℕ, List, Some, Result, Err, arith, sym, ◌∙◌, subst, inl, inr, ◌↔◌, Rose, SourceSeen, ReadOf, IsGood, IsReadOf, IsAccepted, IsAnswered, Accepted, CheckStop}
 use Rattle.crn_reading.specs.declared.fault.CheckStop.TheVariants.{NoMemory}
 
 -- a count that stays 0 does not rise

@@ -1,19 +1,5 @@
 -- What is written for a network and valid answers to its questions, whose trees have few nodes, with their share, is a good document.
-use Rattle.std.proofs.Common.{◌≡◌, ℕ, ℤ, List, [], sym, ap, ap₂, subst, ◌∙◌}
-use Rattle.crn_vec.specs.declared.limits.TheConstants.{MAX_BUDGET}
-use Rattle.crn_vec.specs.Network.{Net, IsNetwork}
-use Rattle.crn_cert.specs.declared.answer.Answer.{Answer}
-use Rattle.crn_cert.specs.Built.{built}
-use Rattle.crn_cert.specs.Formed.{AreFormed}
-use Rattle.crn_cert.specs.Valid.{AreValid}
-use Rattle.crn_cert.specs.Shares.{Shared}
-use Rattle.crn_cert.specs.TreeSizes.{HaveFewNodes}
-use Rattle.crn_ctext.specs.Records.{Record}
-use Rattle.crn_ctext.specs.Documents.{FitsShare, Share, document2, share_of}
-use Rattle.crn_ctext.specs.Judged.{IsGood}
-use Rattle.crn_ctext.specs.Linked.{SharedDocumentsAreGood, SharesFit, records_of}
-use Rattle.crn_ctext.specs.Shares.{as_share}
-use Rattle.crn_run.specs.Run.{certificate}
+use Rattle.crn_run.proofs.Prelude.{◌≡◌, ℕ, ℤ, List, [], sym, ap, ap₂, subst, ◌∙◌, MAX_BUDGET, Net, IsNetwork, Answer, built, AreFormed, AreValid, Shared, HaveFewNodes, Record, FitsShare, Share, document2, share_of, IsGood, SharedDocumentsAreGood, SharesFit, records_of, as_share, certificate}
 
 pub certificate_good : SharedDocumentsAreGood → SharesFit → (net : Net) (answers : List Answer) → IsNetwork net → AreFormed net [] built answers → AreValid net [] built answers → HaveFewNodes MAX_BUDGET answers → IsGood (certificate net answers)
 certificate_good second fit net answers network formed valid few = (second net answers (share_of (records_of net answers)) network formed valid few (fit net answers network formed)).0

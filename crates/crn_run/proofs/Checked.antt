@@ -1,27 +1,7 @@
 -- What is written for a document that is accepted, whose verdicts are formed.
-use Rattle.std.proofs.Common.{◌≡◌, ℕ, List, [], ◌∷◌, Option, Some, None, refl, sym, subst, ◌∙◌, inl, Err}
-use Rattle.std.specs.Prelude.{IfSome}
-use Rattle.crn_vec.specs.Network.{Net}
-use Rattle.crn_cert.specs.declared.answer.Verdict.{Verdict}
-use Rattle.crn_cert.specs.Built.{built}
-use Rattle.crn_cert.specs.FormedVerdicts.{AreFormedVerdicts}
-use Rattle.crn_ctext.specs.Records.{Record}
-use Rattle.crn_ctext.specs.Judged.{AreFormedOf, IsGood, IsReadOf, ReadDocumentsAreGood}
-use Rattle.crn_ctext.specs.Linked.{AreSound, FormedRecordsAreOfAnswers, records_of}
-use Rattle.crn_ctext.proofs.CallerLemmas.{answers_formed as records_formed}
-use Rattle.crn_render.specs.Length.{Has32Bits}
-use Rattle.crn_render.specs.Report.{render}
-use Rattle.crn_document.specs.Check.{Accepts, CheckGives, Rejects}
-use Rattle.crn_reading.specs.Reads.{IsTextOf}
-use Rattle.crn_document.specs.declared.check.Accepted.{Accepted}
+use Rattle.crn_run.proofs.Prelude.{◌≡◌, ℕ, List, [], ◌∷◌, Option, Some, None, refl, sym, subst, ◌∙◌, inl, Err, IfSome, Net, Verdict, built, AreFormedVerdicts, Record, AreFormedOf, IsGood, IsReadOf, ReadDocumentsAreGood, AreSound, FormedRecordsAreOfAnswers, records_of, records_formed, Has32Bits, render, Accepts, CheckGives, Rejects, IsTextOf, Accepted, Devices, IsCheckOf, RunGives, rejected_line, verdicts_in, IsCommand, LineGives, Check, Verify, Status, Done, ReadFault, Rejected}
 use Rattle.crn_reading.specs.declared.fault.CheckStop.TheVariants.{Failed}
-use Rattle.crn_run.specs.Run.{Devices, IsCheckOf, RunGives, rejected_line, verdicts_in}
-use Rattle.crn_run.specs.Words.{IsCommand}
-use Rattle.crn_run.specs.Inner.Steps.{LineGives}
-use Rattle.crn_run.specs.declared.words.Command.TheVariants.{Check, Verify}
 use Rattle.crn_run.proofs.WordsSaid.{one_command}
-use Rattle.crn_run.specs.declared.status.Status.{Status}
-use Rattle.crn_run.specs.declared.status.Status.TheVariants.{Done, ReadFault, Rejected}
 use Rattle.crn_run.proofs.Runs.{output_ends, read_out}
 use Rattle.crn_run.proofs.Outputs.{answers_formed}
 

@@ -1,26 +1,10 @@
 -- What clap makes of the words of a command, and of words without a fault.
-use Rattle.std.proofs.Common.{◌≡◌, ◌⊎◌, ◌<◌, ◌+◌, ◌++◌, ℕ, Bool, true, false, List, [], ◌∷◌, Option, Some, None, refl, sym, ap, ap₂, ◌∙◌, subst, inl, inr, codes, length, ne_eqb, eqb-true, arith, ◌==◌, ◌&&◌, ◌||◌}
-use Rattle.std.specs.Prelude.{fold, is_some, drop, if◌then◌else◌, option_and_then}
-use Rattle.std.specs.List.{list_all, list_any}
-use Rattle.std.specs.Str.Parse.{IsNumeral}
-use Rattle.clap.proofs.OnLiterals.{clap_on_literals}
-use Rattle.std.specs.Char.{digit_value}
-use Rattle.std.specs.Str.{bytes_eq}
-use Rattle.clap.specs.Lexer.{long_of_rest, short_of_rest, strip_byte}
-use Rattle.clap.proofs.WalkLemmas.{both}
-use Rattle.clap.specs.Walk.{Held, default_rows, has_row, is_empty, reading_by, Row, Rule, Text, Walk, finished, first_of, idle, option as waits_for, nothing_held, settled, used, walk_from, walked, with_default}
-use Rattle.clap.specs.Simple.{built, entered}
-use Rattle.clap.specs.Kinds.{Kinds, or_else}
-use Rattle.clap.specs.Faults.{check_fault, defaults_fault, entered_fault, settle_fault, turn_fault, use_fault, walk_fault}
-use Rattle.clap.specs.Words.{fault_of, matches_of}
-use Rattle.crn_run.specs.Inner.Parse.{Gives, IsRead, crnt_app, is_two_dashes}
-use Rattle.crn_run.specs.Words.{AreWithBudget, WriteBudget, part_name}
-use Rattle.crn_run.specs.declared.words.PartName.{PartName}
-use Rattle.crn_run.specs.declared.words.PartName.TheVariants.{Persist, Robust, Decomposition, Endo}
+use Rattle.crn_run.proofs.Prelude.{◌≡◌, ◌⊎◌, ◌<◌, ◌+◌, ◌++◌, ℕ, Bool, true, false, List, [], ◌∷◌, Option, Some, None, refl, sym, ap, ap₂, ◌∙◌, subst, inl, inr, codes, length, ne_eqb, eqb-true, arith, ◌==◌, ◌&&◌, ◌||◌, fold, is_some, if◌then◌else◌, option_and_then, list_all, list_any, IsNumeral, clap_on_literals, digit_value, bytes_eq, long_of_rest, short_of_rest, strip_byte, both, Held, default_rows, has_row, is_empty, reading_by, Row, Rule, Text, Walk, finished, first_of, idle, waits_for, nothing_held, settled, used, walk_from, walked, with_default, entered, Kinds, or_else, check_fault, defaults_fault, entered_fault, settle_fault, turn_fault, use_fault, walk_fault, fault_of, matches_of, Gives, IsRead, crnt_app, is_two_dashes, AreWithBudget, WriteBudget, part_name, PartName, Persist, Robust, Decomposition, Endo, head_is, tail_is}
+use Rattle.std.specs.Prelude.{drop}
+use Rattle.clap.specs.Simple.{built}
 use Rattle.crn_run.proofs.ClapWords.{IsValue, at, budget, budget_rule, first_none, holding, joined, joined_fault, joined_walked, none_then, parted, parted_fault, parted_walked, rules, second_none, shape, value_of}
 use Rattle.crn_run.proofs.ClapSteps.{IsPlace, first_place, second_place, waiting_fault, waiting_walked}
 use Rattle.crn_run.proofs.ClapReads.{Asked, SayAsked, reads_asked, rows_in, words_of}
-use Rattle.crn_vec.proofs.CallerLemmas.{head_is, tail_is}
 
 -- ---- from the walk to the parse
 

@@ -1,11 +1,5 @@
 -- The words that clap reads if the values that it gives are asked.
-use Rattle.std.proofs.Common.{◌≡◌, ◌⊎◌, ◌||◌, ◌+◌, ◌++◌, ℕ, Bool, true, false, List, [], ◌∷◌, Option, Some, None, refl, sym, ap, ap₂, ◌∙◌, subst, inl, inr, codes}
-use Rattle.std.specs.Prelude.{fold}
-use Rattle.std.specs.List.{list_any}
-use Rattle.clap.specs.Walk.{Held, Row, Text, Walk, first_of, idle, nothing_held, option, settled, used, walk_from, walked}
-use Rattle.clap.specs.Faults.{settle_fault, turn_fault, use_fault, walk_fault}
-use Rattle.crn_run.specs.Inner.Parse.{is_two_dashes}
-use Rattle.crn_run.specs.Words.{AreWithBudget, WriteBudget}
+use Rattle.crn_run.proofs.Prelude.{◌≡◌, ◌⊎◌, ◌||◌, ◌+◌, ◌++◌, ℕ, Bool, true, false, List, [], ◌∷◌, Option, Some, None, refl, sym, ap, ap₂, ◌∙◌, subst, inl, inr, codes, fold, list_any, Held, Row, Text, Walk, first_of, idle, nothing_held, option, settled, used, walk_from, walked, settle_fault, turn_fault, use_fault, walk_fault, is_two_dashes, AreWithBudget, WriteBudget}
 use Rattle.crn_run.proofs.ClapWords.{IsValue, Kind, at, budget, budget_rule, first_none, holding, joined, joined_fault, joined_walked, kind, parted, parted_fault, parted_walked, rules, second_none, shape, some_fault}
 use Rattle.crn_run.proofs.ClapSteps.{IsPlace, first_place, second_place, third_place, waiting_walked}
 

@@ -1,10 +1,5 @@
 -- The steps of clap's walk at a word that is a value.
-use Rattle.std.proofs.Common.{◌≡◌, ◌&&◌, ◌+◌, ℕ, Bool, true, false, List, [], ◌∷◌, Option, Some, None, refl, sym, ap, ◌∙◌, codes}
-use Rattle.std.specs.Prelude.{if◌then◌else◌, unwrap_or}
-use Rattle.clap.specs.Walk.{Held, Row, Rule, Step, Text, Walk, after_step, arg_by_index, idle, is_pending, option, pushed, settled, walked, word_met}
-use Rattle.clap.specs.Simple.{new_rule}
-use Rattle.clap.specs.Kinds.{Kinds, or_else}
-use Rattle.clap.specs.Faults.{settle_fault, step_fault, turn_fault}
+use Rattle.crn_run.proofs.Prelude.{◌≡◌, ◌&&◌, ◌+◌, ℕ, Bool, true, false, List, [], ◌∷◌, Option, Some, None, refl, sym, ap, ◌∙◌, codes, if◌then◌else◌, unwrap_or, Held, Row, Rule, Step, Text, Walk, after_step, arg_by_index, idle, is_pending, option, pushed, settled, walked, word_met, new_rule, Kinds, or_else, settle_fault, step_fault, turn_fault}
 use Rattle.crn_run.proofs.ClapWords.{IsValue, at, budget, holding, none_then, rules, second_none, shape, some_fault}
 
 -- ---- the option waits for a value

@@ -1,20 +1,7 @@
 -- What clap makes of one word, by what the word is: the option, the option with its value, a word that is refused wherever it is, or a value.
 -- The bytes of a word need not be UTF-8: a flag word with no first character is a value to clap's pure walk.
-use Rattle.std.proofs.Common.{◌≡◌, ◌⊎◌, ◌++◌, ℕ, ◌==◌, Bool, true, false, List, [], ◌∷◌, length, Option, Some, None, refl, sym, ap, ◌∙◌, ◌&&◌, ◌||◌, drop, take, not, cond, ◌+◌, one-add, subst, inl, inr, codes, ne_eqb}
-use Rattle.std.specs.Prelude.{if◌then◌else◌, option_and_then, unwrap_or, slice_get, encode_utf8}
-use Rattle.std.specs.Option.{option_map_or}
-use Rattle.std.specs.Str.{bytes_eq, chars}
-use Rattle.std.proofs.lemmas.Bool.{cases_eq}
-use Rattle.std.proofs.lemmas.Slice.Eq.{bytes_eq-Decides}
-use Rattle.std.specs.List.{before_first, position_or_len}
-use Rattle.clap.specs.declared.error.kind.ErrorKind.{ErrorKind}
-use Rattle.clap.specs.Lexer.{has_byte, long_of, name_and_value, long_of_rest, short_of, short_of_rest, strip_byte}
-use Rattle.clap.specs.Walk.{Held, after_flag, bundle_step, plain, Row, Rule, Text, Waiting, Walk, arg_by_long, arg_by_short, bundle_met, idle, long_or_other, option, plain_word, positional, settled, short_or_plain, subcommand_or_other, trailing, used, walked, word_met}
-use Rattle.clap.specs.Simple.{Shape, built, new_app, new_rule, with_rule}
-use Rattle.clap.specs.Kinds.{Kinds, or_else}
-use Rattle.clap.specs.Faults.{bundle_fault, bundle_step_fault, long_fault, flag_word_fault, flags_fault, other_fault, settle_fault, short_fault, turn_fault, use_fault, word_fault}
-use Rattle.clap.specs.declared.builder.action.ArgAction.TheVariants.{Set}
-use Rattle.crn_run.specs.Inner.Parse.{is_two_dashes}
+use Rattle.crn_run.proofs.Prelude.{◌≡◌, ◌⊎◌, ◌++◌, ℕ, ◌==◌, Bool, true, false, List, [], ◌∷◌, length, Option, Some, None, refl, sym, ap, ◌∙◌, ◌&&◌, ◌||◌, drop, take, not, cond, ◌+◌, one-add, subst, inl, inr, codes, ne_eqb, if◌then◌else◌, option_and_then, unwrap_or, slice_get, encode_utf8, option_map_or, bytes_eq, chars, cases_eq, bytes_eq-Decides, before_first, position_or_len, ErrorKind, has_byte, long_of, name_and_value, long_of_rest, short_of, short_of_rest, strip_byte, Held, after_flag, bundle_step, plain, Row, Rule, Text, Waiting, Walk, arg_by_long, arg_by_short, bundle_met, idle, long_or_other, option, plain_word, positional, settled, short_or_plain, subcommand_or_other, trailing, used, walked, word_met, Shape, new_app, new_rule, with_rule, Kinds, or_else, bundle_fault, bundle_step_fault, long_fault, flag_word_fault, flags_fault, other_fault, settle_fault, short_fault, turn_fault, use_fault, word_fault, Set, is_two_dashes}
+use Rattle.clap.specs.Simple.{built}
 
 -- the command, once built
 abbrev pub shape : Shape

@@ -1,29 +1,6 @@
 -- What follows from how a run ends: completeness, one text that may be written, devices without a fault.
-use Rattle.std.proofs.Common.{◌≡◌, ◌⊎◌, ℕ, ◌≤◌, List, length, Option, Some, None, refl, sym, ap, ap₂, subst, ◌∙◌, inl, inr, arith}
-use Rattle.std.specs.Prelude.{IfSome}
-use Rattle.crn_io.specs.Push.{HasNoRoom}
-use Rattle.crn_io.specs.Lines.{beginning}
-use Rattle.crn_vec.specs.Network.{Net}
-use Rattle.crn_text.specs.declared.fault.TextCode.{TextCode}
-use Rattle.crn_text.proofs.CallerLemmas.{one_fault, no_fault}
-use Rattle.crn_ctext.specs.Blocks.{course}
-use Rattle.crn_ctext.specs.Records.{Record}
-use Rattle.crn_ctext.specs.Judged.{IsGood}
-use Rattle.crn_ctext.specs.Meaning.{meaning, versions}
-use Rattle.crn_ctext.specs.Courses.{none_own}
-use Rattle.crn_ctext.proofs.CallerLemmas.{settled, gives_or_fails, first_is_one, good_documents_are_read, good_one}
-use Rattle.crn_cert.specs.Built.{built}
-use Rattle.crn_render.specs.Faults.{usage_line}
-use Rattle.crn_render.specs.Report.{render}
-use Rattle.crn_cert.specs.Answers.{verdicts_of}
-use Rattle.crn_run.specs.Parts.{IsFaultyOf, IsGoodOf}
-use Rattle.crn_run.specs.Run.{Devices, HasOpen, refused_line, rejected_line, WasLeft, IsRefusalOf, IsRejectionOf, IsCheckOf, verdicts_in, IsOutput, IsAllowed, IsReadForOutput, OrRejected, ReadsNetwork, RunGives, Shows, EndsWritten, IsSpelled, IsFaulty, IsFaultyDocument, IsComplete, IsQuiet}
-use Rattle.crn_run.specs.Words.{IsCommand, SayACommand}
-use Rattle.crn_run.specs.declared.words.Command.{Command}
-use Rattle.crn_run.specs.declared.words.Command.TheVariants.{Check, Sample, Verify}
-use Rattle.crn_run.specs.declared.words.PartName.{PartName}
-use Rattle.crn_run.specs.declared.status.Status.{Status}
-use Rattle.crn_run.specs.declared.status.Status.TheVariants.{Done, OpenLeft, Refused, Rejected, Usage, ReadFault, WriteFault, NoMemory}
+use Rattle.crn_run.proofs.Prelude.{◌≡◌, ◌⊎◌, ℕ, ◌≤◌, List, length, Option, Some, None, refl, sym, ap, ap₂, subst, ◌∙◌, inl, inr, arith, IfSome, HasNoRoom, beginning, Net, TextCode, one_fault, no_fault, course, Record, IsGood, meaning, versions, none_own, gives_or_fails, first_is_one, good_documents_are_read, good_one, built, usage_line, render, verdicts_of, IsFaultyOf, IsGoodOf, Devices, HasOpen, refused_line, rejected_line, WasLeft, IsRefusalOf, IsRejectionOf, IsCheckOf, verdicts_in, IsOutput, IsAllowed, IsReadForOutput, OrRejected, ReadsNetwork, RunGives, Shows, EndsWritten, IsSpelled, IsFaulty, IsFaultyDocument, IsComplete, IsQuiet, IsCommand, SayACommand, Command, Check, Sample, Verify, PartName, Status, Done, OpenLeft, Refused, Rejected, Usage, ReadFault, WriteFault, NoMemory}
+use Rattle.crn_ctext.proofs.CallerLemmas.{settled}
 use Rattle.crn_run.proofs.PartFacts.{good_or_faulty_of, one_of_verdicts, rejection_faulty, verdict_good}
 use Rattle.crn_run.proofs.Statuses.{IsAnswered, left_answered, refused_or_says, rejected_or, says_answered, says_spelled}
 use Rattle.crn_run.proofs.WordsSaid.{one_command}

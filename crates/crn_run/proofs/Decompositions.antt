@@ -1,21 +1,7 @@
 -- Verdicts of the part `parts` are short.
-use Rattle.std.proofs.Common.{◌≡◌, ◌+◌, ◌*◌, ◌^◌, ◌<◌, ◌≤◌, ◌==◌, ◌++◌, ℕ, List, [], ◌∷◌, length, map, arith}
-use Rattle.std.specs.Prelude.{pos, codes, decimal, filter}
-use Rattle.std.specs.List.{AllByRecursion, range_with_len}
-use Rattle.std.proofs.lemmas.Fmt.{length-decimal-le_wide}
-use Rattle.std.proofs.lemmas.List.{length-append}
-use Rattle.std.proofs.lemmas.List.FromFn.{length-range_with_len, length-map-range_with_len}
-use Rattle.crn_vec.specs.Network.{Net, IsNetwork}
-use Rattle.crn_vec.proofs.CallerLemmas.{filter_few}
-use Rattle.crn_io.specs.declared.lines.TheConstants.{MAX_DOCUMENT}
-use Rattle.crn_ctext.specs.Records.{numbers_text}
-use Rattle.crn_indep_check.specs.declared.parts.Parts.{Parts}
-use Rattle.crn_indep_check.specs.declared.parts.Parts.TheVariants.{Split, Wide}
-use Rattle.crn_indep_check.specs.Finest.{label_of}
-use Rattle.crn_indep_check.specs.Parts.{IsFormedParts}
-use Rattle.crn_indep_check.specs.Shown.{greatest, part_ranks}
-use Rattle.crn_indep_text.specs.Document.{seen_of}
-use Rattle.crn_run.specs.Parts.{parts_verdict, ranks_line}
+use Rattle.crn_run.proofs.Prelude.{◌≡◌, ◌+◌, ◌*◌, ◌^◌, ◌<◌, ◌≤◌, ◌==◌, ◌++◌, ℕ, List, [], ◌∷◌, length, map, arith, pos, decimal, filter, AllByRecursion, range_with_len, length-decimal-le_wide, length-append, length-range_with_len, length-map-range_with_len, Net, IsNetwork, filter_few, MAX_DOCUMENT, numbers_text, Parts, Split, label_of, IsFormedParts, greatest, part_ranks, seen_of, parts_verdict, ranks_line}
+use Rattle.std.specs.Prelude.{codes}
+use Rattle.crn_indep_check.specs.declared.parts.Parts.TheVariants.{Wide}
 
 -- numbers that are no greater than 1,000, each after a space
 numbers_most : (f : ℕ → ℕ) (ks : List ℕ) → ((k : ℕ) → f k ≤ 1000) → length (numbers_text (map pos (map f ks))) ≤ 31 * length ks

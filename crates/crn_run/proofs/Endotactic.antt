@@ -1,18 +1,9 @@
 -- Proofs and verdicts of the part `endo`.
-use Rattle.std.proofs.Common.{◌+◌, ◌<◌, ◌≤◌, ◌^◌, ◌++◌, ℕ, List, length, arith}
-use Rattle.std.specs.Prelude.{codes, decimal}
-use Rattle.std.proofs.lemmas.Fmt.{length-decimal-le_wide}
-use Rattle.std.proofs.lemmas.List.{length-append}
-use Rattle.crn_vec.specs.Network.{Net, IsNetwork}
-use Rattle.crn_vec.specs.declared.limits.TheConstants.{MAX_BUDGET}
-use Rattle.crn_io.specs.declared.lines.TheConstants.{MAX_DOCUMENT}
-use Rattle.crn_ctext.specs.Parts.{IsPartDocument, part_document}
-use Rattle.crn_endo.specs.Answer.{IsEndoAnswer, IsLicensedEndo}
-use Rattle.crn_endo_check.specs.Endo.{IsFormedEndo}
+use Rattle.crn_run.proofs.Prelude.{◌+◌, ◌<◌, ◌≤◌, ◌^◌, ◌++◌, ℕ, List, length, arith, decimal, length-decimal-le_wide, length-append, Net, IsNetwork, MAX_BUDGET, MAX_DOCUMENT, IsPartDocument, part_document, IsEndoAnswer, IsLicensedEndo, IsFormedEndo, Large, endo_verdict}
+use Rattle.std.specs.Prelude.{codes}
 use Rattle.crn_endo_check.specs.declared.endo.Endo.{Endo}
-use Rattle.crn_endo_check.specs.declared.endo.Endo.TheVariants.{Yes, No, Wide, Spent, Large}
+use Rattle.crn_endo_check.specs.declared.endo.Endo.TheVariants.{Yes, No, Wide, Spent}
 use Rattle.crn_endo_text.specs.Document.{HasFewNodes, WrittenAreDocuments, meant, part, records, seen_of}
-use Rattle.crn_run.specs.Parts.{endo_verdict}
 
 -- the trees of a yes have together no more nodes than the greatest budget
 few_nodes : (net : Net) (budget : ℕ) (answer : Endo) → budget ≤ MAX_BUDGET → IsLicensedEndo net budget answer → HasFewNodes answer

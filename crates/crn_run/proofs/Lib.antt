@@ -18,3 +18,4 @@ mod ClapSteps
 mod ClapReads
 mod ClapForms
 mod WordsSaid
+mod Prelude

@@ -1,11 +1,5 @@
 -- Some answer is open if and only if a walk over the answers meets one, and so for verdicts alone.
-use Rattle.std.proofs.Common.{◌≡◌, ℕ, zero, suc, List, [], ◌∷◌, Some, None, take, map, length, inl, inr, sym, subst, ◌≤◌}
-use Rattle.std.specs.Prelude.{slice_get}
-use Rattle.std.proofs.lemmas.List.{take_all, map-id}
-use Rattle.crn_cert.specs.declared.answer.Verdict.{Verdict}
-use Rattle.crn_cert.specs.Questions.{IsOpen}
-use Rattle.crn_vec.proofs.CallerLemmas.{some_is}
-use Rattle.crn_run.specs.Run.{HasOpen}
+use Rattle.crn_run.proofs.Prelude.{◌≡◌, ℕ, zero, suc, List, [], ◌∷◌, Some, None, take, map, length, inl, inr, sym, subst, ◌≤◌, slice_get, take_all, map-id, Verdict, IsOpen, some_is, HasOpen}
 
 -- an open verdict at a place
 pub open_at : {T : Type 0} (f : T → Verdict) (xs : List T) (i : ℕ) (a : T) → slice_get xs i ≡ Some a → IsOpen (f a) → HasOpen (map f xs)

@@ -1,34 +1,6 @@
 -- From the answers to a network's questions to what a command writes for its text.
-use Rattle.std.proofs.Common.{◌≡◌, ℕ, List, [], ◌∷◌, ◌++◌, refl, ap, subst, inr}
-use Rattle.crn_vec.specs.Network.{Net}
-use Rattle.crn_io.specs.Device.{SinkSeen}
-use Rattle.crn_io.specs.Write.{WroteAll, WrotePrefix}
-use Rattle.crn_cert.specs.declared.answer.Verdict.{Verdict}
-use Rattle.crn_cert.specs.Answers.{verdicts_of}
-use Rattle.crn_cert.specs.Built.{built}
-use Rattle.crn_cert.specs.Questions.{Earlier, Question}
-use Rattle.crn_cert.specs.Verdicts.{tight}
-use Rattle.crn_cert.specs.Formed.{AreFormed}
-use Rattle.crn_cert.specs.FormedVerdicts.{AreFormedVerdicts}
-use Rattle.crn_cert.specs.Valid.{AreValid}
-use Rattle.crn_cert.specs.TreeSizes.{HaveFewNodes}
-use Rattle.crn_cert.proofs.CallerLemmas.{formed_answers_have_formed_verdicts}
-use Rattle.crn_ctext.specs.Judged.{IsGood}
-use Rattle.crn_ctext.specs.Parts.{IsPartDocument}
-use Rattle.crn_text.specs.Spells.{Spells}
-use Rattle.crn_render.specs.Report.{render}
-use Rattle.crn_render.specs.Summary.{summary}
-use Rattle.crn_sample.specs.Sample.{sample_text}
-use Rattle.crn_solve.specs.Visits.{HaveNodeForEachVisit}
-use Rattle.crn_cert.specs.declared.answer.Answer.{Answer}
-use Rattle.crn_run.specs.Parts.{IsLeftBy, IsProofOf, subject_of}
-use Rattle.crn_run.specs.Run.{AreAnswersOf, AreLeftBy, HasOpen, certificate, IsCertificateOf, IsOutput, IsReportOf, IsSummaryOf}
-use Rattle.crn_run.specs.Inner.Steps.{LineGives, OutputGives}
-use Rattle.crn_run.specs.declared.words.Command.TheVariants.{Report, Certify, Sample, Prove}
-use Rattle.crn_run.specs.declared.words.PartName.{PartName}
-use Rattle.crn_run.specs.declared.status.Status.{Status}
+use Rattle.crn_run.proofs.Prelude.{◌≡◌, ℕ, List, [], ◌∷◌, ◌++◌, refl, ap, subst, inr, Net, SinkSeen, WroteAll, WrotePrefix, Verdict, verdicts_of, built, Earlier, Question, tight, AreFormed, AreFormedVerdicts, AreValid, HaveFewNodes, formed_answers_have_formed_verdicts, IsGood, IsPartDocument, Spells, render, summary, sample_text, HaveNodeForEachVisit, Answer, IsLeftBy, IsProofOf, subject_of, AreAnswersOf, AreLeftBy, HasOpen, certificate, IsCertificateOf, IsOutput, IsReportOf, IsSummaryOf, LineGives, OutputGives, Report, Certify, Sample, Prove, PartName, Status, WriteFault}
 use Rattle.crn_run.proofs.Statuses.{by_left, left_as}
-use Rattle.crn_run.specs.declared.status.Status.TheVariants.{WriteFault}
 
 -- the verdicts of formed answers are formed
 pub answers_formed : (net : Net) (earlier : Earlier) (qs : List Question) (answers : List Answer) → AreFormed net earlier qs answers → AreFormedVerdicts net earlier qs (verdicts_of answers)

@@ -1,29 +1,12 @@
 -- What holds of the parts: their documents are judged, their faults have names, and their verdicts are short.
-use Rattle.std.proofs.Common.{◌≡◌, ◌⊎◌, ℕ, ◌<◌, List, length, ap, ap₂, subst, ◌∙◌, sym, inl, inr, arith}
-use Rattle.crn_vec.specs.Network.{Net, IsNetwork}
-use Rattle.crn_io.specs.Lines.{beginning}
-use Rattle.crn_io.specs.declared.lines.TheConstants.{MAX_DOCUMENT}
-use Rattle.crn_cert.specs.Faults.{Fault, fault_number, BadHeader, BadNetwork, UnknownWord, BadField, NumberWide, WrongOrder, EndsEarly, AfterEnd, DocumentTooLong, LineTooLong, WrongClasses, WrongWalk, NotIndependent, NotSpanned, BadVector, WrongNumber, WrongVerdict, BadLeaf, NodeNotAllowed, TreeEndsEarly, TreeGoesOn, BadEvidence, WrongShape}
-use Rattle.crn_ctext.specs.Course.{IsReported}
-use Rattle.crn_ctext.specs.Courses.{IsSettled}
-use Rattle.crn_ctext.specs.Parts.{AreJudged, IsPartFault}
-use Rattle.crn_ctext.proofs.CallerLemmas.{documents_are_judged, gives_one}
-use Rattle.crn_render.specs.Faults.{IsDocumentCode}
-use Rattle.crn_siphon_check.specs.declared.answer.Outcome.{Outcome}
-use Rattle.crn_siphon_check.specs.declared.answer.Outcome.TheVariants.{Yes, No, Undecided}
+use Rattle.crn_run.proofs.Prelude.{◌≡◌, ◌⊎◌, ℕ, ◌<◌, List, length, ap, ap₂, subst, ◌∙◌, sym, inl, inr, arith, Net, IsNetwork, beginning, MAX_DOCUMENT, fault_number, BadHeader, BadNetwork, UnknownWord, BadField, NumberWide, WrongOrder, EndsEarly, AfterEnd, DocumentTooLong, LineTooLong, WrongClasses, WrongWalk, NotIndependent, NotSpanned, BadVector, WrongNumber, WrongVerdict, BadLeaf, NodeNotAllowed, TreeEndsEarly, TreeGoesOn, BadEvidence, WrongShape, IsReported, IsSettled, AreJudged, IsPartFault, documents_are_judged, gives_one, IsDocumentCode, Outcome, No, Undecided, persist_settled, persist_is_answered, parts_settled, parts_is_answered, IsFaultyOf, IsGoodOf, IsVerdictOf, IsPartRejectionOf, Subject, course_of, persist_verdict, subject_of, rejected_line, PartName, Persist, Robust, Decomposition, Endo, robust_settled, robust_is_answered, endo_settled, endo_is_answered}
+use Rattle.crn_cert.specs.Faults.{Fault}
+use Rattle.crn_siphon_check.specs.declared.answer.Outcome.TheVariants.{Yes}
 use Rattle.crn_siphon_text.specs.Document as persist
-use Rattle.crn_siphon_text.proofs.CallerLemmas.{course_settled as persist_settled, persist_is_answered}
 use Rattle.crn_indep_text.specs.Document as parts
-use Rattle.crn_indep_text.proofs.CallerLemmas.{course_settled as parts_settled, parts_is_answered}
-use Rattle.crn_run.specs.Parts.{IsFaultyOf, IsGoodOf, IsVerdictOf, IsPartRejectionOf, Subject, course_of, persist_verdict, subject_of}
-use Rattle.crn_run.specs.Run.{rejected_line}
-use Rattle.crn_run.specs.declared.words.PartName.{PartName}
-use Rattle.crn_run.specs.declared.words.PartName.TheVariants.{Persist, Robust, Decomposition, Endo}
 use Rattle.crn_robust_text.specs.Document as robust
-use Rattle.crn_robust_text.proofs.CallerLemmas.{course_settled as robust_settled, robust_is_answered}
 use Rattle.crn_run.proofs.Robustness.{robustness_short}
 use Rattle.crn_endo_text.specs.Document as endo
-use Rattle.crn_endo_text.proofs.CallerLemmas.{course_settled as endo_settled, endo_is_answered}
 use Rattle.crn_run.proofs.Endotactic.{endotactic_short}
 use Rattle.crn_run.proofs.Decompositions.{decomposition_short}
 

@@ -1,11 +1,5 @@
 -- Proofs of the part `persist`.
-use Rattle.std.proofs.Common.{◌≤◌, ℕ, arith}
-use Rattle.crn_vec.specs.Network.{Net}
-use Rattle.crn_vec.specs.declared.limits.TheConstants.{MAX_BUDGET}
-use Rattle.crn_ctext.specs.Parts.{IsPartDocument, part_document}
-use Rattle.crn_vec.specs.Network.{IsNetwork}
-use Rattle.crn_siphon_check.specs.Answers.{Said, Yes, NoLaw, NoSiphon, Wide, Spent, IsAnswer, IsLicensed}
-use Rattle.crn_siphon_text.specs.Document.{HasFewNodes, WrittenAreDocuments, meant, part, records}
+use Rattle.crn_run.proofs.Prelude.{◌≤◌, ℕ, arith, Net, MAX_BUDGET, IsPartDocument, part_document, IsNetwork, Said, Yes, NoLaw, NoSiphon, Wide, Spent, IsAnswer, IsLicensed, HasFewNodes, WrittenAreDocuments, meant, part, records}
 
 -- the tree of a yes has no more nodes than the greatest budget
 few_nodes : (net : Net) (budget : ℕ) (answer : Said) → budget ≤ MAX_BUDGET → IsLicensed net budget answer → HasFewNodes answer

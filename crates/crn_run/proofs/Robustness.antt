@@ -1,38 +1,11 @@
 -- Proofs and verdicts of the part `robust`.
-use Rattle.std.proofs.Common.{◌≡◌, ◌⊎◌, ◌≤◌, ◌<◌, ◌+◌, ◌-◌, ◌^◌, ◌++◌, ℕ, List, [], ◌∷◌, length, inl, inr, subst, sym, ◌∙◌, arith}
-use Rattle.std.specs.Prelude.{OnOk, Option, Some, Result, Ok, Err, codes, decimal, slice_get, slice_index_or}
-use Rattle.std.proofs.lemmas.Option.{same_Some}
-use Rattle.std.proofs.lemmas.Fmt.{length-decimal-le_wide}
-use Rattle.std.proofs.lemmas.List.{length-append}
-use Rattle.crn_vec.specs.Network.{Net, IsNetwork, IsName}
-use Rattle.crn_vec.proofs.CallerLemmas.{all_at}
-use Rattle.crn_io.specs.declared.lines.TheConstants.{MAX_DOCUMENT}
-use Rattle.crn_cert.specs.Tests.{Test, AllHold, FailsFirst}
-use Rattle.crn_cert.specs.Questions.{Earlier, IsOpen, Q5, on}
-use Rattle.crn_ctext.specs.Parts.{IsPartRead}
-use Rattle.crn_robust.specs.Law.{CasesDecideRobustness, IsTrueOf}
-use Rattle.crn_robust.specs.Pick.{IsPicked}
-use Rattle.crn_robust.specs.Robust.{IsCase}
+use Rattle.crn_run.proofs.Prelude.{◌≡◌, ◌⊎◌, ◌≤◌, ◌<◌, ◌+◌, ◌-◌, ◌^◌, ◌++◌, ℕ, List, [], ◌∷◌, length, inl, inr, subst, sym, ◌∙◌, arith, OnOk, decimal, slice_get, slice_index_or, same_Some, length-decimal-le_wide, length-append, Net, IsNetwork, IsName, all_at, MAX_DOCUMENT, Test, AllHold, FailsFirst, Earlier, IsOpen, Q5, on, IsPartRead, CasesDecideRobustness, IsTrueOf, IsPicked, IsCase, Number, Rests, AreInside, IsFormed, IsValid, ValidAreTrue, ValidLinesAreTrue, blocks_of, earlier_of, rests_on, said_of, blocks_learned, course_settled, robust_is_answered, AreFormed, AreValid, IsTrueOrLicensed, Q1, Q2, tight, Answer, Verdict, is_true_tight, documents_are_judged, Judges, CheckFault, AreRankAnswers, AreTrueOnRobustness, IsLicensedOnRobustness, robust_verdict}
+use Rattle.std.specs.Prelude.{Option, Some, Result, Ok, Err, codes}
 use Rattle.crn_robust.specs.declared.robust.Robust.{Robust}
-use Rattle.crn_robust.specs.declared.robust.Robust.TheVariants.{Yes, Number, None, Rests}
-use Rattle.crn_robust_text.specs.Document.{AreInside, IsFormed, IsValid, Said, ValidAreTrue, ValidLinesAreTrue, meant, part}
-use Rattle.crn_robust_text.specs.Document.{blocks_of, earlier_of, rests_on, said_of}
-use Rattle.crn_robust_text.proofs.CallerLemmas.{blocks_learned, course_settled, robust_is_answered}
-use Rattle.crn_cert.specs.Formed.{AreFormed}
-use Rattle.crn_cert.specs.Valid.{AreValid}
-use Rattle.crn_cert.specs.Licensed.{IsTrueOrLicensed}
-use Rattle.crn_cert.specs.Questions.{Q1, Q2}
-use Rattle.crn_cert.specs.Verdicts.{tight}
-use Rattle.crn_cert.specs.declared.answer.Answer.{Answer}
-use Rattle.crn_cert.specs.declared.answer.Verdict.{Verdict}
+use Rattle.crn_robust.specs.declared.robust.Robust.TheVariants.{Yes, None}
+use Rattle.crn_robust_text.specs.Document.{Said, meant, part}
 use Rattle.crn_cert.specs.declared.answer.Verdict.TheVariants as verdict
 use Rattle.crn_cert.specs.declared.answer.Gap.TheVariants as gap
-use Rattle.crn_cert.proofs.CallerLemmas.{is_true_tight}
-use Rattle.crn_ctext.proofs.CallerLemmas.{documents_are_judged}
-use Rattle.crn_check.specs.Check.{Judges}
-use Rattle.crn_check.specs.declared.fault.CheckFault.{CheckFault}
-use Rattle.crn_solve.specs.OnRank.{AreRankAnswers}
-use Rattle.crn_run.specs.Parts.{AreTrueOnRobustness, IsLicensedOnRobustness, robust_verdict}
 
 -- ---- what is read
 

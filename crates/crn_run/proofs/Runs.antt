@@ -1,30 +1,9 @@
 -- From a line or an output to a whole run.
-use Rattle.std.proofs.Common.{◌≡◌, ℕ, ◌+◌, List, [], ◌++◌, length, Option, Some, None, Result, Ok, Err, refl, sym, ap, subst, ◌∙◌, inl, inr, arith}
-use Rattle.std.specs.Prelude.{IfSome}
-use Rattle.std.proofs.lemmas.List.{length-append, append-nil}
-use Rattle.crn_vec.specs.declared.limits.TheConstants.{MAX_TEXT}
-use Rattle.crn_io.specs.declared.fault.ReadStop.{ReadStop}
-use Rattle.crn_io.specs.declared.fault.ReadStop.TheVariants.{TooLong, Failed}
+use Rattle.crn_run.proofs.Prelude.{◌≡◌, ℕ, ◌+◌, List, [], ◌++◌, length, Option, Some, None, Result, Ok, Err, refl, sym, ap, subst, ◌∙◌, inl, inr, arith, IfSome, length-append, append-nil, MAX_TEXT, ReadStop, TooLong, Failed, Consumes, HasNoneLeft, ReadGives, ConsumesUpTo, Fault, IsTooLong, TextTooLong, SourceSeen, usage_line, Devices, WasLeft, IsReadOut, IsReadFor, IsReadBy, IsReadWithin, IsOutput, IsRefusalOf, ReadsNetwork, RunGives, refused_line, IsCommand, SayACommand, Net, NetworkRead, HasNoMemory, LineGives, NetworkGives, OutputGives, StopGives, Stop, Command, Report, Certify, Check, Sample, Prove, Verify, Status, Done, OpenLeft, Refused, Rejected, Usage, ReadFault, WriteFault, NoMemory}
 use Rattle.crn_io.specs.declared.fault.ReadStop.TheVariants as stop
-use Rattle.crn_io.specs.Pull.{Consumes, HasNoneLeft}
-use Rattle.crn_io.specs.Read.{ReadGives, ConsumesUpTo}
-use Rattle.crn_text.specs.Spells.{Fault, IsTooLong}
-use Rattle.crn_text.specs.declared.fault.TextCode.TheVariants.{TextTooLong}
-use Rattle.crn_io.specs.Device.{SourceSeen}
-use Rattle.crn_render.specs.Faults.{usage_line}
-use Rattle.crn_run.specs.Run.{Devices, WasLeft, IsReadOut, IsReadFor, IsReadBy, IsReadWithin, IsOutput, IsRefusalOf, ReadsNetwork, RunGives, refused_line}
-use Rattle.crn_run.specs.Words.{IsCommand, SayACommand}
 use Rattle.crn_run.proofs.Statuses.{output_is_written, refused_or_says, says_answered}
 use Rattle.crn_run.proofs.WordsSaid.{one_command}
-use Rattle.crn_vec.specs.Network.{Net}
-use Rattle.crn_run.specs.Inner.Network.{NetworkRead}
-use Rattle.crn_run.specs.Inner.Steps.{HasNoMemory, LineGives, NetworkGives, OutputGives, StopGives}
-use Rattle.crn_run.specs.declared.network.Stop.{Stop}
 use Rattle.crn_run.specs.declared.network.Stop.TheVariants as network
-use Rattle.crn_run.specs.declared.words.Command.{Command}
-use Rattle.crn_run.specs.declared.words.Command.TheVariants.{Report, Certify, Check, Sample, Prove, Verify}
-use Rattle.crn_run.specs.declared.status.Status.{Status}
-use Rattle.crn_run.specs.declared.status.Status.TheVariants.{Done, OpenLeft, Refused, Rejected, Usage, ReadFault, WriteFault, NoMemory}
 
 -- ---- sources
 

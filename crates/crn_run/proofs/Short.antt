@@ -1,30 +1,6 @@
 -- What may be written is shorter than a document may be.
-use Rattle.std.proofs.Common.{◌≡◌, ℕ, ◌+◌, ◌<◌, ◌≤◌, ◌==◌, inl, inr, List, [], ◌∷◌, length, cond, sym, ap, subst, ◌∙◌, arith}
-use Rattle.std.specs.List.{slice_split, onto_first}
-use Rattle.std.proofs.lemmas.Bool.{cases_Bool}
-use Rattle.crn_vec.specs.Network.{Net}
-use Rattle.crn_io.specs.declared.lines.TheConstants.{MAX_DOCUMENT}
-use Rattle.crn_text.specs.Spells.{Fault}
-use Rattle.crn_text.specs.Tokens.{lines}
-use Rattle.crn_text.specs.declared.fault.TextCode.{TextCode}
-use Rattle.crn_cert.specs.Built.{built}
-use Rattle.crn_cert.specs.Answers.{verdicts_of}
-use Rattle.crn_cert.specs.declared.answer.Answer.{Answer}
-use Rattle.crn_cert.specs.declared.answer.Verdict.{Verdict}
+use Rattle.crn_run.proofs.Prelude.{◌≡◌, ℕ, ◌+◌, ◌<◌, ◌≤◌, ◌==◌, inl, inr, List, [], ◌∷◌, length, cond, sym, ap, subst, ◌∙◌, arith, slice_split, onto_first, cases_Bool, Net, MAX_DOCUMENT, Fault, lines, TextCode, built, verdicts_of, Answer, Verdict, answers_formed, records_answered, usage_line, Has32Bits, render, summary, fault_lines_are_short, reports_are_short, summaries_are_short, IsAllowed, IsCertificateOf, IsCheckOf, IsOutput, IsRefusalOf, IsRejectionOf, IsReportOf, IsSummaryOf, refused_line, rejected_line, verdicts_in, IsCommand, Say, Command, Report, Certify, Check, Sample, Prove, Verify, PartName, IsVerdictOf, IsPartRejectionOf, subject_of, Status}
 use Rattle.crn_ctext.specs.Judged.{records_of}
-use Rattle.crn_ctext.proofs.CallerLemmas.{answers_formed, records_answered}
-use Rattle.crn_render.specs.Faults.{usage_line}
-use Rattle.crn_render.specs.Length.{Has32Bits}
-use Rattle.crn_render.specs.Report.{render}
-use Rattle.crn_render.specs.Summary.{summary}
-use Rattle.crn_render.proofs.CallerLemmas.{fault_lines_are_short, reports_are_short, summaries_are_short}
-use Rattle.crn_run.specs.Run.{IsAllowed, IsCertificateOf, IsCheckOf, IsOutput, IsRefusalOf, IsRejectionOf, IsReportOf, IsSummaryOf, refused_line, rejected_line, verdicts_in}
-use Rattle.crn_run.specs.Words.{IsCommand, Say}
-use Rattle.crn_run.specs.declared.words.Command.{Command}
-use Rattle.crn_run.specs.declared.words.Command.TheVariants.{Report, Certify, Check, Sample, Prove, Verify}
-use Rattle.crn_run.specs.declared.words.PartName.{PartName}
-use Rattle.crn_run.specs.Parts.{IsVerdictOf, IsPartRejectionOf, subject_of}
-use Rattle.crn_run.specs.declared.status.Status.{Status}
 use Rattle.crn_run.proofs.PartFacts.{facts}
 use Rattle.crn_run.proofs.Statuses.{refused_or, rejected_or}
 

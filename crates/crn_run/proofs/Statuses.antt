@@ -1,13 +1,5 @@
 -- What a command writes, by the status that a run of it ends with.
-use Rattle.std.proofs.Common.{◌≡◌, ◌⊎◌, ℕ, List, refl, sym, subst, inl, inr}
-use Rattle.crn_cert.specs.declared.answer.Answer.{Answer}
-use Rattle.crn_cert.specs.Answers.{verdicts_of}
-use Rattle.crn_run.specs.Parts.{IsLeftBy, IsProofOf, IsVerdictOf, IsPartRejectionOf, subject_of}
-use Rattle.crn_run.specs.Run.{AreLeftBy, HasOpen, IsCertificateOf, IsCheckOf, IsOutput, IsRefusalOf, IsRejectionOf, IsReportOf, IsSpelled, OrRefused, OrRejected, ReadsNetwork}
-use Rattle.crn_run.specs.declared.words.Command.{Command}
-use Rattle.crn_run.specs.declared.words.Command.TheVariants.{Report, Certify, Check, Sample, Prove, Verify}
-use Rattle.crn_run.specs.declared.status.Status.{Status}
-use Rattle.crn_run.specs.declared.status.Status.TheVariants.{Done, OpenLeft, Refused, Rejected, Usage, ReadFault, WriteFault, NoMemory}
+use Rattle.crn_run.proofs.Prelude.{◌≡◌, ◌⊎◌, ℕ, List, refl, sym, subst, inl, inr, Answer, verdicts_of, IsLeftBy, IsProofOf, IsVerdictOf, IsPartRejectionOf, subject_of, AreLeftBy, HasOpen, IsCertificateOf, IsCheckOf, IsOutput, IsRefusalOf, IsRejectionOf, IsReportOf, IsSpelled, OrRefused, OrRejected, ReadsNetwork, Command, Report, Certify, Check, Sample, Prove, Verify, Status, Done, OpenLeft, Refused, Rejected, Usage, ReadFault, WriteFault, NoMemory}
 
 -- ---- statuses of answers
 

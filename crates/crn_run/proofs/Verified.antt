@@ -1,20 +1,6 @@
 -- From what was read of a document of a part to a whole run.
-use Rattle.std.proofs.Common.{◌≡◌, ℕ, List, Result, Err, refl, sym, ap, subst, ◌∙◌, inl}
-use Rattle.crn_vec.specs.Network.{Net, IsNetwork}
-use Rattle.crn_io.specs.Device.{SourceSeen}
-use Rattle.crn_ctext.specs.Parts.{IsPartRead}
-use Rattle.crn_reading.specs.Reads.{PullsAwaited, ReadingGives, ReadsAll}
-use Rattle.crn_reading.specs.declared.fault.CheckStop.{CheckStop}
+use Rattle.crn_run.proofs.Prelude.{◌≡◌, ℕ, List, Result, Err, refl, sym, ap, subst, ◌∙◌, inl, Net, IsNetwork, SourceSeen, IsPartRead, PullsAwaited, ReadingGives, ReadsAll, CheckStop, IsVerdictOf, Subject, course_of, subject_of, Devices, RunGives, rejected_line, IsCommand, DocumentStopGives, HasNamedCode, LineGives, Command, Check, Verify, PartName, Status, Done, Rejected}
 use Rattle.crn_reading.specs.declared.fault.CheckStop.TheVariants as document
-use Rattle.crn_run.specs.Parts.{IsVerdictOf, Subject, course_of, subject_of}
-use Rattle.crn_run.specs.Run.{Devices, RunGives, rejected_line}
-use Rattle.crn_run.specs.Words.{IsCommand}
-use Rattle.crn_run.specs.Inner.Steps.{DocumentStopGives, HasNamedCode, LineGives}
-use Rattle.crn_run.specs.declared.words.Command.{Command}
-use Rattle.crn_run.specs.declared.words.Command.TheVariants.{Check, Verify}
-use Rattle.crn_run.specs.declared.words.PartName.{PartName}
-use Rattle.crn_run.specs.declared.status.Status.{Status}
-use Rattle.crn_run.specs.declared.status.Status.TheVariants.{Done, Rejected}
 use Rattle.crn_run.proofs.Checked.{left_of}
 use Rattle.crn_run.proofs.PartFacts.{facts, fault_named}
 use Rattle.crn_run.proofs.Runs.{memory_ends, output_ends, read_out}

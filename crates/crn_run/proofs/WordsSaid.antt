@@ -1,25 +1,6 @@
 -- From what clap reads to the command that the words say, and back.
-use Rattle.std.proofs.Common.{◌≡◌, ◌≤◌, ℕ, true, false, arith, List, [], ◌∷◌, Option, Some, None, drop, refl, sym, ap, ap₂, ◌∙◌, subst, inl, inr, codes}
-use Rattle.std.specs.Prelude.{MatchOption, if◌then◌else◌}
-use Rattle.std.specs.List.{list_any}
-use Rattle.clap.specs.Walk.{Text}
-use Rattle.clap.specs.Kinds.{HasKind, IsAmong, Kinds}
-use Rattle.clap.specs.Words.{App, HasMatchesOf, fault_of, first_of, first_value, found_of, is_simple, is_simple_and_free, kind_of, matches_of}
-use Rattle.clap.specs.declared.error.Error.{Error}
-use Rattle.clap.specs.declared.error.kind.ErrorKind.TheVariants.{OutOfMemory}
-use Rattle.clap.specs.declared.parser.matches.ArgMatches.{ArgMatches}
-use Rattle.clap.proofs.OnLiterals.{clap_on_literals}
-use Rattle.clap.proofs.WalkLemmas.{first_value-rows}
-use Rattle.crn_run.specs.Inner.Parse.{Gives, IsRead, Means, MeansBudget, MeansNumber, MeansPart, crnt_app, is_two_dashes}
-use Rattle.std.specs.Str.{bytes_eq}
-use Rattle.std.specs.Str.Parse.{digits_value}
-use Rattle.crn_vec.specs.declared.limits.TheConstants.{DEFAULT_BUDGET, MAX_BUDGET}
-use Rattle.crn_sample.specs.declared.limits.TheConstants.{MAX_SAMPLE}
-use Rattle.crn_run.specs.Words.{IsCommand, Say, SayPlain, part_name}
-use Rattle.crn_run.specs.declared.words.Command.{Command}
-use Rattle.crn_run.specs.declared.words.Command.TheVariants.{Report, Certify, Check, Sample, Prove, Verify}
-use Rattle.crn_run.specs.declared.words.PartName.{PartName}
-use Rattle.crn_run.specs.declared.words.PartName.TheVariants.{Persist, Robust, Decomposition, Endo}
+use Rattle.crn_run.proofs.Prelude.{◌≡◌, ◌≤◌, ℕ, true, false, arith, List, [], ◌∷◌, Option, Some, None, drop, refl, sym, ap, ap₂, ◌∙◌, subst, inl, inr, codes, MatchOption, if◌then◌else◌, list_any, Text, HasKind, IsAmong, Kinds, App, HasMatchesOf, fault_of, first_value, found_of, is_simple, is_simple_and_free, kind_of, matches_of, Error, OutOfMemory, ArgMatches, clap_on_literals, first_value-rows, Gives, IsRead, Means, MeansBudget, MeansNumber, MeansPart, crnt_app, is_two_dashes, bytes_eq, digits_value, DEFAULT_BUDGET, MAX_BUDGET, MAX_SAMPLE, IsCommand, Say, SayPlain, part_name, Command, Report, Certify, Check, Sample, Prove, Verify, PartName, Persist, Robust, Decomposition, Endo}
+use Rattle.clap.specs.Words.{first_of}
 use Rattle.crn_run.proofs.ClapReads.{Asked, SayAsked, words_of}
 use Rattle.crn_run.proofs.ClapForms.{IsPlain, IsPlainIfSome, IsReadAs, budget_is_read, certify_plain, check_plain, digits_are, name_is_read, part_plain, prove_plain, read_is_asked, report_plain, sample_plain, verify_plain}
 

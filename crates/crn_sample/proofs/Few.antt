@@ -1,25 +1,5 @@
 -- A text whose lines have no fault by themselves spells a network if its statements are few.
-use Rattle.std.proofs.Common.{◌≡◌, ℕ, zero, suc, ◌+◌, ◌<◌, ◌≤◌, ◌&&◌, Bool, true, false, List, [], ◌∷◌, ◌++◌, Option, Some, None, length, take, drop, get_or, refl, sym, ap, ◌∙◌, append_assoc, inl, inr, arith}
-use Rattle.std.specs.Prelude.{ℤ, map, nat_lt, nat_le, not, is_some}
-use Rattle.std.specs.List.{flat_map, list_all}
-use Rattle.std.specs.Str.{bytes_eq}
-use Rattle.std.specs.Ordering.{int_eq}
-use Rattle.std.specs.Cmp.Lexicographic.{pointwise}
-use Rattle.std.proofs.lemmas.Bool.{le-ltb, leb-true}
-use Rattle.std.proofs.lemmas.List.{length-append, length-map}
-use Rattle.std.proofs.lemmas.List.Concat.{flat_map-append}
-use Rattle.std.proofs.lemmas.List.Filters.{length-filter_both}
-use Rattle.std.proofs.lemmas.List.Folds.{list_all-append}
-use Rattle.crn_vec.specs.Lists.{firsts}
-use Rattle.crn_vec.specs.Network.{Net, Statement, sides_eq, said_by, names_in}
-use Rattle.crn_vec.specs.declared.limits.TheConstants.{MAX_SPECIES, MAX_COMPLEXES, MAX_REACTIONS, MAX_TEXT}
-use Rattle.crn_vec.proofs.CallerLemmas.{firsts_length, and_first, and_cases}
-use Rattle.crn_text.specs.Tokens.{lines}
-use Rattle.crn_text.specs.Sides.{line_statements, all_statements}
-use Rattle.crn_text.specs.Faults.{both_of, complexes_of, is_empty, is_self, limits_fault, names_of, own_fault, reactions_of, statement_fault, statements_fault}
-use Rattle.crn_text.specs.Spells.{Spells, fault_on}
-use Rattle.crn_text.specs.declared.fault.TextCode.{TextCode}
-use Rattle.crn_text.proofs.CallerLemmas.{judged, flat_map_whole}
+use Rattle.crn_sample.proofs.Prelude.{◌≡◌, ℕ, zero, suc, ◌+◌, ◌<◌, ◌≤◌, ◌&&◌, Bool, true, false, List, [], ◌∷◌, ◌++◌, Option, Some, None, length, take, drop, get_or, refl, sym, ap, ◌∙◌, append_assoc, inl, inr, arith, ℤ, map, nat_lt, nat_le, not, is_some, flat_map, list_all, bytes_eq, int_eq, pointwise, le-ltb, leb-true, length-append, length-map, flat_map-append, length-filter_both, list_all-append, firsts, Net, Statement, sides_eq, said_by, names_in, MAX_SPECIES, MAX_COMPLEXES, MAX_REACTIONS, MAX_TEXT, firsts_length, and_first, and_cases, lines, line_statements, all_statements, both_of, complexes_of, is_empty, is_self, limits_fault, names_of, own_fault, reactions_of, statement_fault, statements_fault, Spells, fault_on, TextCode, judged, flat_map_whole}
 
 -- ---- what is computed of a text
 

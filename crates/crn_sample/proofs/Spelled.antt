@@ -1,17 +1,5 @@
 -- The text of each sample spells a network.
-use Rattle.std.proofs.Common.{◌≡◌, ℕ, zero, suc, ◌<◌, ◌≤◌, ◌&&◌, Bool, List, true, Err, refl, sym, subst, inl, inr, arith}
-use Rattle.std.specs.Fmt.{digits}
-use Rattle.std.proofs.lemmas.Bool.{cases_lt}
-use Rattle.crn_vec.specs.Network.{Net}
-use Rattle.crn_vec.proofs.CallerLemmas.{and_first, and_cases}
-use Rattle.crn_text.specs.Tokens.{first_token, tokens_after}
-use Rattle.crn_text.specs.Faults.{own_fault}
-use Rattle.crn_text.specs.Spells.{Spells, TextGives}
-use Rattle.crn_text.specs.declared.fault.TextCode.TheVariants.{NoMemory}
-use Rattle.crn_text.specs.declared.fault.TextFault.{TextFault}
-use Rattle.crn_text.proofs.CallerLemmas.{no_fault}
-use Rattle.crn_sample.specs.Sample.{sample_text}
-use Rattle.crn_sample.specs.declared.limits.TheConstants.{MAX_SAMPLE}
+use Rattle.crn_sample.proofs.Prelude.{◌≡◌, ℕ, zero, suc, ◌<◌, ◌≤◌, ◌&&◌, Bool, List, true, Err, refl, sym, subst, inl, inr, arith, digits, cases_lt, Net, and_first, and_cases, first_token, tokens_after, own_fault, Spells, TextGives, NoMemory, TextFault, no_fault, sample_text, MAX_SAMPLE}
 use Rattle.crn_sample.proofs.Few.{fine_is_spelled, is_fine}
 
 -- the texts of the samples up to this number are fine

@@ -7,3 +7,4 @@ mod ShapeKinds
 mod Opposites
 mod ShapeWidths
 mod SidesTested
+mod Prelude

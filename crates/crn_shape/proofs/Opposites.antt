@@ -1,10 +1,5 @@
 -- Linked pairs that get the opposite sum one after another.
-use Rattle.std.proofs.Common.{◌≡◌, ℕ, ◌+◌, ◌<◌, ◌≤◌, List, length, map, get_or, sym, ap, ◌∙◌, inl, inr, arith}
-use Rattle.std.specs.Prelude.{pos, slice_set}
-use Rattle.std.proofs.lemmas.List.{get_or-map, get_or-set_same, get_or-set_other, length-map, ext_get_or}
-use Rattle.crn_vec.proofs.CallerLemmas.{eq_or}
-use Rattle.crn_shape.specs.Inner.Pairs.{opposite_linked}
-use Rattle.crn_shape.specs.declared.pairs.LinkedPair.{LinkedPair}
+use Rattle.crn_shape.proofs.Prelude.{◌≡◌, ℕ, ◌+◌, ◌<◌, ◌≤◌, List, length, map, get_or, sym, ap, ◌∙◌, inl, inr, arith, pos, slice_set, get_or-map, get_or-set_same, get_or-set_other, length-map, ext_get_or, eq_or, opposite_linked, LinkedPair}
 
 -- a linked pair past the end
 abbrev pub no_linked : LinkedPair

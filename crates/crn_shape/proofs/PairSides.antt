@@ -1,24 +1,5 @@
 -- The pair of a side, found as the first reaction that joins complexes of different marks.
-use Rattle.std.proofs.Common.{◌≡◌, ℕ, ◌*◌, ◌<◌, ◌≤◌, List, [], ◌∷◌, length, refl, sym, ap, subst, ◌∙◌, inl, inr, arith}
-use Rattle.std.specs.Prelude.{ℤ, ◌*ℤ◌, Option, Some, unsigned_abs}
-use Rattle.std.specs.List.{AllByRecursion}
-use Rattle.std.proofs.lemmas.Int.{ints}
-use Rattle.crn_vec.specs.declared.limits.TheConstants.{WIDE_SOLUTION, MAX_AMOUNT, MAX_COMPLEXES}
-use Rattle.crn_vec.specs.Network.{Net, IsNetwork}
-use Rattle.crn_vec.specs.Linkage.{IsLinked}
-use Rattle.crn_vec.specs.Vectors.{AreWithin, dot, entry}
-use Rattle.crn_vec.specs.Strong.{IsReaction}
-use Rattle.crn_vec.specs.CutPairs.{IsBetween, IsFreeStep, IsOnSide, IsTerminalPair, IsFirstOfPair}
-use Rattle.crn_vec.specs.Sums.{AreMarks}
-use Rattle.crn_vec.specs.Confluence.{IsRegular}
-use Rattle.crn_vec.specs.NetSignals.{top_at, AreTops}
-use Rattle.crn_vec.proofs.CallerLemmas.{lt_or, within_from, dot-comm, inside_at, reaction_in, leads_here, leads_back, mark_yes, mark_no, other_step, free_back, product_within, sum_within}
-use Rattle.crn_cert.proofs.CallerLemmas.{some_top}
-use Rattle.crn_cert.specs.Ranges.{IsNarrow}
-use Rattle.crn_shape.specs.Sides.{IsSideOf}
-use Rattle.crn_shape.specs.declared.pairs.LinkedPair.{LinkedPair}
-use Rattle.crn_shape.specs.Shapes.{ends_of, IsPairIn}
-use Rattle.crn_shape.specs.Inner.Pairs.{IsFirstAcross, IsSide, IsPairFor}
+use Rattle.crn_shape.proofs.Prelude.{◌≡◌, ℕ, ◌*◌, ◌<◌, ◌≤◌, List, [], ◌∷◌, length, refl, sym, ap, subst, ◌∙◌, inl, inr, arith, ℤ, ◌*ℤ◌, Option, Some, unsigned_abs, AllByRecursion, ints, WIDE_SOLUTION, MAX_AMOUNT, MAX_COMPLEXES, Net, IsNetwork, IsLinked, AreWithin, dot, entry, IsReaction, IsBetween, IsFreeStep, IsOnSide, IsTerminalPair, IsFirstOfPair, AreMarks, IsRegular, top_at, AreTops, lt_or, within_from, dot-comm, inside_at, reaction_in, leads_here, leads_back, mark_yes, mark_no, other_step, free_back, product_within, sum_within, some_top, IsNarrow, IsSideOf, LinkedPair, ends_of, IsPairIn, IsFirstAcross, IsSide, IsPairFor}
 
 -- ---- the two complexes of the pair
 

@@ -1,16 +1,5 @@
 -- The kinds of the coordinates of part A, and the rows of system 5.
-use Rattle.std.proofs.Common.{◌≡◌, ℕ, ◌+◌, ◌-◌, ◌<◌, ◌≤◌, List, [], ◌∷◌, ◌++◌, length, map, get_or, take, drop, sym, ap, ◌∙◌, arith}
-use Rattle.std.specs.Prelude.{None}
-use Rattle.std.proofs.lemmas.List.{get_or-map, get_or_append_left, get_or-append_right, length-map, length-append}
-use Rattle.crn_vec.specs.declared.signs.Sign.{Sign}
-use Rattle.crn_vec.specs.declared.signs.Kind.{Kind}
-use Rattle.crn_vec.specs.declared.signs.Kind.TheVariants.{Free}
-use Rattle.crn_vec.specs.Concordance.{row_kinds}
-use Rattle.crn_vec.specs.Elementary.{width}
-use Rattle.crn_vec.specs.Systems.{kind_at}
-use Rattle.crn_vec.specs.Signals.{Shape, complex_row, pair_row, pair_kind, shelf_kinds, shelf_matrix, top_kind}
-use Rattle.crn_vec.proofs.CallerLemmas.{length-rows}
-use Rattle.crn_shape.specs.Shapes.{no_pair}
+use Rattle.crn_shape.proofs.Prelude.{◌≡◌, ℕ, ◌+◌, ◌-◌, ◌<◌, ◌≤◌, List, [], ◌∷◌, ◌++◌, length, map, get_or, take, drop, sym, ap, ◌∙◌, arith, None, get_or-map, get_or_append_left, get_or-append_right, length-map, length-append, Sign, Kind, Free, row_kinds, width, kind_at, Shape, complex_row, pair_row, pair_kind, shelf_kinds, shelf_matrix, top_kind, length-rows, no_pair}
 
 -- ---- kinds
 

@@ -1,22 +1,5 @@
 -- The shape of a network by its tops and pairs is its shape for g, and that of the opposite sums.
-use Rattle.std.proofs.Common.{◌≡◌, ℕ, ◌<◌, ◌≤◌, ◌^◌, inl, inr, List, [], ◌∷◌, length, map, refl, ap, arith}
-use Rattle.std.proofs.lemmas.Int.{ints}
-use Rattle.crn_vec.specs.declared.limits.TheConstants.{MAX_COMPLEXES}
-use Rattle.std.specs.Prelude.{ℤ, Option, neg_ℤ, unsigned_abs}
-use Rattle.std.specs.List.{AllByRecursion, AllZip}
-use Rattle.std.proofs.lemmas.List.{length-map}
-use Rattle.crn_vec.specs.Lists.{IsIn}
-use Rattle.crn_vec.specs.Network.{Net, IsNetwork}
-use Rattle.crn_vec.specs.CutPairs.{IsFirstOfPair}
-use Rattle.crn_vec.specs.Confluence.{IsRegular}
-use Rattle.crn_vec.specs.Signals.{Pair, Shape}
-use Rattle.crn_vec.specs.NetSignals.{AreTops, IsPairOf, IsShapeOf, opposite_pair, opposite_shape}
-use Rattle.crn_vec.proofs.CallerLemmas.{inside_at, reaction_in, few_pairs}
-use Rattle.crn_cert.proofs.CallerLemmas.{widths, tops_below}
-use Rattle.crn_shape.specs.Sides.{IsSideOf, AreSides}
-use Rattle.crn_shape.specs.declared.pairs.LinkedPair.{LinkedPair}
-use Rattle.crn_shape.specs.Shapes.{IsPairIn, AreForShape, pair_of, shape_of}
-use Rattle.crn_shape.specs.Inner.Pairs.{IsSide, IsPairFor, opposite_linked}
+use Rattle.crn_shape.proofs.Prelude.{◌≡◌, ℕ, ◌<◌, ◌≤◌, ◌^◌, inl, inr, List, [], ◌∷◌, length, map, refl, ap, arith, ints, MAX_COMPLEXES, ℤ, Option, neg_ℤ, unsigned_abs, AllByRecursion, AllZip, length-map, IsIn, Net, IsNetwork, IsFirstOfPair, IsRegular, Pair, Shape, AreTops, IsPairOf, IsShapeOf, opposite_pair, opposite_shape, inside_at, reaction_in, few_pairs, widths, tops_below, IsSideOf, AreSides, LinkedPair, IsPairIn, AreForShape, pair_of, shape_of, IsSide, IsPairFor, opposite_linked}
 
 sides_by : (net : Net) (places : List ℕ) (sides : List (List ℤ)) → ((r : ℕ) → IsIn r places → IsFirstOfPair net.reactions r) → AllZip (IsSideOf net) places sides → AllByRecursion (IsSide net) sides
 sides_by net [] [] first h = tt

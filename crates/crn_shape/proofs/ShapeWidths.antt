@@ -1,14 +1,5 @@
 -- Each row of system 5 has an entry for each species and one for the level.
-use Rattle.std.proofs.Common.{◌≡◌, ◌+◌, ℕ, List, [], ◌∷◌, length, map, ap, ◌∙◌, arith}
-use Rattle.std.specs.Prelude.{ℤ, pos, negsuc, Option}
-use Rattle.std.specs.List.{AllByRecursion}
-use Rattle.std.proofs.lemmas.List.{length-append}
-use Rattle.crn_vec.specs.Lists.{IsIn}
-use Rattle.crn_vec.specs.Network.{Net, IsNetwork, IsVector, reaction_vector}
-use Rattle.crn_vec.specs.Signals.{Pair, complex_row, pair_row, shelf_matrix}
-use Rattle.crn_vec.proofs.CallerLemmas.{all_append, all_in, all_map, at_in, in_map, reaction_long}
-use Rattle.crn_shape.specs.declared.pairs.LinkedPair.{LinkedPair}
-use Rattle.crn_shape.specs.Shapes.{AreForShape, IsPairIn, ends_of, pair_of, shape_of}
+use Rattle.crn_shape.proofs.Prelude.{◌≡◌, ◌+◌, ℕ, List, [], ◌∷◌, length, map, ap, ◌∙◌, arith, ℤ, pos, negsuc, Option, AllByRecursion, length-append, IsIn, Net, IsNetwork, IsVector, reaction_vector, Pair, complex_row, pair_row, shelf_matrix, all_append, all_in, all_map, at_in, in_map, reaction_long, LinkedPair, AreForShape, IsPairIn, ends_of, pair_of, shape_of}
 
 complex_wide : (net : Net) → IsNetwork net → (y : List ℤ) → IsIn y net.complexes → length (complex_row y) ≡ length net.names + 1
 complex_wide net n y i =

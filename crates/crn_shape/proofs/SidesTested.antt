@@ -1,21 +1,5 @@
 -- Sides that pass the tests of question 11 are those of the linked pairs within terminal classes.
-use Rattle.std.proofs.Common.{◌≡◌, ◌∙◌, ◌-◌, ◌⊎◌, inl, inr, ℕ, suc, List, [], ◌∷◌, length, arith, sym}
-use Rattle.std.specs.Prelude.{ℤ, pos}
-use Rattle.std.specs.List.{AllByRecursion, AllZip}
-use Rattle.crn_vec.specs.Network.{Net, IsNetwork}
-use Rattle.crn_vec.specs.CutPairs.{IsOnSide}
-use Rattle.crn_vec.specs.Deficiency.{IsLabelled}
-use Rattle.crn_vec.specs.Sums.{AreMarks}
-use Rattle.crn_vec.proofs.CallerLemmas.{all_at, one_ne_zero}
-use Rattle.crn_cert.specs.ClassTests.{AreSideMarks}
-use Rattle.crn_cert.specs.Parts.{AreSides as AreFormedSides}
-use Rattle.crn_cert.specs.Questions.{Earlier, Q2, on}
-use Rattle.crn_cert.specs.Ranges.{AreBits}
-use Rattle.crn_cert.specs.Says.{IsTrueOf, from_zero}
-use Rattle.crn_cert.specs.Tests.{AllHold}
-use Rattle.crn_cert.specs.Valid.{linkage, pair_places, side_tests}
-use Rattle.crn_cert.proofs.CallerLemmas.{pair_places_are_pairs, tested_marks_are_sides}
-use Rattle.crn_shape.specs.Sides.{IsSideOf, AreSides}
+use Rattle.crn_shape.proofs.Prelude.{◌≡◌, ◌∙◌, ◌-◌, ◌⊎◌, inl, inr, ℕ, suc, List, [], ◌∷◌, length, arith, sym, ℤ, pos, AllByRecursion, AllZip, Net, IsNetwork, IsOnSide, IsLabelled, AreMarks, all_at, one_ne_zero, AreSideMarks, AreFormedSides, Earlier, Q2, on, AreBits, IsTrueOf, from_zero, AllHold, linkage, pair_places, side_tests, pair_places_are_pairs, tested_marks_are_sides, IsSideOf, AreSides}
 
 -- marks that are 0 or 1 and pass the test
 marks_right : (net : Net) (labels : List ℕ) (r : ℕ) (marks : List ℤ) → IsNetwork net → IsLabelled net labels → AreBits (length net.complexes) marks → (m : AreSideMarks net labels r marks) → AreMarks (IsOnSide net.reactions m.y m.z) marks

@@ -1,13 +1,5 @@
 -- The numbers of the terminal classes by labels and exits are tops of the network.
-use Rattle.std.proofs.Common.{◌≡◌, ℕ, zero, suc, ◌+◌, ◌-◌, ◌≤◌, Bool, cond, List, [], ◌∷◌, length, get_or, map, refl, sym, ap, ap₂, subst, ◌∙◌, inl, inr, arith, ◌==◌}
-use Rattle.std.specs.Prelude.{Option, Some, None}
-use Rattle.std.proofs.lemmas.Bool.{cases_Bool, eq-eqb, eqb-true}
-use Rattle.crn_vec.specs.Network.{Net}
-use Rattle.crn_vec.specs.NetSignals.{top_at, AreTops}
-use Rattle.crn_vec.proofs.CallerLemmas.{top_inside}
-use Rattle.crn_cert.specs.Says.{AreStrongClasses}
-use Rattle.crn_cert.proofs.CallerLemmas.{zeros_below as zeros_to, top_for as top_of, tops_of, tops_are}
-use Rattle.crn_shape.specs.Inner.Tops.{zeros_below, top_for}
+use Rattle.crn_shape.proofs.Prelude.{◌≡◌, ℕ, zero, suc, ◌+◌, ◌-◌, ◌≤◌, Bool, cond, List, [], ◌∷◌, length, get_or, map, refl, sym, ap, ap₂, subst, ◌∙◌, inl, inr, arith, ◌==◌, Option, Some, None, cases_Bool, eq-eqb, eqb-true, Net, top_at, AreTops, top_inside, AreStrongClasses, zeros_to, top_of, tops_of, tops_are, zeros_below, top_for}
 
 -- ---- the numbers of the contracts are those of the law
 

@@ -1,27 +1,5 @@
 -- A search that ends with a signal or a tree stays within the budget, and one that stops leaves the question open.
-use Rattle.std.proofs.Common.{◌≡◌, ℕ, ◌≤◌, List, [], ◌∷◌, ◌++◌, length, Bool, true, false, sym, subst, arith}
-use Rattle.std.specs.Prelude.{ℤ, pos, negsuc}
-use Rattle.std.proofs.lemmas.Int.{ints}
-use Rattle.crn_vec.specs.declared.signs.Sign.{Sign}
-use Rattle.crn_vec.specs.Kept.{KeptInts}
-use Rattle.crn_vec.specs.Network.{Net}
-use Rattle.crn_vec.specs.NetSystems.{reaction_system}
-use Rattle.crn_vec.specs.Signals.{Shape, signals}
-use Rattle.crn_vec.specs.NetSignals.{IsShapeOf}
-use Rattle.crn_vec.specs.Visits.{IsVisitList, PassesBudget, root}
-use Rattle.crn_vec.proofs.CallerLemmas.{longer_by, shapes_are_one}
-use Rattle.crn_cert.specs.declared.answer.Answer.{Answer}
-use Rattle.crn_cert.specs.declared.answer.Verdict.{Verdict}
-use Rattle.crn_cert.specs.declared.answer.Verdict.TheVariants.{Unknown}
-use Rattle.crn_cert.specs.Licensed.{PassForSignals}
-use Rattle.crn_cert.specs.Questions.{IsOpen}
-use Rattle.crn_cert.specs.Trees.{Plan, places}
-use Rattle.crn_sign.specs.declared.end.SearchEnd.TheVariants.{Found, Refuted}
-use Rattle.crn_sign.specs.declared.fault.SearchStop.{SearchStop}
-use Rattle.crn_sign.specs.declared.fault.SearchStop.TheVariants.{WideA, WideB, NoMemory}
-use Rattle.crn_shelf.specs.Inner.Shapes.{EndsFor}
-use Rattle.crn_shelf.specs.Inner.Answers.{IsFoundAnswer, IsStopAnswer}
-use Rattle.crn_shelf.specs.Order.{IsForNegative}
+use Rattle.crn_shelf.proofs.Prelude.{◌≡◌, ℕ, ◌≤◌, List, [], ◌∷◌, ◌++◌, length, Bool, true, false, sym, subst, arith, ℤ, pos, negsuc, ints, Sign, KeptInts, Net, reaction_system, Shape, signals, IsShapeOf, IsVisitList, PassesBudget, root, longer_by, shapes_are_one, Answer, Verdict, Unknown, PassForSignals, IsOpen, Plan, places, Found, Refuted, SearchStop, WideA, WideB, NoMemory, EndsFor, IsFoundAnswer, IsStopAnswer, IsForNegative}
 
 within : (net : Net) (g : List ℤ) (budget : ℕ) (s : Shape) (visits : List (List Sign)) (found : Bool) → IsShapeOf net g s → IsVisitList (signals s (reaction_system net)) visits found → length visits ≤ budget → PassForSignals net g budget → ⊥
 within net g budget s visits found sh v few pass =

@@ -1,17 +1,5 @@
 -- One option more changes the kinds of part A in the same way, whatever the options before.
-use Rattle.std.proofs.Common.{◌≡◌, ◌≢◌, ℕ, zero, suc, ◌+◌, ◌-◌, ◌<◌, ◌≤◌, ◌⊎◌, inl, inr, List, [], ◌∷◌, ◌++◌, length, map, take, drop, Bool, true, cond, refl, sym, ap, ap₂, ◌∙◌, arith}
-use Rattle.std.specs.Prelude.{Option, Some, None, nat_lt}
-use Rattle.std.proofs.lemmas.Bool.{lt-ltb, le-ltb}
-use Rattle.std.proofs.lemmas.List.{get_or_append_left, get_or-append_right, drop_all, length-append, length-map, take_all, take-append-le}
-use Rattle.crn_vec.specs.declared.signs.Sign.{Sign}
-use Rattle.crn_vec.specs.declared.signs.Sign.TheVariants.{Zero}
-use Rattle.crn_vec.specs.declared.signs.Kind.{Kind}
-use Rattle.crn_vec.specs.declared.signs.Kind.TheVariants.{Pos, Neg, NonNeg, Zero as ZeroKind, Free}
-use Rattle.crn_vec.specs.Concordance.{kind_of_sign, row_kinds}
-use Rattle.crn_vec.specs.Signals.{Pair, Shape, pair_kind, pair_kind_by, shelf_at, shelf_kinds, top_kind}
-use Rattle.crn_vec.specs.Systems.{kind_at}
-use Rattle.crn_vec.proofs.CallerLemmas.{lt_or, length-rows}
-use Rattle.crn_shelf.specs.Inner.Choices.{IsWith, added_kind}
+use Rattle.crn_shelf.proofs.Prelude.{◌≡◌, ◌≢◌, ℕ, zero, suc, ◌+◌, ◌-◌, ◌<◌, ◌≤◌, ◌⊎◌, inl, inr, List, [], ◌∷◌, ◌++◌, length, map, take, drop, Bool, true, cond, refl, sym, ap, ap₂, ◌∙◌, arith, Option, Some, None, nat_lt, lt-ltb, le-ltb, get_or_append_left, get_or-append_right, drop_all, length-append, length-map, take_all, take-append-le, Sign, Zero, Kind, Pos, Neg, NonNeg, ZeroKind, Free, kind_of_sign, row_kinds, Pair, Shape, pair_kind, pair_kind_by, shelf_at, shelf_kinds, top_kind, kind_at, lt_or, length-rows, IsWith, added_kind}
 
 -- the kinds before an option, x and y, and those with it, z and w: neither changes, or nothing was
 -- required before, and the same is required then

@@ -1,18 +1,5 @@
 -- What a prefix requires of part A, by the words of the prefix before its last option and those of that option.
-use Rattle.std.proofs.Common.{◌≡◌, ◌≢◌, ℕ, zero, suc, ◌+◌, ◌/◌, ◌%◌, ◌<◌, ◌≤◌, ◌⊎◌, max, inl, inr, List, [], ◌∷◌, ◌++◌, length, get_or, replicate, set, refl, sym, ap, ap₂, subst, ◌∙◌, arith}
-use Rattle.std.specs.Int.{bit_at}
-use Rattle.std.proofs.lemmas.List.{get_or-set_same, get_or-set_other, length-set}
-use Rattle.std.proofs.lemmas.Nat.Bits.{bit_at-zero, bit_at_or}
-use Rattle.crn_vec.specs.declared.signs.Sign.{Sign}
-use Rattle.crn_vec.specs.declared.signs.Kind.{Kind}
-use Rattle.crn_vec.specs.declared.signs.Kind.TheVariants.{Pos, Neg, NonNeg, Zero as ZeroKind, Free}
-use Rattle.crn_vec.specs.Signals.{Shape, shelf_kinds, shelf_matrix}
-use Rattle.crn_vec.specs.Systems.{kind_at}
-use Rattle.crn_vec.proofs.CallerLemmas.{eq_or}
-use Rattle.crn_sign.specs.declared.bits.Bits.{Bits}
-use Rattle.crn_sign.specs.Options.{AskKinds, kind_in, kind_of_bits, none, word_at}
-use Rattle.crn_shelf.specs.declared.choice.Choice.{Choice}
-use Rattle.crn_shelf.specs.Inner.Choices.{AreChoices, AreJoined, IsAdded, IsChoice, IsWith, added_by, joined}
+use Rattle.crn_shelf.proofs.Prelude.{◌≡◌, ◌≢◌, ℕ, zero, suc, ◌+◌, ◌/◌, ◌%◌, ◌<◌, ◌≤◌, ◌⊎◌, max, inl, inr, List, [], ◌∷◌, ◌++◌, length, get_or, replicate, set, refl, sym, ap, ap₂, subst, ◌∙◌, arith, bit_at, get_or-set_same, get_or-set_other, length-set, bit_at-zero, bit_at_or, Sign, Kind, Pos, Neg, NonNeg, ZeroKind, Free, Shape, shelf_kinds, shelf_matrix, kind_at, eq_or, Bits, AskKinds, kind_in, kind_of_bits, none, word_at, Choice, AreChoices, AreJoined, IsAdded, IsChoice, IsWith, added_by, joined}
 
 -- ---- one coordinate
 

@@ -5,3 +5,4 @@ mod Answered
 mod Budgets
 mod Gradual
 mod Joins
+mod Prelude

@@ -1,13 +1,5 @@
 -- What a search over a shape gives.
-use Rattle.std.proofs.Common.{◌≡◌, ℕ, subst}
-use Rattle.std.specs.Prelude.{Result, Ok, Err, MatchResult}
-use Rattle.crn_vec.specs.Network.{Net}
-use Rattle.crn_vec.specs.Vectors.{Mat}
-use Rattle.crn_vec.specs.NetSystems.{reaction_system}
-use Rattle.crn_vec.specs.Signals.{Shape, signals}
-use Rattle.crn_sign.specs.declared.end.SearchEnd.{SearchEnd}
-use Rattle.crn_sign.specs.declared.fault.SearchStop.{SearchStop}
-use Rattle.crn_sign.specs.Search.{IsSearchEnd, IsSearchStop}
+use Rattle.crn_shelf.proofs.Prelude.{◌≡◌, ℕ, subst, Result, Ok, Err, MatchResult, Net, Mat, reaction_system, Shape, signals, SearchEnd, SearchStop, IsSearchEnd, IsSearchStop}
 
 pub matched : {T E : Type 0} (P Q : T → Type 0) (R S : E → Type 0) (r : Result T E) → ((x : T) → P x → Q x) → ((e : E) → R e → S e) → MatchResult r P R → MatchResult r Q S
 matched P Q R S (Ok x) f g h = f x h

@@ -1,15 +1,6 @@
 -- No kind that the sign problem of signals asks is that of numbers of at least 0.
-use Rattle.std.proofs.Common.{◌≢◌, ℕ, zero, suc, List, [], ◌∷◌, ◌++◌, length, map, take, drop, Bool, true, false, Option, Some, None}
-use Rattle.std.specs.Prelude.{ℤ, if◌then◌else◌, nat_lt}
-use Rattle.std.specs.List.{AllByRecursion}
-use Rattle.crn_vec.specs.declared.signs.Sign.{Sign}
-use Rattle.crn_vec.specs.declared.signs.Sign.TheVariants.{Zero, Plus, Minus}
-use Rattle.crn_vec.specs.declared.signs.Kind.{Kind}
-use Rattle.crn_vec.specs.declared.signs.Kind.TheVariants.{NonNeg, Zero as ZeroKind, Free}
-use Rattle.crn_vec.specs.Concordance.{kind_of_sign, row_kinds, sign}
-use Rattle.crn_vec.specs.Problems.{opposite}
-use Rattle.crn_vec.specs.Signals.{Pair, Shape, pair_kind, pair_kind_by, shelf_at, shelf_kinds, top_kind}
-use Rattle.crn_vec.specs.Systems.{kind_at}
+use Rattle.crn_shelf.proofs.Prelude.{◌≢◌, ℕ, zero, suc, List, [], ◌∷◌, ◌++◌, length, map, take, drop, Bool, true, false, ℤ, if◌then◌else◌, nat_lt, AllByRecursion, Sign, Zero, Plus, Minus, Kind, NonNeg, ZeroKind, Free, kind_of_sign, row_kinds, sign, opposite, Pair, Shape, pair_kind, pair_kind_by, shelf_at, shelf_kinds, top_kind, kind_at}
+use Rattle.std.proofs.Common.{Option, Some, None}
 
 -- a kind other than that of numbers of at least 0
 abbrev IsStrict : Kind → Type 0

@@ -1,12 +1,5 @@
 -- The rows of system 5, one after another.
-use Rattle.std.proofs.Common.{◌≡◌, ◌+◌, ◌*◌, List, [], ◌∷◌, ◌++◌, length, map, refl, ap, ◌∙◌, append_assoc}
-use Rattle.std.specs.Prelude.{ℤ}
-use Rattle.std.specs.List.{AllByRecursion, flat_map}
-use Rattle.crn_vec.specs.Lists.{IsIn}
-use Rattle.crn_vec.specs.Vectors.{Mat, rows_of}
-use Rattle.crn_vec.specs.Matrices.{mat_of}
-use Rattle.crn_vec.specs.Signals.{Shape, complex_row, pair_row, shelf_matrix}
-use Rattle.crn_vec.proofs.CallerLemmas.{all_in, length-rows_after, rows_after}
+use Rattle.crn_shelf.proofs.Prelude.{◌≡◌, ◌+◌, ◌*◌, List, [], ◌∷◌, ◌++◌, length, map, refl, ap, ◌∙◌, append_assoc, ℤ, AllByRecursion, flat_map, IsIn, Mat, rows_of, mat_of, Shape, complex_row, pair_row, shelf_matrix, all_in, length-rows_after, rows_after}
 
 abbrev itself : List ℤ → List ℤ
 itself r = r

@@ -1,20 +1,6 @@
 -- What holds of marks by words of 64 bits, coordinate by coordinate.
-use Rattle.std.proofs.Common.{◌≡◌, ◌≢◌, ℕ, zero, suc, ◌+◌, ◌*◌, ◌/◌, ◌%◌, ◌<◌, ◌≤◌, min, max, inl, inr, List, length, set, refl, sym, ap, subst, ◌∙◌, arith}
-use Rattle.std.specs.Prelude.{ℤ, pos, negsuc, ◌≤ℤ◌}
-use Rattle.std.specs.Int.{bit_at}
-use Rattle.std.proofs.lemmas.Int.{ints}
-use Rattle.std.proofs.lemmas.Nat.Bits.{bit_at-zero}
-use Rattle.std.proofs.lemmas.List.{length-set, get_or-set_same, get_or-set_other}
-use Rattle.crn_vec.specs.Systems.{MayWeigh, one_if}
-use Rattle.crn_vec.proofs.CallerLemmas.{eq_or, below_two, weigh_zero, positive_some}
-use Rattle.crn_sign.specs.declared.bits.Bits.{Bits}
-use Rattle.crn_sign.specs.declared.problem.Asked.{Asked}
-use Rattle.crn_sign.specs.declared.marks.Mark.{Mark}
-use Rattle.crn_sign.specs.declared.marks.Mark.TheVariants.{Zero, Plus, Minus, Any}
-use Rattle.crn_sign.specs.Options.{IsPut, bit_of, weakened, word_of}
-use Rattle.crn_sign.specs.Inner.Bits.{IsMarked, mark_at, mark_in, mark_of, none, word_at}
-use Rattle.crn_sign.specs.Inner.Marks.{Suits, united, kind_of_mark, laid, negative}
-use Rattle.crn_sign.specs.Inner.Past.{Counts, Weighs}
+use Rattle.crn_sign.proofs.Prelude.{◌≡◌, ◌≢◌, ℕ, zero, suc, ◌+◌, ◌*◌, ◌/◌, ◌%◌, ◌<◌, ◌≤◌, min, max, inl, inr, List, length, set, refl, sym, ap, subst, ◌∙◌, arith, pos, negsuc, ◌≤ℤ◌, bit_at, ints, bit_at-zero, length-set, get_or-set_same, get_or-set_other, MayWeigh, one_if, eq_or, below_two, weigh_zero, positive_some, Bits, Asked, Mark, Zero, Plus, Minus, Any, IsPut, bit_of, weakened, word_of, IsMarked, mark_at, mark_in, mark_of, none, word_at, Suits, united, kind_of_mark, laid, negative, Counts, Weighs}
+use Rattle.std.specs.Prelude.{ℤ}
 
 -- ---- four bits
 

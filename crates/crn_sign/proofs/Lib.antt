@@ -4,3 +4,4 @@ mod MarkLaws
 mod PastLaws
 mod PlaceLaws
 mod Walks
+mod Prelude

@@ -1,26 +1,7 @@
 -- What is known of the signs of sums of vectors (x, Ax), and that suitable signs make a solution.
-use Rattle.std.proofs.Common.{◌≡◌, ℕ, zero, suc, ◌+◌, ◌<◌, ◌≤◌, inl, inr, List, [], ◌∷◌, length, map, get_or, take, refl, sym, ap, ap₂, subst, ◌∙◌, arith}
-use Rattle.std.specs.Prelude.{ℤ, pos, negsuc, ◌*ℤ◌, ◌+ℤ◌, ◌≤ℤ◌, unsigned_abs}
-use Rattle.std.specs.List.{range_with_len}
-use Rattle.std.proofs.lemmas.Int.{ints}
-use Rattle.std.proofs.lemmas.List.{get_or-map, length-map}
-use Rattle.std.proofs.lemmas.List.FromFn.{get_or-range_with_len, length-range_with_len}
+use Rattle.crn_sign.proofs.Prelude.{◌≡◌, ℕ, zero, suc, ◌+◌, ◌<◌, ◌≤◌, inl, inr, List, [], ◌∷◌, length, map, get_or, take, refl, sym, ap, ap₂, subst, ◌∙◌, arith, pos, negsuc, ◌*ℤ◌, ◌+ℤ◌, ◌≤ℤ◌, unsigned_abs, range_with_len, ints, get_or-map, length-map, get_or-range_with_len, length-range_with_len, Sign, ZeroSign, PlusSign, MinusSign, Kind, Free, Mat, entry, dot, scale, HasSign, width, InRowSpace, HasKind, IsSolution, kind_at, eq_or, zip_from, zip_at, plus, zeros, entry-plus, length-zeros, entry-zeros, take-zeros, dot-zeros, entry-scale, length-scale, row_scaled, row_plus, Bits, Mark, Zero, Plus, Minus, Any, AreRowSigns, IsMarked, mark_at, word_count, AreMadeBy, AreMet, AreOpposite, AreRowMarks, AreSuited, HasMark, kind_there, united, kind_of_mark, kinds_of, laid, negative, sign_mark, sign_there}
+use Rattle.std.specs.Prelude.{ℤ}
 use lib.IntN.{*ℤ-zero}
-use Rattle.crn_vec.specs.declared.signs.Sign.{Sign}
-use Rattle.crn_vec.specs.declared.signs.Sign.TheVariants.{Zero as ZeroSign, Plus as PlusSign, Minus as MinusSign}
-use Rattle.crn_vec.specs.declared.signs.Kind.{Kind}
-use Rattle.crn_vec.specs.declared.signs.Kind.TheVariants.{Free}
-use Rattle.crn_vec.specs.Vectors.{Mat, entry, dot, scale, HasSign}
-use Rattle.crn_vec.specs.Elementary.{width, InRowSpace}
-use Rattle.crn_vec.specs.Systems.{HasKind, IsSolution, kind_at}
-use Rattle.crn_vec.proofs.CallerLemmas.{eq_or, zip_from, zip_at, plus, zeros, entry-plus, length-zeros, entry-zeros, take-zeros, dot-zeros, entry-scale, length-scale}
-use Rattle.crn_farkas.proofs.CallerLemmas.{row_scaled, row_plus}
-use Rattle.crn_sign.specs.declared.bits.Bits.{Bits}
-use Rattle.crn_sign.specs.declared.marks.Mark.{Mark}
-use Rattle.crn_sign.specs.declared.marks.Mark.TheVariants.{Zero, Plus, Minus, Any}
-use Rattle.crn_sign.specs.Inner.RowSigns.{AreRowSigns}
-use Rattle.crn_sign.specs.Inner.Bits.{IsMarked, mark_at, word_count}
-use Rattle.crn_sign.specs.Inner.Marks.{AreMadeBy, AreMet, AreOpposite, AreRowMarks, AreSuited, HasMark, kind_there, united, kind_of_mark, kinds_of, laid, negative, sign_mark, sign_there}
 
 -- ---- sums in the row space
 

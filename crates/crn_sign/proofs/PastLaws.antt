@@ -1,27 +1,6 @@
 -- What past multipliers rule out, by the marks of the list (-uA, u).
-use Rattle.std.proofs.Common.{◌≡◌, ◌≢◌, ℕ, zero, suc, ◌+◌, ◌-◌, ◌≤◌, ◌<◌, ◌/◌, ◌%◌, inl, inr, List, [], ◌∷◌, ◌++◌, length, get_or, take, drop, replicate, Bool, true, false, refl, sym, ap, ap₂, subst, ◌∙◌, add-one, arith, lit≤}
-use Rattle.std.specs.Prelude.{ℤ, pos, negsuc, neg_ℤ, ◌*ℤ◌, unsigned_abs}
-use Rattle.std.proofs.lemmas.Int.{ints}
-use Rattle.std.proofs.lemmas.List.{length-drop, length-replicate, get_or-drop, get_or_past}
-use Rattle.crn_vec.specs.declared.limits.TheConstants.{WIDE_ENTRY, WIDE_SOLUTION}
-use Rattle.crn_vec.specs.declared.signs.Sign.{Sign}
-use Rattle.crn_vec.specs.declared.signs.Kind.{Kind}
-use Rattle.crn_vec.specs.declared.signs.Kind.TheVariants.{Zero as ZeroKind, Pos, Neg, NonNeg, Free}
-use Rattle.crn_vec.specs.Vectors.{Mat, entry, dot, column, scale, HasSign, AreWithin}
-use Rattle.crn_vec.specs.Elementary.{width, InDualSpace}
-use Rattle.crn_vec.specs.Systems.{MayWeigh, is_signed, kind_at}
-use Rattle.crn_vec.proofs.CallerLemmas.{eq_or, lt_or, zip_from, within_from}
-use Rattle.crn_vec.proofs.CallerLemmas.{entry-scale, length-scale}
-use Rattle.crn_farkas.specs.Decision.{factor, IsSmallCut}
-use Rattle.crn_farkas.proofs.CallerLemmas.{dual_scaled, drop-scale}
-use Rattle.crn_farkas.proofs.CallerLemmas.{scaled_small}
-use Rattle.crn_sign.specs.declared.bits.Bits.{Bits}
-use Rattle.crn_sign.specs.declared.marks.Mark.{Mark}
-use Rattle.crn_sign.specs.declared.marks.Mark.TheVariants.{Zero}
-use Rattle.crn_sign.specs.Options.{bit_of, weakened}
-use Rattle.crn_sign.specs.Inner.Bits.{IsMarked, mark_at, mark_in, none, word_at, word_count}
-use Rattle.crn_sign.specs.Inner.Marks.{HasMark, kind_of_mark, kinds_of, sign_mark}
-use Rattle.crn_sign.specs.Inner.Past.{AllWeigh, AreMarksOf, IsPast, SomeCounts, mark_of_multiple}
+use Rattle.crn_sign.proofs.Prelude.{◌≡◌, ◌≢◌, ℕ, zero, suc, ◌+◌, ◌-◌, ◌≤◌, ◌<◌, ◌/◌, ◌%◌, inl, inr, List, [], ◌∷◌, ◌++◌, length, get_or, take, drop, replicate, Bool, true, false, refl, sym, ap, ap₂, subst, ◌∙◌, add-one, arith, lit≤, pos, negsuc, neg_ℤ, ◌*ℤ◌, unsigned_abs, ints, length-drop, length-replicate, get_or-drop, get_or_past, WIDE_ENTRY, WIDE_SOLUTION, Sign, Kind, ZeroKind, Pos, Neg, NonNeg, Free, Mat, entry, dot, column, scale, HasSign, AreWithin, width, InDualSpace, MayWeigh, is_signed, kind_at, eq_or, lt_or, zip_from, within_from, entry-scale, length-scale, factor, IsSmallCut, dual_scaled, drop-scale, scaled_small, Bits, Mark, Zero, bit_of, weakened, IsMarked, mark_at, mark_in, none, word_at, word_count, HasMark, kind_of_mark, kinds_of, sign_mark, AllWeigh, AreMarksOf, IsPast, SomeCounts, mark_of_multiple}
+use Rattle.std.specs.Prelude.{ℤ}
 use Rattle.crn_sign.proofs.BitLaws.{none_in}
 use Rattle.crn_sign.proofs.MarkLaws.{kind_asked, kinds_long, negated_mark, plain_mark, signed_mark}
 

@@ -1,25 +1,7 @@
 -- What a part knows at a prefix, while kinds are asked and after.
-use Rattle.std.proofs.Common.{◌≡◌, ◌≢◌, ℕ, zero, suc, ◌+◌, ◌-◌, ◌%◌, ◌<◌, ◌≤◌, inl, inr, List, [], ◌∷◌, ◌++◌, length, get_or, take, drop, drop-cons, Bool, true, false, refl, sym, ap, ap₂, subst, ◌∙◌, add-one, arith}
-use Rattle.std.proofs.lemmas.Nat.Bits.{bit_at-zero}
-use Rattle.std.proofs.lemmas.List.{length-append, ext_get_or, drop_all, take-append-le, take_all}
-use Rattle.crn_vec.specs.declared.signs.Sign.{Sign}
-use Rattle.crn_vec.specs.declared.signs.Kind.{Kind}
-use Rattle.crn_vec.specs.declared.signs.Kind.TheVariants.{Zero, Pos, Neg, NonNeg, Free}
-use Rattle.crn_vec.specs.Vectors.{Mat}
-use Rattle.crn_vec.specs.Elementary.{width}
-use Rattle.crn_vec.specs.Systems.{kind_at, one_if}
-use Rattle.crn_vec.specs.Problems.{Signed}
-use Rattle.crn_vec.proofs.CallerLemmas.{eq_or}
-use Rattle.crn_sign.specs.declared.bits.Bits.{Bits}
-use Rattle.crn_sign.specs.declared.place.Place.{Place}
-use Rattle.crn_sign.specs.declared.walk.Level.{Level}
-use Rattle.crn_sign.specs.declared.problem.Asked.{Asked}
-use Rattle.crn_sign.specs.Options.{AskKinds, AskKindsBy, IsPut, asked_kind, bit_of, kind_by as asked_by, kind_by_words, kind_in, kind_of_bits, minus_at, plus_at, weakened, word_count}
-use Rattle.crn_sign.specs.Settled.{SettlesOnly}
-use Rattle.crn_sign.specs.Inner.Bits.{mark_of}
-use Rattle.crn_sign.specs.Inner.Marks.{AreRowMarks, kind_of_mark, kinds_of}
-use Rattle.crn_sign.specs.Inner.Places.{HasRoom, IsAround, IsAsked, IsHere, IsPlace, IsSettledAt, IsSettling}
-use Rattle.crn_sign.specs.Inner.Ready.{AreAround, AreAsked, AreMarked, IsLevel}
+use Rattle.crn_sign.proofs.Prelude.{◌≡◌, ◌≢◌, ℕ, zero, suc, ◌+◌, ◌-◌, ◌%◌, ◌<◌, ◌≤◌, inl, inr, List, [], ◌∷◌, ◌++◌, length, get_or, take, drop, drop-cons, Bool, true, false, refl, sym, ap, ap₂, subst, ◌∙◌, add-one, arith, bit_at-zero, length-append, ext_get_or, drop_all, take-append-le, take_all, Sign, Kind, Pos, Neg, NonNeg, Free, Mat, width, kind_at, one_if, Signed, eq_or, Bits, Place, Level, Asked, AskKinds, AskKindsBy, IsPut, asked_kind, bit_of, asked_by, kind_by_words, kind_in, kind_of_bits, minus_at, plus_at, weakened, SettlesOnly, mark_of, AreRowMarks, kind_of_mark, kinds_of, HasRoom, IsAround, IsAsked, IsHere, IsPlace, IsSettledAt, IsSettling, AreAround, AreAsked, AreMarked, IsLevel}
+use Rattle.crn_vec.specs.declared.signs.Kind.TheVariants.{Zero}
+use Rattle.crn_sign.specs.Options.{word_count}
 use Rattle.crn_sign.proofs.MarkLaws.{kind_asked, kinds_long}
 
 pub room_of : (a : Mat) (weak : List ℕ) (l : Place) → IsPlace a weak l → HasRoom a l

@@ -1,27 +1,8 @@
 -- How the visits of a prefix, of its children and of all below them end.
-use Rattle.std.proofs.Common.{◌≡◌, ℕ, suc, ◌+◌, ◌<◌, List, [], ◌∷◌, ◌++◌, length, map, Bool, true, false, refl, sym, ap, subst, ◌∙◌, arith}
+use Rattle.crn_sign.proofs.Prelude.{◌≡◌, ℕ, suc, ◌+◌, ◌<◌, List, [], ◌∷◌, ◌++◌, length, map, Bool, true, false, refl, sym, ap, subst, ◌∙◌, arith, append_assoc, append-nil, length-append, map-append, false≢true, Sign, cuts_exclude_solutions, IsSmallCut, TreeNode, Flat, Signed, IsFull, IsFeasible, children, all_zero, options_below, SolvesA, SolvesB, Visits, over, fallen, ended, opened, Passes, begun, below, Plan, Both, Three, RulesA, RulesB, places, Listed, ListedSplitTwo, ListedSplitThree, ListedCutA, ListedCutB, listed, preorder, visits_then, visits_ended, passes_at, passes_first, passes_then, same_tree, narrow_all, SearchEnd, FoundEnd, RefutedEnd, SpentEnd, Ending, Listing, Found, Refuted, Spent, IsFeasibleBy, IsOutcome, IsSearchEnd, IsTreeAt, EndsWith, EndsWithout, RunsOut, EndsAt, EndsBelow, HasTree, IsEndOf, IsFoundAt, IsLeafAt, Appends, outcome_at}
 use Rattle.std.specs.Prelude.{ℤ}
-use Rattle.std.proofs.lemmas.List.{append_assoc, append-nil, length-append, map-append}
-use Rattle.std.proofs.lemmas.Bool.{false≢true}
-use Rattle.crn_vec.specs.declared.signs.Sign.{Sign}
 use Rattle.crn_vec.specs.declared.signs.Sign.TheVariants.{Zero, Plus, Minus}
-use Rattle.crn_vec.proofs.CallerLemmas.{cuts_exclude_solutions}
-use Rattle.crn_farkas.specs.Decision.{IsSmallCut}
-use Rattle.crn_cert.specs.declared.tree_node.TreeNode.{TreeNode}
-use Rattle.crn_cert.specs.declared.tree_node.TreeNode.TheVariants.{Flat}
-use Rattle.crn_vec.specs.Problems.{Signed, IsFull, IsFeasible, children, all_zero, options_below, SolvesA, SolvesB}
-use Rattle.crn_vec.specs.Visits.{Visits, over, fallen, ended, opened, Passes, begun, below}
-use Rattle.crn_cert.specs.Trees.{Plan, Both, Three, RulesA, RulesB, Level, places}
-use Rattle.crn_cert.specs.Preorder.{Listed, ListedSplitTwo, ListedSplitThree, ListedCutA, ListedCutB, listed, preorder}
-use Rattle.crn_vec.proofs.CallerLemmas.{visits_then, visits_ended, passes_at, passes_first, passes_then}
-use Rattle.crn_cert.proofs.CallerLemmas.{same_tree, narrow_all}
-use Rattle.crn_sign.specs.declared.end.SearchEnd.{SearchEnd}
-use Rattle.crn_sign.specs.declared.end.SearchEnd.TheVariants.{Found as FoundEnd, Refuted as RefutedEnd, Spent as SpentEnd}
-use Rattle.crn_sign.specs.declared.walk.Ending.{Ending}
-use Rattle.crn_sign.specs.declared.walk.Listing.{Listing}
-use Rattle.crn_sign.specs.declared.walk.Ending.TheVariants.{Found, Refuted, Spent}
-use Rattle.crn_sign.specs.Search.{IsFeasibleBy, IsOutcome, IsSearchEnd, IsTreeAt}
-use Rattle.crn_sign.specs.Inner.Walk.{EndsWith, EndsWithout, RunsOut, EndsAt, EndsBelow, HasTree, IsEndOf, IsFoundAt, IsLeafAt, Appends, outcome_at}
+use Rattle.crn_cert.specs.Trees.{Level}
 
 -- ---- nodes
 

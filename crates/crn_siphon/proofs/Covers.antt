@@ -1,13 +1,5 @@
 -- Covers that are kept: numbers of the reactions with species that they increase.
-use Rattle.std.proofs.Common.{ℕ, ◌<◌, List, length, get_or}
-use Rattle.crn_vec.specs.Network.{Net}
-use Rattle.crn_vec.proofs.CallerLemmas.{all_at}
-use Rattle.crn_siphon.specs.declared.sets.SpeciesSet.{SpeciesSet}
-use Rattle.crn_siphon.specs.declared.known.Cover.{Cover}
-use Rattle.crn_siphon.specs.Inner.Sets.{IsWithin}
-use Rattle.crn_siphon.specs.Inner.Known.{AreCovers, IsCoverAt, IsCoverIn}
-use Rattle.crn_vec.proofs.CallerLemmas.{any_default}
-use Rattle.std.proofs.Common.{◌≡◌, ap, subst, sym}
+use Rattle.crn_siphon.proofs.Prelude.{ℕ, ◌<◌, List, length, get_or, Net, all_at, SpeciesSet, Cover, IsWithin, AreCovers, IsCoverAt, IsCoverIn, any_default, ◌≡◌, ap, subst, sym}
 
 -- a known cover that increases each member of the set
 pub cover_at : (net : Net) (set : SpeciesSet) (covers : List Cover) (k : ℕ) (d : Cover) → AreCovers net covers → k < length covers → IsWithin set (get_or covers k d).species → IsCoverAt net set covers k

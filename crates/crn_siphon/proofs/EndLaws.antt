@@ -1,35 +1,5 @@
 -- How the visits of a prefix, of its children and of all below them end.
-use Rattle.std.proofs.Common.{◌≡◌, ℕ, suc, ◌+◌, ◌<◌, ◌≤◌, inl, inr, Bool, true, false, List, [], ◌∷◌, ◌++◌, length, map, refl, sym, ap, subst, ◌∙◌, arith}
-use Rattle.std.specs.Prelude.{ℤ, Result, Ok, Err}
-use Rattle.std.specs.Result.{MatchResult}
-use Rattle.std.proofs.lemmas.List.{append-nil, length-append}
-use Rattle.crn_vec.specs.Kept.{KeptInts, KeptNums}
-use Rattle.crn_vec.specs.Network.{Net, IsNetwork}
-use Rattle.crn_vec.specs.Elementary.{NamesWide}
-use Rattle.crn_vec.specs.Deficiency.{IsConservationLaw}
-use Rattle.crn_vec.specs.NetSystems.{reaction_system, species_system}
-use Rattle.crn_vec.specs.declared.limits.TheConstants.{MAX_BUDGET}
-use Rattle.crn_vec.proofs.CallerLemmas.{rows_count, vectors_count}
-use Rattle.crn_cert.specs.Ranges.{AreFree, AreBits}
-use Rattle.crn_cert.specs.Says.{RuleOutConservation}
-use Rattle.crn_solve.specs.Laws.{IsLawStop}
-use Rattle.crn_cert.proofs.CallerLemmas.{wide_basis}
-use Rattle.crn_siphon_check.specs.Siphons.{IsSiphon, Covers, set_of}
-use Rattle.crn_siphon_check.specs.Prefixes.{IsFull, Stands}
-use Rattle.crn_siphon_check.specs.Trees.{Plan, Fork, plan_of, IsFormedTree, node_count}
-use Rattle.crn_siphon_check.specs.SiphonVisits.{Visits, over, fallen, ended, opened, Passes, begun, below, children, root, PassesBudget}
-use Rattle.crn_siphon_check.specs.Answers.{Said, Yes, NoLaw, NoSiphon, Wide, Spent as SpentAnswer, IsAnswer, IsFormed, IsValid, said_of}
-use Rattle.crn_siphon_check.specs.declared.tree.SiphonTree.{SiphonTree}
-use Rattle.crn_siphon_check.proofs.CallerLemmas.{valid_answers_are_true, longer_by, visits_then, visits_ended, passes_first, passes_then, passes_at}
-use Rattle.crn_siphon.specs.declared.search.End.{End}
-use Rattle.crn_siphon.specs.declared.search.End.TheVariants.{Found, Refuted, Spent}
-use Rattle.crn_siphon.specs.Inner.Sets.{mark}
-use Rattle.crn_siphon.specs.Inner.Known.{IsSearchStop}
-use Rattle.crn_siphon.specs.Inner.Search.{EndsAt, EndsBelow, EndsWithTree, EndsBelowWithTree, IsLeafAt, IsStanding, RunsOut}
-use Rattle.crn_siphon.specs.Inner.Ends.{IsEndOfVisits, IsStopAnswer}
-use Rattle.crn_farkas.specs.declared.fault.Stop.{Stop}
-use Rattle.crn_farkas.specs.declared.fault.Stop.TheVariants.{Wide as StopWide, NoMemory}
-use Rattle.crn_siphon_check.specs.declared.answer.Persist.{Persist}
+use Rattle.crn_siphon.proofs.Prelude.{◌≡◌, ℕ, suc, ◌+◌, ◌<◌, ◌≤◌, inl, inr, Bool, true, false, List, [], ◌∷◌, ◌++◌, length, map, refl, sym, ap, subst, ◌∙◌, arith, ℤ, Result, Ok, Err, MatchResult, append-nil, length-append, KeptInts, KeptNums, Net, IsNetwork, NamesWide, IsConservationLaw, reaction_system, species_system, MAX_BUDGET, rows_count, vectors_count, AreFree, AreBits, RuleOutConservation, IsLawStop, wide_basis, IsSiphon, Covers, set_of, IsFull, Stands, Plan, Fork, plan_of, IsFormedTree, node_count, Visits, over, fallen, ended, opened, Passes, begun, below, children, root, PassesBudget, Said, Yes, NoLaw, NoSiphon, Wide, SpentAnswer, IsAnswer, IsFormed, IsValid, said_of, SiphonTree, valid_answers_are_true, longer_by, visits_then, visits_ended, passes_first, passes_then, passes_at, End, Found, Refuted, Spent, mark, IsSearchStop, EndsAt, EndsBelow, EndsWithTree, EndsBelowWithTree, IsLeafAt, IsStanding, RunsOut, IsEndOfVisits, IsStopAnswer, Stop, StopWide, NoMemory, Persist}
 use Rattle.crn_siphon.proofs.Places.{marks_set, marks_formed, standing_is_siphon}
 
 -- ---- one prefix

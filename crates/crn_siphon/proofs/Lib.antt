@@ -4,3 +4,4 @@ mod Systems
 mod Places
 mod Stops
 mod EndLaws
+mod Prelude

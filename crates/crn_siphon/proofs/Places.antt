@@ -1,23 +1,5 @@
 -- What the visit of one prefix shows, and full prefixes that stand.
-use Rattle.std.proofs.Common.{◌≡◌, ℕ, zero, suc, ◌-◌, ◌<◌, ◌≤◌, ◌⊎◌, inl, inr, Bool, true, false, List, [], ◌∷◌, length, map, get_or, refl, sym, ap, subst, ◌∙◌, arith}
-use Rattle.std.specs.Prelude.{ℤ, pos, negsuc, ◌≤ℤ◌}
-use Rattle.std.specs.List.{AllByRecursion}
-use Rattle.std.proofs.lemmas.Bool.{false≢true}
-use Rattle.std.proofs.lemmas.List.{length-map}
-use Rattle.std.proofs.lemmas.Int.{ints}
-use Rattle.crn_vec.specs.Network.{Net, IsNetwork, IsVector, JoinsTwo, Holds, amount_at}
-use Rattle.crn_vec.specs.Vectors.{entry}
-use Rattle.crn_vec.proofs.CallerLemmas.{lt_or, all_at, all_in, in_at, past_end}
-use Rattle.crn_cert.specs.Ranges.{AreFree, AreBits}
-use Rattle.crn_siphon_check.specs.Siphons.{HasMember, HoldsMember, IsSiphon, Covers, IsZeroOutside, set_of}
-use Rattle.crn_siphon_check.specs.Prefixes.{IsOut, IsBad, IsVoid, IsFull, Stands}
-use Rattle.crn_siphon_check.specs.Trees.{Bad, Law, Void}
-use Rattle.crn_siphon_check.proofs.CallerLemmas.{covered_has_none}
-use Rattle.crn_siphon.specs.declared.place.Place.{Place}
-use Rattle.crn_siphon.specs.Inner.Sets.{mark}
-use Rattle.crn_siphon.specs.Inner.Places.{IsPlace}
-use Rattle.crn_siphon.specs.Inner.Known.{AreIncreased, IsLawIn}
-use Rattle.crn_siphon.specs.Inner.Search.{HasNoBad, IsLeafAt, IsStanding}
+use Rattle.crn_siphon.proofs.Prelude.{◌≡◌, ℕ, zero, suc, ◌-◌, ◌<◌, ◌≤◌, ◌⊎◌, inl, inr, Bool, true, false, List, [], ◌∷◌, length, map, get_or, refl, sym, ap, subst, ◌∙◌, arith, ℤ, pos, negsuc, ◌≤ℤ◌, AllByRecursion, false≢true, length-map, ints, Net, IsNetwork, IsVector, JoinsTwo, Holds, amount_at, entry, lt_or, all_at, all_in, in_at, past_end, AreFree, AreBits, HasMember, HoldsMember, IsSiphon, Covers, IsZeroOutside, set_of, IsOut, IsBad, IsVoid, IsFull, Stands, Bad, Law, Void, covered_has_none, Place, mark, IsPlace, AreIncreased, IsLawIn, HasNoBad, IsLeafAt, IsStanding}
 use Rattle.crn_siphon.proofs.SetLaws.{member_inside}
 
 -- ---- nodes

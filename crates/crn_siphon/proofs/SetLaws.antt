@@ -1,19 +1,5 @@
 -- Sets of species as words of bits, their members, and the prefixes that they mark.
-use Rattle.std.proofs.Common.{◌≡◌, ◌≢◌, ◌<◌, ◌≤◌, ◌+◌, ◌==◌, ℕ, zero, suc, inl, inr, Bool, true, false, List, [], ◌∷◌, ◌++◌, length, get_or, refl, sym, ap, ap₂, subst, ◌∙◌, min, max, ◌/◌, ◌%◌, arith}
-use Rattle.std.specs.Prelude.{◌↔◌}
-use Rattle.std.specs.Int.{bit_at}
-use Rattle.std.specs.Int.Bits.{bit_and, bit_or}
-use Rattle.std.proofs.Math.ListN.{get_or-append}
-use Rattle.std.proofs.lemmas.Bool.{false≢true, eq-eqb, eqb-true}
-use Rattle.std.proofs.lemmas.List.{get_or_push, get_or_past, length-append}
-use Rattle.std.proofs.lemmas.Nat.Bits.{bit_at-zero, bit_at-lt, bit_at_and, bit_at_or, bit_at_lowest, bit_at-suc, same_from_bits}
-use Rattle.crn_vec.proofs.CallerLemmas.{eq_or, lt_or}
-use Rattle.crn_siphon_check.specs.Siphons.{HasMember}
-use Rattle.crn_siphon_check.specs.Prefixes.{IsOut}
-use Rattle.crn_siphon.specs.declared.sets.SpeciesSet.{SpeciesSet}
-use Rattle.crn_siphon.specs.declared.place.Place.{Place}
-use Rattle.crn_siphon.specs.Inner.Sets.{Has, members}
-use Rattle.crn_siphon.specs.Inner.Places.{IsPlace}
+use Rattle.crn_siphon.proofs.Prelude.{◌≡◌, ◌≢◌, ◌<◌, ◌≤◌, ◌+◌, ◌==◌, ℕ, zero, suc, inl, inr, Bool, true, false, List, [], ◌∷◌, ◌++◌, length, get_or, refl, sym, ap, ap₂, subst, ◌∙◌, min, max, ◌/◌, ◌%◌, arith, ◌↔◌, bit_at, bit_and, bit_or, get_or-append, false≢true, eq-eqb, eqb-true, get_or_push, get_or_past, length-append, bit_at-zero, bit_at-lt, bit_at_and, bit_at_or, bit_at_lowest, bit_at-suc, same_from_bits, eq_or, lt_or, HasMember, IsOut, SpeciesSet, Place, Has, members, IsPlace}
 
 -- ---- bits of two words
 

@@ -1,19 +1,5 @@
 -- Reactions that stop a prefix, and void prefixes, by words of bits.
-use Rattle.std.proofs.Common.{◌≡◌, ℕ, suc, ◌+◌, ◌-◌, ◌<◌, inl, inr, Bool, List, [], ◌∷◌, ◌++◌, length, get_or, sym, ap, subst, ◌∙◌, arith}
-use Rattle.std.proofs.Math.ListN.{get_or-append}
-use Rattle.std.proofs.lemmas.Bool.{false≢true}
-use Rattle.std.proofs.lemmas.List.{get_or_push, length-append}
-use Rattle.std.specs.Int.{bit_at}
-use Rattle.std.proofs.lemmas.Nat.Bits.{bit_at-zero}
-use Rattle.crn_vec.specs.Network.{Net, Holds}
-use Rattle.crn_vec.proofs.CallerLemmas.{eq_or}
-use Rattle.crn_siphon_check.specs.Siphons.{HoldsMember}
-use Rattle.crn_siphon_check.specs.Prefixes.{IsBad, IsVoid}
-use Rattle.crn_siphon.specs.declared.sets.SpeciesSet.{SpeciesSet}
-use Rattle.crn_siphon.specs.declared.place.Place.{Place}
-use Rattle.crn_siphon.specs.declared.ends.Ends.{Ends}
-use Rattle.crn_siphon.specs.Inner.Sets.{Has, HasCommon, IsWithin}
-use Rattle.crn_siphon.specs.Inner.Places.{IsPlace, AreEnds, AreEndsOf}
+use Rattle.crn_siphon.proofs.Prelude.{◌≡◌, ℕ, suc, ◌+◌, ◌-◌, ◌<◌, inl, inr, Bool, List, [], ◌∷◌, ◌++◌, length, get_or, sym, ap, subst, ◌∙◌, arith, get_or-append, false≢true, get_or_push, length-append, bit_at, bit_at-zero, Net, Holds, eq_or, HoldsMember, IsBad, IsVoid, SpeciesSet, Place, Ends, Has, HasCommon, IsWithin, IsPlace, AreEnds, AreEndsOf}
 
 abbrev ends_at : Net → ℕ → ℕ × ℕ
 ends_at net r = get_or net.reactions r (0, 0)

@@ -1,28 +1,5 @@
 -- The system of a set of species: its kinds, what its solutions increase, and the laws that its cuts are.
-use Rattle.std.proofs.Common.{◌≡◌, ℕ, zero, suc, ◌+◌, ◌-◌, ◌<◌, ◌≤◌, inl, inr, Bool, true, false, List, [], ◌∷◌, ◌++◌, length, map, get_or, take, drop, refl, sym, ap, subst, ◌∙◌, arith}
-use Rattle.std.specs.Prelude.{ℤ, pos, neg_ℤ, ◌≤ℤ◌}
-use Rattle.std.proofs.Math.ListN.{replicate, get_or-append}
-use Rattle.std.proofs.lemmas.Int.{ints}
-use Rattle.std.proofs.lemmas.Bool.{false≢true, cases_Bool}
-use Rattle.std.proofs.lemmas.List.{get_or-replicate, length-replicate, get_or-append_right, get_or-drop, length-drop, length-append, length-map}
-use Rattle.crn_vec.specs.declared.signs.Kind.{Kind}
-use Rattle.crn_vec.specs.declared.signs.Kind.TheVariants.{Free}
-use Rattle.crn_vec.specs.Network.{Net, IsNetwork}
-use Rattle.crn_vec.specs.Vectors.{Mat, entry, dot, column}
-use Rattle.crn_vec.specs.Elementary.{width}
-use Rattle.crn_vec.specs.Rank.{combination_at}
-use Rattle.crn_vec.specs.Deficiency.{vectors}
-use Rattle.crn_vec.specs.Systems.{HasKind, MayWeigh, is_signed, kind_at, signed_count}
-use Rattle.crn_vec.specs.NetSystems.{reaction_system}
-use Rattle.crn_vec.proofs.CallerLemmas.{kinds_at, lt_or, all_given, row_is, rows_count, column_is, vectors_count, dot-comm}
-use Rattle.crn_cert.specs.Ranges.{AreFree, IsNarrow}
-use Rattle.crn_farkas.specs.Decision.{IsDecision, IsSmallCut, IsSmallSolution}
-use Rattle.crn_farkas.specs.declared.decision.Decision.{Decision}
-use Rattle.crn_conc.proofs.CallerLemmas.{solution_free}
-use Rattle.crn_siphon.specs.declared.sets.SpeciesSet.{SpeciesSet}
-use Rattle.crn_siphon.specs.Inner.Sets.{Has, members}
-use Rattle.crn_siphon.specs.Inner.Systems.{change_kind, siphon_kinds}
-use Rattle.crn_siphon.specs.Inner.Known.{AreIncreased, IsLawIn}
+use Rattle.crn_siphon.proofs.Prelude.{◌≡◌, ℕ, zero, suc, ◌+◌, ◌-◌, ◌<◌, ◌≤◌, inl, inr, Bool, true, false, List, [], ◌∷◌, ◌++◌, length, map, get_or, take, drop, refl, sym, ap, subst, ◌∙◌, arith, ℤ, pos, neg_ℤ, ◌≤ℤ◌, replicate, get_or-append, ints, false≢true, cases_Bool, get_or-replicate, length-replicate, get_or-append_right, get_or-drop, length-drop, length-append, length-map, Kind, Free, Net, IsNetwork, Mat, entry, dot, column, width, combination_at, vectors, HasKind, MayWeigh, is_signed, kind_at, signed_count, reaction_system, kinds_at, lt_or, all_given, row_is, rows_count, column_is, vectors_count, dot-comm, AreFree, IsNarrow, IsDecision, IsSmallCut, IsSmallSolution, Decision, solution_free, SpeciesSet, Has, members, change_kind, siphon_kinds, AreIncreased, IsLawIn}
 use Rattle.crn_siphon.proofs.SetLaws.{length-members, member_has, has_member}
 
 -- ---- kinds

@@ -1,21 +1,8 @@
 -- Formed answers on persistence whose tests hold say the truth.
-use Rattle.std.proofs.Common.{List, []}
-use Rattle.std.specs.Prelude.{ℤ}
-use Rattle.crn_vec.specs.Network.{Net, IsNetwork}
-use Rattle.crn_vec.specs.Deficiency.{IsConservative}
-use Rattle.crn_cert.specs.declared.answer.Answer.{Answer}
-use Rattle.crn_cert.specs.declared.answer.Verdict.TheVariants.{NoVec}
-use Rattle.crn_cert.specs.declared.answer.Proof.TheVariants.{Nothing}
-use Rattle.crn_cert.specs.Questions.{Q8}
-use Rattle.crn_cert.specs.Ranges.{AreFree}
-use Rattle.crn_cert.specs.Says.{RuleOutConservation}
+use Rattle.crn_siphon_check.proofs.Prelude.{List, [], ℤ, Net, IsNetwork, IsConservative, Answer, NoVec, Nothing, Q8, AreFree, RuleOutConservation, length, refl, set_of, ValidAnswersAreTrue, SaysYes, NoLaw, NoSiphon, Wide, Spent}
 use Rattle.crn_cert.specs.Formed as formed
 use Rattle.crn_cert.specs.Valid as valid
 use Rattle.crn_cert.proofs.CallerLemmas as cert
-use Rattle.std.proofs.Common.{length, refl}
-use Rattle.crn_siphon_check.specs.Siphons.{set_of}
-use Rattle.crn_siphon_check.specs.Answers.{ValidAnswersAreTrue}
-use Rattle.crn_siphon_check.specs.Answers.{Yes as SaysYes, NoLaw, NoSiphon, Wide, Spent}
 use Rattle.crn_siphon_check.proofs.SiphonLaws.{tree_shows, covered_has_none}
 
 -- the numbers of a no exclude every law with positive weights, as those of the answer to question 8 do

@@ -2,3 +2,4 @@ pub mod CallerLemmas
 mod SiphonLaws
 mod VisitLaws
 mod AnswerLaws
+mod Prelude

@@ -1,33 +1,5 @@
 -- The lines of a document on persistence are those of the formed answers whose tests hold.
-use Rattle.std.proofs.Common.{◌≡◌, ◌+◌, ◌-◌, ◌++◌, ℕ, zero, suc, Bool, true, false, List, [], ◌∷◌, length, map, refl, sym, ap, subst, ◌∙◌, inl, inr, arith}
-use Rattle.std.specs.Prelude.{ℤ, pos, codes}
-use Rattle.std.specs.Str.{bytes_eq}
-use Rattle.std.proofs.lemmas.List.{append-nil, length-append, map-append}
-use Rattle.crn_vec.specs.Lists.{IsIn}
-use Rattle.crn_vec.specs.Network.{Net, IsNetwork}
-use Rattle.crn_vec.specs.Deficiency.{IsConservationLaw}
-use Rattle.crn_vec.specs.declared.limits.TheConstants.{MAX_BUDGET}
-use Rattle.crn_vec.proofs.CallerLemmas.{zip_append}
-use Rattle.crn_cert.specs.Ranges.{AreFree}
-use Rattle.crn_cert.specs.Says.{RuleOutConservation}
-use Rattle.crn_ctext.specs.Records.{Record, Form, Says, Fits, record_text, kind_of}
-use Rattle.crn_ctext.specs.Kinds.{record_form, small_form, free_form}
-use Rattle.crn_ctext.specs.Course.{Course, Give, ◌>>=◌, test_own}
-use Rattle.crn_ctext.specs.Courses.{IsWrittenBy}
-use Rattle.crn_ctext.specs.Blocks.{either, word_of}
-use Rattle.crn_ctext.specs.Documents.{IsOneOf, one_word}
-use Rattle.crn_ctext.specs.Answers.{small_record}
-use Rattle.crn_ctext.specs.Parts.{asks_part}
-use Rattle.crn_ctext.proofs.CallerLemmas.{AllPlain, IsPlain, IsBounded, fitting_is_plain, short_both, free_fits, free_row, number_fits, give_back, written_cuts, written_then, HasNoEnd, no_end_then, give_no_end, part_no_end, test_no_end, are_words, in_by_test, plain_is_line, IsAnswered, IsFirst, first_back, Say, only, one_said, none_said, line_on, given, test_back, test_on, either_no_end, bare_back, one_back, bits_back, bits_fit, species_row, reactions_row, bare_row, plain_bare}
-use Rattle.crn_siphon_check.specs.Siphons.{IsSiphon, Covers, IsSemiLaw, IsZeroOutside, set_of}
-use Rattle.crn_siphon_check.specs.Prefixes.{IsBad, IsVoid}
-use Rattle.crn_siphon_check.specs.Trees.{IsValidTree, IsFormedTree}
-use Rattle.crn_siphon_check.specs.Answers.{IsFormed, IsValid}
-use Rattle.crn_siphon_check.specs.Trees.{Plan, Fork, Bad, Law, Void}
-use Rattle.crn_siphon_check.specs.Answers.{Said, Yes as SaysYes, NoLaw, NoSiphon, Wide, Spent}
-use Rattle.crn_siphon_check.specs.declared.answer.Outcome.{Outcome}
-use Rattle.crn_siphon_check.specs.declared.answer.Outcome.TheVariants.{Yes, No, Undecided}
-use Rattle.crn_siphon_text.specs.Document.{words, wide_form, verdict_forms, no_forms, node_forms, Node, Forks, IsBadBy, HasLaw, Voids, node_of, leaf, asks_node, goes_on, asks_tree, asks_yes, asks_cover, asks_none, asks_no, asks_rest, asks_persist, part, tree_records, records, outcome_of, meant}
+use Rattle.crn_siphon_text.proofs.Prelude.{◌≡◌, ◌+◌, ◌-◌, ◌++◌, ℕ, zero, suc, Bool, true, false, List, [], ◌∷◌, length, map, refl, sym, ap, subst, ◌∙◌, inl, inr, arith, ℤ, pos, codes, bytes_eq, append-nil, length-append, map-append, IsIn, Net, IsNetwork, IsConservationLaw, MAX_BUDGET, zip_append, AreFree, RuleOutConservation, Record, Form, Says, Fits, record_text, kind_of, record_form, small_form, free_form, Course, Give, ◌>>=◌, test_own, IsWrittenBy, either, word_of, IsOneOf, one_word, small_record, asks_part, AllPlain, IsPlain, IsBounded, fitting_is_plain, short_both, free_fits, free_row, number_fits, give_back, written_cuts, written_then, HasNoEnd, no_end_then, give_no_end, part_no_end, test_no_end, are_words, in_by_test, plain_is_line, IsAnswered, IsFirst, first_back, Say, only, one_said, none_said, line_on, given, test_back, test_on, either_no_end, bare_back, one_back, bits_back, bits_fit, species_row, reactions_row, bare_row, plain_bare, IsSiphon, Covers, IsSemiLaw, IsZeroOutside, set_of, IsBad, IsVoid, IsValidTree, IsFormedTree, IsFormed, IsValid, Plan, Fork, Bad, Law, Void, Said, SaysYes, NoLaw, NoSiphon, Wide, Spent, Outcome, Yes, No, Undecided, words, wide_form, verdict_forms, no_forms, node_forms, Node, Forks, IsBadBy, HasLaw, Voids, node_of, leaf, asks_node, goes_on, asks_tree, asks_yes, asks_cover, asks_none, asks_no, asks_rest, asks_persist, part, tree_records, records, outcome_of, meant}
 use Rattle.crn_siphon_text.proofs.Nodes.{wide_back, wide_fits, IsGood, leaf_back, leaf_on, IsNode, node_back, marks_row, bad_row, spent_row, wide_first, wide_second}
 
 -- ---- trees

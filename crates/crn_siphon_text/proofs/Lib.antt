@@ -9,3 +9,4 @@ mod TreesRead
 mod VerdictsRead
 mod Written
 mod ShortDocuments
+mod Prelude

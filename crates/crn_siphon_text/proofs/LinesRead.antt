@@ -1,14 +1,5 @@
 -- The forms of the lines that may stand next, as they are handed to the reader.
-use Rattle.std.proofs.Common.{◌≡◌, ◌+◌, ℕ, List, [], ◌∷◌, length, refl, ap, ap₂, ◌∙◌}
-use Rattle.std.specs.Prelude.{codes}
-use Rattle.crn_vec.specs.Network.{Net}
-use Rattle.crn_vec.specs.declared.limits.TheConstants.{MAX_BUDGET}
-use Rattle.crn_ctext.specs.Records.{Form, Field, Free, Rising}
-use Rattle.crn_ctext.specs.Kinds.{small, just, record_form, end_form}
-use Rattle.crn_ctext.specs.PartLines.{forms_in, field_of}
-use Rattle.crn_ctext.specs.declared.part.Field.{Field as Run}
-use Rattle.crn_ctext.specs.declared.part.Choice.{Choice}
-use Rattle.crn_siphon_text.specs.Document.{words, wide_form, verdict_forms, law_forms, no_forms, cover_forms, node_forms}
+use Rattle.crn_siphon_text.proofs.Prelude.{◌≡◌, ◌+◌, ℕ, List, [], ◌∷◌, length, refl, ap, ap₂, ◌∙◌, codes, Net, MAX_BUDGET, Form, Field, Free, Rising, small, just, record_form, end_form, forms_in, field_of, Run, Choice, words, wide_form, verdict_forms, law_forms, no_forms, cover_forms, node_forms}
 
 -- ---- forms
 

@@ -1,21 +1,5 @@
 -- The records of a document on persistence, one by one: what their lines say, and that those of formed answers fit.
-use Rattle.std.proofs.Common.{◌≡◌, ◌≢◌, ◌≤◌, ◌+◌, ◌⊎◌, ℕ, Bool, List, [], ◌∷◌, length, map, refl, sym, ap, ap₂, subst, ◌∙◌, inl, inr, arith}
-use Rattle.std.specs.Prelude.{ℤ, pos, codes}
-use Rattle.crn_vec.specs.Network.{Net, IsNetwork}
-use Rattle.crn_vec.specs.declared.limits.TheConstants.{MAX_BUDGET}
-use Rattle.crn_cert.specs.Data.{IsBasisOf}
-use Rattle.crn_ctext.specs.Records.{Record, Form, Fits}
-use Rattle.crn_ctext.specs.Kinds.{small_form}
-use Rattle.crn_ctext.specs.Course.{Give, ◌>>=◌}
-use Rattle.crn_ctext.specs.Courses.{IsWrittenBy}
-use Rattle.crn_ctext.specs.Answers.{small_record}
-use Rattle.crn_ctext.specs.Documents.{IsOneOf, one_word}
-use Rattle.crn_ctext.proofs.CallerLemmas.{IsBounded, number_back, number_then, record_is, free_row, bare_back, one_back, wide_fields, wide_numbers, wide_numbers_fit, species_few, reactions_few, small_bounded}
-use Rattle.crn_siphon_check.specs.Siphons.{IsSemiLaw, IsZeroOutside}
-use Rattle.crn_siphon_check.specs.Prefixes.{IsBad, IsVoid}
-use Rattle.crn_siphon_check.specs.Trees.{IsValidTree, IsFormedTree}
-use Rattle.crn_siphon_check.specs.Trees.{Plan, Bad, Law, Void}
-use Rattle.crn_siphon_text.specs.Document.{wide_form, node_forms, Node, Forks, IsBadBy, HasLaw, Voids, node_of, leaf, tree_records}
+use Rattle.crn_siphon_text.proofs.Prelude.{◌≡◌, ◌≢◌, ◌≤◌, ◌+◌, ◌⊎◌, ℕ, Bool, List, [], ◌∷◌, length, map, refl, sym, ap, ap₂, subst, ◌∙◌, inl, inr, arith, ℤ, pos, codes, Net, IsNetwork, MAX_BUDGET, IsBasisOf, Record, Form, Fits, small_form, Give, ◌>>=◌, IsWrittenBy, small_record, IsOneOf, one_word, IsBounded, number_back, number_then, record_is, free_row, bare_back, one_back, wide_fields, wide_numbers, wide_numbers_fit, species_few, reactions_few, small_bounded, IsSemiLaw, IsZeroOutside, IsBad, IsVoid, IsValidTree, IsFormedTree, Plan, Bad, Law, Void, wide_form, node_forms, Node, Forks, IsBadBy, HasLaw, Voids, node_of, leaf, tree_records}
 
 -- ---- systems
 

@@ -1,19 +1,6 @@
 -- A node's line, and the tree of a prefix, as they are read.
-use Rattle.std.proofs.Common.{◌≡◌, ◌≤◌, ◌⊎◌, ℕ, Bool, List, [], ◌∷◌, length, refl, sym, ap, subst, ◌∙◌, inl, inr, arith}
-use Rattle.std.specs.Prelude.{ℤ, pos, codes}
-use Rattle.crn_vec.specs.Lists.{IsIn}
-use Rattle.crn_cert.specs.Ranges.{AreFree}
-use Rattle.crn_io.specs.Lines.{Place}
-use Rattle.crn_ctext.specs.Course.{Gives, FailsFirst}
-use Rattle.crn_ctext.specs.Blocks.{word_of}
-use Rattle.crn_ctext.specs.Documents.{one_word}
-use Rattle.crn_ctext.proofs.CallerLemmas.{free_row, bare_back, one_back}
-use Rattle.crn_reading.proofs.CallerLemmas.{find, place_is}
+use Rattle.crn_siphon_text.proofs.Prelude.{◌≡◌, ◌≤◌, ◌⊎◌, ℕ, Bool, List, [], ◌∷◌, length, refl, sym, ap, subst, ◌∙◌, inl, inr, arith, ℤ, pos, codes, IsIn, AreFree, Place, Gives, FailsFirst, word_of, one_word, free_row, bare_back, one_back, find, place_is, Net, Record, Form, Fits, IsPartSaid, words, node_forms, Node, Forks, IsBadBy, HasLaw, Voids, node_of, leaf}
 use Rattle.crn_siphon_text.proofs.Nodes.{IsGood}
-use Rattle.crn_vec.specs.Network.{Net}
-use Rattle.crn_ctext.specs.Records.{Record, Form, Fits}
-use Rattle.crn_reading.specs.Records.{IsPartSaid}
-use Rattle.crn_siphon_text.specs.Document.{words, node_forms, Node, Forks, IsBadBy, HasLaw, Voids, node_of, leaf}
 
 -- what a record of a node says, by the place of its word
 abbrev pub NodeSaid : Net → ℕ → List ℤ → Node → Type 0

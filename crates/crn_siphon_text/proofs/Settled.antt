@@ -1,22 +1,5 @@
 -- The course of the lines of a document on persistence is settled.
-use Rattle.std.proofs.Common.{◌+◌, ◌-◌, ◌++◌, ℕ, zero, suc, Bool, true, false, List, [], ◌∷◌, length, refl, inr, arith}
-use Rattle.std.specs.Prelude.{ℤ, codes}
-use Rattle.std.specs.Str.{bytes_eq}
-use Rattle.crn_vec.specs.Network.{Net}
-use Rattle.crn_vec.specs.Deficiency.{IsConservationLaw}
-use Rattle.crn_cert.specs.Says.{RuleOutConservation}
-use Rattle.crn_ctext.specs.Records.{Record}
-use Rattle.crn_ctext.specs.Kinds.{free_form}
-use Rattle.crn_ctext.specs.Course.{Course, Give, ◌>>=◌, test_own}
-use Rattle.crn_ctext.specs.Courses.{IsSettled}
-use Rattle.crn_ctext.specs.Blocks.{either, word_of}
-use Rattle.crn_ctext.specs.Parts.{asks_part, part_course}
-use Rattle.crn_ctext.proofs.CallerLemmas.{HaveWords, forms_yes, settled_then, own_settled, give_settled, either_settled, asks_part_settled, part_settled, law_decided, no_law_decided}
-use Rattle.crn_siphon_check.specs.Siphons.{IsSiphon, IsSemiLaw, IsZeroOutside, Covers, set_of}
-use Rattle.crn_siphon_check.specs.Prefixes.{IsBad, IsVoid}
-use Rattle.crn_siphon_check.specs.declared.answer.Outcome.{Outcome}
-use Rattle.crn_siphon_check.specs.declared.answer.Outcome.TheVariants.{Yes, No, Undecided}
-use Rattle.crn_siphon_text.specs.Document.{words, verdict_forms, no_forms, node_forms, Node, Forks, IsBadBy, HasLaw, Voids, node_of, leaf, asks_node, goes_on, asks_tree, asks_yes, asks_cover, asks_none, asks_no, asks_rest, asks_persist, IsOwn, part}
+use Rattle.crn_siphon_text.proofs.Prelude.{◌+◌, ◌-◌, ◌++◌, ℕ, zero, suc, Bool, true, false, List, [], ◌∷◌, length, refl, inr, arith, ℤ, codes, bytes_eq, Net, IsConservationLaw, RuleOutConservation, Record, free_form, Course, Give, ◌>>=◌, test_own, IsSettled, either, word_of, asks_part, part_course, HaveWords, forms_yes, settled_then, own_settled, give_settled, either_settled, asks_part_settled, part_settled, law_decided, no_law_decided, IsSiphon, IsSemiLaw, IsZeroOutside, Covers, set_of, IsBad, IsVoid, Outcome, Yes, No, Undecided, words, verdict_forms, no_forms, node_forms, Node, Forks, IsBadBy, HasLaw, Voids, node_of, leaf, asks_node, goes_on, asks_tree, asks_yes, asks_cover, asks_none, asks_no, asks_rest, asks_persist, IsOwn, part}
 use Rattle.crn_siphon_text.proofs.TestsDecided.{siphon_decided, covers_decided, law_node_decided, bad_decided, void_decided}
 
 -- ---- the tree

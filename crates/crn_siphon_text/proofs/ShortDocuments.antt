@@ -1,11 +1,5 @@
 -- Documents of answers whose trees have few nodes are short.
-use Rattle.std.proofs.Common.{◌≡◌, ◌≤◌, length, refl, arith}
-use Rattle.std.specs.Prelude.{codes}
-use Rattle.std.proofs.lemmas.List.{length-append}
-use Rattle.crn_ctext.proofs.CallerLemmas.{part_document_short}
-use Rattle.crn_siphon_check.specs.Trees.{Plan, Fork, Bad, Law, Void, node_count}
-use Rattle.crn_siphon_check.specs.Answers.{Said, Yes as SaysYes, NoLaw, NoSiphon, Wide, Spent}
-use Rattle.crn_siphon_text.specs.Document.{tree_records, records, HasFewNodes, WrittenAreDocuments}
+use Rattle.crn_siphon_text.proofs.Prelude.{◌≡◌, ◌≤◌, length, refl, arith, codes, length-append, part_document_short, Plan, Fork, Bad, Law, Void, node_count, Said, SaysYes, NoLaw, NoSiphon, Wide, Spent, tree_records, records, HasFewNodes, WrittenAreDocuments}
 use Rattle.crn_siphon_text.proofs.Answered.{persist_is_answered, records_plain}
 
 nodes_counted : (tree : Plan) → length (tree_records tree) ≡ node_count tree

@@ -1,17 +1,5 @@
 -- The tests of a document on persistence are decided, whatever its records hold.
-use Rattle.std.proofs.Common.{◌≡◌, ◌≢◌, ◌≤◌, ◌<◌, ◌-◌, ℕ, zero, suc, Bool, true, false, List, [], ◌∷◌, length, get_or, inl, inr, arith}
-use Rattle.std.specs.Prelude.{ℤ, pos, ◌≤ℤ◌}
-use Rattle.std.specs.List.{AllByRecursion}
-use Rattle.std.proofs.lemmas.Int.{ints}
-use Rattle.std.proofs.lemmas.Bool.{false≢true}
-use Rattle.crn_vec.specs.Network.{Net, Holds, amount_at}
-use Rattle.crn_vec.specs.Vectors.{entry, dot}
-use Rattle.crn_vec.specs.Rank.{combination_at}
-use Rattle.crn_vec.specs.Deficiency.{vectors}
-use Rattle.crn_vec.proofs.CallerLemmas.{all_in, all_from, past_end, lt_or}
-use Rattle.crn_ctext.proofs.CallerLemmas.{IsDecided, both_decided, not_decided, if_decided, moved, nat_decided, le_decided, bool_decided, int_decided, int_le_decided, all_decided, each_below, some_below}
-use Rattle.crn_siphon_check.specs.Siphons.{HasMember, HoldsMember, IsClosed, IsSiphon, IsSemiLaw, IsZeroOutside, Covers}
-use Rattle.crn_siphon_check.specs.Prefixes.{IsOut, IsBad, IsVoid}
+use Rattle.crn_siphon_text.proofs.Prelude.{◌≡◌, ◌≢◌, ◌≤◌, ◌<◌, ◌-◌, ℕ, zero, suc, Bool, true, false, List, [], ◌∷◌, length, get_or, inl, inr, arith, ℤ, pos, ◌≤ℤ◌, AllByRecursion, ints, false≢true, Net, Holds, amount_at, entry, dot, combination_at, vectors, all_in, all_from, past_end, lt_or, IsDecided, both_decided, not_decided, if_decided, moved, nat_decided, le_decided, bool_decided, int_decided, int_le_decided, all_decided, each_below, some_below, HasMember, HoldsMember, IsClosed, IsSiphon, IsSemiLaw, IsZeroOutside, Covers, IsOut, IsBad, IsVoid}
 
 -- ---- members
 

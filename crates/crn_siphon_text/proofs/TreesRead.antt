@@ -1,24 +1,7 @@
 -- The tree of a prefix, as it is read node by node.
-use Rattle.std.proofs.Common.{◌≡◌, ◌<◌, ◌+◌, ◌-◌, ℕ, zero, suc, Bool, List, length, refl, sym, subst, ◌∙◌, inl, inr, arith}
-use Rattle.std.specs.Prelude.{ℤ, Result, Ok, Option}
-use Rattle.crn_reading.specs.Records.{IsPartSaid}
+use Rattle.crn_siphon_text.proofs.Prelude.{◌≡◌, ◌<◌, ◌+◌, ◌-◌, ℕ, zero, suc, Bool, List, length, refl, sym, subst, ◌∙◌, inl, inr, arith, ℤ, Option, IsPartSaid, Net, SourceSeen, Place, KeptLines, Record, Course, Give, ◌>>=◌, Gives, FailsFirst, asks_part, StepGives, step_then, step_fails_then, Reading, CheckStop, Rejected, CanRead, StepIs, StopIs, tests_give, tests_fail, step_then_is, stop_first, words, node_forms, Node, Forks, IsBadBy, HasLaw, Voids, node_of, leaf, asks_node, goes_on, asks_tree, asks_children}
+use Rattle.std.specs.Prelude.{Result, Ok}
 use Rattle.crn_siphon_text.proofs.NodesRead.{NodeSaid, node_said}
-use Rattle.crn_vec.specs.Network.{Net}
-use Rattle.crn_io.specs.Device.{SourceSeen}
-use Rattle.crn_io.specs.Lines.{Place}
-use Rattle.crn_io.specs.Next.{KeptLines}
-use Rattle.crn_ctext.specs.Records.{Record}
-use Rattle.crn_ctext.specs.Course.{Course, Give, ◌>>=◌, Gives, FailsFirst}
-use Rattle.crn_ctext.specs.Parts.{asks_part}
-use Rattle.crn_ctext.specs.Steps.{StepGives}
-use Rattle.crn_ctext.proofs.CallerLemmas.{step_then, step_fails_then}
-use Rattle.crn_reading.specs.declared.reading.Reading.{Reading}
-use Rattle.crn_reading.specs.declared.fault.CheckStop.{CheckStop}
-use Rattle.crn_reading.specs.declared.fault.CheckStop.TheVariants.{Rejected}
-use Rattle.crn_reading.specs.Steps.{CanRead, StepIs, StopIs}
-use Rattle.crn_reading.proofs.CallerLemmas.{tests_give, tests_fail, step_then_is, stop_first}
-use Rattle.crn_siphon_text.specs.Document.{words, node_forms, Node, Forks, IsBadBy, HasLaw, Voids, node_of, leaf, asks_node, goes_on, asks_tree}
-use Rattle.crn_siphon_text.specs.Inner.NodesRead.{asks_children}
 
 -- ---- a node
 

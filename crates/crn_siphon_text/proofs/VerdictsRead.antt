@@ -1,32 +1,6 @@
 -- The lines around a tree, as they are read one after another.
-use Rattle.std.proofs.Common.{◌≡◌, ◌+◌, ◌-◌, ◌⊎◌, ℕ, Bool, List, [], length, refl, sym, ap, subst, ◌∙◌, inl, inr, arith, Result, Ok, Err}
-use Rattle.std.specs.Prelude.{ℤ, pos, false, codes}
-use Rattle.std.specs.Ordering.{int_eq}
-use Rattle.std.proofs.lemmas.List.{length-map}
-use Rattle.std.specs.Str.{bytes_eq}
-use Rattle.crn_vec.specs.declared.limits.TheConstants.{MAX_BUDGET}
-use Rattle.crn_vec.specs.Network.{Net}
-use Rattle.crn_vec.specs.Deficiency.{IsConservationLaw}
-use Rattle.crn_cert.specs.Ranges.{AreFree, AreBits}
-use Rattle.crn_cert.specs.Says.{RuleOutConservation}
-use Rattle.crn_io.specs.Device.{SourceSeen}
-use Rattle.crn_ctext.specs.Records.{Record, Form, Fits}
-use Rattle.crn_ctext.specs.Course.{Course, Give, ◌>>=◌, test_own}
-use Rattle.crn_ctext.specs.Blocks.{either, word_of}
-use Rattle.crn_ctext.specs.Documents.{IsOneOf, one_word}
-use Rattle.crn_ctext.specs.Parts.{asks_part}
-use Rattle.crn_ctext.proofs.CallerLemmas.{free_row, bare_back, one_back, bits_back}
-use Rattle.crn_reading.specs.Steps.{CanRead, StepIs, StopIs}
-use Rattle.crn_reading.specs.Records.{IsPartSaid}
-use Rattle.crn_reading.specs.declared.reading.Reading.{Reading}
-use Rattle.crn_reading.specs.declared.fault.CheckStop.{CheckStop}
-use Rattle.crn_reading.specs.declared.fault.CheckStop.TheVariants.{Rejected}
-use Rattle.crn_reading.proofs.CallerLemmas.{step_then_is, step_gives, step_map, stop_first, stop_after, IsGiven, find, placed, own_holds, own_fails}
-use Rattle.crn_siphon_check.specs.Siphons.{IsSiphon, Covers, set_of}
-use Rattle.crn_siphon_check.specs.declared.answer.Outcome.{Outcome}
-use Rattle.crn_siphon_check.specs.declared.answer.Outcome.TheVariants.{Yes, No, Undecided}
-use Rattle.crn_siphon_text.specs.Document.{words, verdict_forms, law_forms, no_forms, cover_forms, asks_tree, asks_yes, asks_cover, asks_none, asks_no, asks_rest, asks_persist}
-use Rattle.crn_siphon_text.specs.Inner.LinesRead.{ReadsOutcome}
+use Rattle.crn_siphon_text.proofs.Prelude.{◌≡◌, ◌+◌, ◌-◌, ◌⊎◌, ℕ, Bool, List, [], length, refl, sym, ap, subst, ◌∙◌, inl, inr, arith, Result, Ok, Err, ℤ, pos, codes, int_eq, length-map, bytes_eq, MAX_BUDGET, Net, IsConservationLaw, AreFree, AreBits, RuleOutConservation, SourceSeen, Record, Form, Fits, Course, Give, ◌>>=◌, test_own, either, word_of, IsOneOf, one_word, asks_part, free_row, bare_back, one_back, bits_back, CanRead, StepIs, StopIs, IsPartSaid, Reading, CheckStop, Rejected, step_then_is, step_gives, step_map, stop_first, stop_after, IsGiven, find, placed, own_holds, own_fails, IsSiphon, Covers, set_of, Outcome, Yes, No, Undecided, words, verdict_forms, law_forms, no_forms, cover_forms, asks_tree, asks_yes, asks_cover, asks_none, asks_no, asks_rest, asks_persist, ReadsOutcome}
+use Rattle.std.specs.Prelude.{false}
 use Rattle.crn_siphon_text.proofs.Nodes.{wide_back}
 
 -- the outcome, and the number of the line that is due next

@@ -1,15 +1,6 @@
 -- The lines of a tree, as they are written.
-use Rattle.std.proofs.Common.{◌≡◌, ◌++◌, ℕ, List, [], ◌∷◌, codes, map, refl, sym, ap, ◌∙◌, append_assoc}
-use Rattle.std.specs.Prelude.{ℤ, pos}
-use Rattle.std.proofs.lemmas.List.Concat.{flat_map-append}
-use Rattle.crn_ctext.specs.Records.{Record}
-use Rattle.crn_vec.specs.Network.{Net}
-use Rattle.crn_ctext.specs.Parts.{part_document, part_head}
-use Rattle.crn_ctext.specs.Documents.{one_word, record_lines}
-use Rattle.crn_ctext.specs.Records.{line, number_text, numbers_text}
-use Rattle.crn_ctext.proofs.CallerLemmas.{word_then, lines_append}
-use Rattle.crn_siphon_check.specs.Trees.{Plan, Fork}
-use Rattle.crn_siphon_text.specs.Document.{tree_records}
+use Rattle.crn_siphon_text.proofs.Prelude.{◌≡◌, ◌++◌, ℕ, List, [], ◌∷◌, map, refl, sym, ap, ◌∙◌, append_assoc, ℤ, pos, flat_map-append, Record, Net, part_document, part_head, one_word, record_lines, line, number_text, numbers_text, word_then, lines_append, Plan, Fork, tree_records}
+use Rattle.std.proofs.Common.{codes}
 
 pub fork_first : (a b : Plan) → record_lines (tree_records (Fork a b)) ≡ line (codes "fork") [] ++ record_lines (tree_records a ++ tree_records b)
 fork_first a b = word_then (codes "fork") [] (tree_records a ++ tree_records b)

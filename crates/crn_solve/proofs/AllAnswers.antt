@@ -1,19 +1,5 @@
 -- Answers to all questions, each after the ones before, are formed, valid, and true or licensed.
-use Rattle.std.proofs.Common.{ℕ, List, [], ◌∷◌, ◌++◌}
-use Rattle.crn_vec.specs.Network.{Net}
-use Rattle.crn_cert.specs.declared.answer.Answer.{Answer}
-use Rattle.crn_cert.specs.declared.answer.Verdict.{Verdict}
-use Rattle.crn_cert.specs.declared.answer.Verdict.TheVariants.{Unknown}
-use Rattle.crn_cert.specs.Questions.{Earlier, Question, IsOpen}
-use Rattle.crn_cert.specs.Answers.{verdicts_of}
-use Rattle.crn_cert.specs.Says.{IsTrueOf}
-use Rattle.crn_cert.specs.Formed.{AreFormed}
-use Rattle.crn_cert.specs.Valid.{AreValid}
-use Rattle.crn_cert.specs.Licensed.{IsTrueOrLicensed, AllTrueOrLicensed}
-use Rattle.crn_cert.specs.Answered.{IsAnswer}
-use Rattle.crn_cert.specs.Verdicts.{tight}
-use Rattle.crn_solve.specs.Inner.Answered.{IsDecidedAnswer}
-use Rattle.crn_solve.specs.Inner.Solved.{AreAnswers}
+use Rattle.crn_solve.proofs.Prelude.{ℕ, List, [], ◌∷◌, ◌++◌, Net, Answer, Verdict, Unknown, Earlier, Question, IsOpen, verdicts_of, IsTrueOf, AreFormed, AreValid, IsTrueOrLicensed, AllTrueOrLicensed, IsAnswer, tight, IsDecidedAnswer, AreAnswers}
 
 pub are_formed : (net : Net) (budget : ℕ) (earlier : Earlier) (qs : List Question) (answers : List Answer) → AreAnswers net budget earlier qs answers → AreFormed net earlier qs answers
 are_formed net budget earlier [] [] h = tt

@@ -1,21 +1,5 @@
 -- The answer on the deficiencies is one of the crate of deficiencies, or rests on the rank.
-use Rattle.std.proofs.Common.{◌≡◌, ℕ, List, Some, None, refl, sym, ap, subst, ◌∙◌, arith}
-use Rattle.crn_vec.specs.Network.{Net}
-use Rattle.crn_vec.specs.Rank.{IsRank}
-use Rattle.crn_vec.specs.Deficiency.{vectors}
-use Rattle.crn_vec.proofs.CallerLemmas.{some_is}
-use Rattle.crn_cert.specs.declared.answer.Verdict.{Verdict}
-use Rattle.crn_cert.specs.declared.answer.Verdict.TheVariants.{Rank, Unknown}
-use Rattle.crn_cert.specs.Questions.{Earlier, Q5, Q6, IsOpen, on, rank_of}
-use Rattle.crn_cert.specs.Formed.{IsFormed}
-use Rattle.crn_cert.specs.Valid.{linkage, linkage_count}
-use Rattle.crn_cert.specs.Licensed.{IsTrueOrLicensed}
-use Rattle.crn_cert.specs.Given.{GiveRank}
-use Rattle.crn_cert.specs.Answered.{IsAnswer}
-use Rattle.crn_cert.specs.Verdicts.{tight}
-use Rattle.crn_cert.proofs.CallerLemmas.{rank_tight, open_tight}
-use Rattle.crn_solve.specs.Inner.Answered.{IsRankOrOpen}
-use Rattle.crn_solve.specs.Inner.Given.{rests_answer}
+use Rattle.crn_solve.proofs.Prelude.{◌≡◌, ℕ, List, Some, None, refl, sym, ap, subst, ◌∙◌, arith, Net, IsRank, vectors, some_is, Verdict, Rank, Unknown, Earlier, Q5, Q6, IsOpen, on, rank_of, IsFormed, linkage, linkage_count, IsTrueOrLicensed, GiveRank, IsAnswer, tight, rank_tight, open_tight, IsRankOrOpen, rests_answer}
 
 none : {b : ℕ} {A : Type 0} → None ≡ Some b → A
 none e = absurd cc

@@ -1,16 +1,5 @@
 -- Answers to questions 1 to 12 have no trees, so that all trees have few nodes if those of question 13 have.
-use Rattle.std.proofs.Common.{◌≡◌, ℕ, [], ◌∷◌, refl}
-use Rattle.crn_vec.specs.Network.{Net}
-use Rattle.crn_cert.specs.declared.answer.Answer.{Answer}
-use Rattle.crn_cert.specs.Questions.{Earlier, Question, Q1, Q2, Q3, Q4, Q5, Q6, Q7, Q8, Q9, Q10, Q11, Q12}
-use Rattle.crn_cert.specs.Table.{trees}
-use Rattle.crn_cert.specs.declared.head_kind.HeadKind.{HeadKind}
-use Rattle.crn_cert.specs.Answered.{IsAnswer}
-use Rattle.crn_cert.specs.TreeSizes.{HasFewNodes, HaveFewNodes}
-use Rattle.crn_cert.specs.declared.answer.Verdict.{Verdict}
-use Rattle.crn_cert.specs.declared.answer.Proof.{Proof}
-use Rattle.crn_cert.proofs.CallerLemmas.{treeless, treeless_few}
-use Rattle.crn_solve.specs.Inner.Solved.{AreAnswers, first_questions}
+use Rattle.crn_solve.proofs.Prelude.{◌≡◌, ℕ, [], ◌∷◌, refl, Net, Answer, Earlier, Question, Q1, Q2, Q3, Q4, Q5, Q6, Q7, Q8, Q9, Q10, Q11, Q12, trees, HeadKind, IsAnswer, HasFewNodes, HaveFewNodes, Verdict, Proof, treeless, treeless_few, AreAnswers, first_questions}
 
 -- the answer to a question without trees has few nodes
 one_few : (q : Question) → ((net : Net) (earlier : Earlier) (kind : HeadKind) → trees net earlier q kind ≡ []) → (net : Net) (budget : ℕ) (earlier : Earlier) (a : Answer) → IsAnswer net budget earlier q a → HasFewNodes budget a.proof

@@ -1,18 +1,5 @@
 -- The first reaction that joins two complexes of different labels decides weak reversibility.
-use Rattle.std.proofs.Common.{◌≡◌, ℕ, ◌+◌, ◌-◌, ◌<◌, List, length, get_or, refl, sym, ap, subst, ◌∙◌, inl, inr, arith, ◌==◌}
-use Rattle.std.proofs.lemmas.Bool.{cases_Bool, eq-eqb, eqb-true, false≢true}
-use Rattle.crn_vec.specs.Network.{Net, IsNetwork}
-use Rattle.crn_vec.proofs.CallerLemmas.{place_of}
-use Rattle.crn_cert.specs.declared.answer.Answer.{Answer}
-use Rattle.crn_cert.specs.declared.answer.Verdict.TheVariants.{Yes, NoReaction}
-use Rattle.crn_cert.specs.declared.answer.Proof.TheVariants.{Nothing}
-use Rattle.crn_cert.specs.Questions.{Earlier, Q2, Q4, on}
-use Rattle.crn_cert.specs.Says.{IsTrueOf}
-use Rattle.crn_cert.specs.ClassTests.{AreEven}
-use Rattle.crn_cert.specs.Formed.{IsFormed}
-use Rattle.crn_cert.specs.Valid.{strong, IsValid}
-use Rattle.crn_cert.proofs.CallerLemmas.{valid_answers_are_true}
-use Rattle.crn_solve.specs.Inner.Answered.{IsDecidedAnswer, JoinsTwoLabels, IsFirstLeaving}
+use Rattle.crn_solve.proofs.Prelude.{◌≡◌, ℕ, ◌+◌, ◌-◌, ◌<◌, List, length, get_or, refl, sym, ap, subst, ◌∙◌, inl, inr, arith, ◌==◌, cases_Bool, eq-eqb, eqb-true, false≢true, Net, IsNetwork, place_of, Answer, Yes, NoReaction, Nothing, Earlier, Q2, Q4, on, IsTrueOf, AreEven, IsFormed, strong, IsValid, valid_answers_are_true, IsDecidedAnswer, JoinsTwoLabels, IsFirstLeaving}
 
 -- a reaction whose complexes have equal labels does not join two of different labels
 pub joins_one : (net : Net) (labels : List ℕ) (r y z : ℕ) → y ≡ (get_or net.reactions r (0, 0)).0 → z ≡ (get_or net.reactions r (0, 0)).1 → get_or labels y 0 ≡ get_or labels z 0 → JoinsTwoLabels net labels (r + 1) → ⊥

@@ -11,3 +11,4 @@ mod Regularity
 mod SignalSides
 mod Signals
 mod Solved
+mod Prelude

@@ -1,35 +1,5 @@
 -- The answers on positive dependence and conservation that decisions and stops give.
-use Rattle.std.proofs.Common.{◌≡◌, ℕ, ◌<◌, inl, inr, List, [], length, get_or, refl, sym, ap, subst, ◌∙◌, arith}
-use Rattle.std.specs.Prelude.{ℤ, pos, negsuc, ◌≤ℤ◌}
-use Rattle.std.proofs.lemmas.Int.{ints}
-use Rattle.crn_vec.specs.Kept.{KeptNums}
-use Rattle.crn_vec.specs.Network.{Net, IsNetwork}
-use Rattle.crn_vec.specs.Vectors.{dot, column}
-use Rattle.crn_vec.specs.Rank.{combination_at}
-use Rattle.crn_vec.specs.Deficiency.{vectors, IsPositiveDependence, IsConservationLaw}
-use Rattle.crn_vec.specs.NetSystems.{species_system, reaction_system, positive_kinds}
-use Rattle.crn_vec.proofs.CallerLemmas.{at_in, dot-comm, lt_or, all_given}
-use Rattle.crn_cert.specs.declared.answer.Answer.{Answer}
-use Rattle.crn_cert.specs.Questions.{Earlier, Q7, Q8}
-use Rattle.crn_cert.specs.Ranges.{AreFree}
-use Rattle.crn_cert.specs.Says.{RuleOutDependence, RuleOutConservation}
-use Rattle.crn_cert.specs.Formed.{IsFormed, IsWideGap}
-use Rattle.crn_cert.specs.Valid.{IsValid}
-use Rattle.crn_cert.proofs.CallerLemmas.{valid_answers_are_true}
-use Rattle.crn_farkas.specs.declared.decision.Decision.{Decision}
-use Rattle.crn_farkas.specs.declared.decision.Decision.TheVariants.{Feasible, Infeasible}
-use Rattle.std.specs.Prelude.{Result, Ok, Err}
-use Rattle.std.specs.Result.{MatchResult}
-use Rattle.crn_vec.specs.Vectors.{Mat}
-use Rattle.crn_vec.specs.declared.signs.Kind.{Kind}
-use Rattle.crn_solve.specs.Laws.{IsLawDecision, IsLawStop}
-use Rattle.crn_farkas.specs.declared.fault.Stop.{Stop}
-use Rattle.crn_farkas.specs.declared.fault.Stop.TheVariants.{Wide, NoMemory}
-use Rattle.crn_farkas.specs.Decision.{IsDecision, IsStop}
-use Rattle.crn_cert.specs.Answered.{IsAnswer}
-use Rattle.crn_solve.specs.Inner.Given.{wide_answer, vector_answer}
-use Rattle.crn_conc.proofs.CallerLemmas.{vectors_count, row_is, rows_count, column_is, combined_past}
-use Rattle.crn_conc.proofs.CallerLemmas.{wide_basis}
+use Rattle.crn_solve.proofs.Prelude.{◌≡◌, ℕ, ◌<◌, inl, inr, List, [], length, get_or, refl, sym, ap, subst, ◌∙◌, arith, ℤ, pos, negsuc, ◌≤ℤ◌, ints, KeptNums, Net, IsNetwork, dot, column, combination_at, vectors, IsPositiveDependence, IsConservationLaw, species_system, reaction_system, positive_kinds, at_in, dot-comm, lt_or, all_given, Answer, Earlier, Q7, Q8, AreFree, RuleOutDependence, RuleOutConservation, IsFormed, IsWideGap, IsValid, valid_answers_are_true, Decision, Feasible, Infeasible, Result, Ok, Err, MatchResult, Mat, Kind, IsLawDecision, IsLawStop, Stop, Wide, NoMemory, IsDecision, IsStop, IsAnswer, wide_answer, vector_answer, vectors_count, row_is, rows_count, column_is, combined_past, wide_basis}
 use Rattle.crn_solve.proofs.PositiveKinds.{IsPositiveSolution, positive_solution, IsPositiveCut, positive_cut}
 
 -- ---- positive dependence

@@ -1,21 +1,5 @@
 -- Systems whose columns have to be positive and whose rows zero: their solutions and the multipliers that rule them out.
-use Rattle.std.proofs.Common.{◌≡◌, ◌≢◌, ℕ, zero, suc, ◌+◌, ◌-◌, ◌<◌, inl, inr, List, [], ◌++◌, length, get_or, take, drop, refl, sym, ap, subst, ◌∙◌, arith}
-use Rattle.std.specs.Prelude.{ℤ, pos, negsuc, neg_ℤ, ◌≤ℤ◌, true, false, unsigned_abs}
-use Rattle.std.proofs.Math.ListN.{replicate, get_or-append}
-use Rattle.std.proofs.lemmas.Int.{ints}
-use Rattle.std.proofs.lemmas.Bool.{false≢true}
-use Rattle.std.proofs.lemmas.List.{get_or-replicate, length-replicate, get_or-append_right, get_or-take, length-take-le, length-drop, length-append}
-use Rattle.crn_vec.specs.declared.limits.TheConstants.{WIDE_ENTRY}
-use Rattle.crn_vec.specs.declared.signs.Kind.{Kind}
-use Rattle.crn_vec.specs.declared.signs.Kind.TheVariants.{Pos, Zero, Free}
-use Rattle.crn_vec.specs.Vectors.{Mat, entry, dot, column}
-use Rattle.crn_vec.specs.Elementary.{width}
-use Rattle.crn_vec.specs.Systems.{HasKind, MayWeigh, is_signed, kind_at, signed_count}
-use Rattle.crn_vec.specs.Deficiency.{IsPositive}
-use Rattle.crn_vec.specs.NetSystems.{positive_kinds}
-use Rattle.crn_vec.proofs.CallerLemmas.{kinds_at, lt_or, all_given}
-use Rattle.crn_cert.specs.Ranges.{IsNarrow, AreFree}
-use Rattle.crn_farkas.specs.Decision.{IsSmallCut, IsSmallSolution}
+use Rattle.crn_solve.proofs.Prelude.{◌≡◌, ◌≢◌, ℕ, zero, suc, ◌+◌, ◌-◌, ◌<◌, inl, inr, List, [], ◌++◌, length, get_or, take, drop, refl, sym, ap, subst, ◌∙◌, arith, ℤ, pos, negsuc, neg_ℤ, ◌≤ℤ◌, true, false, unsigned_abs, replicate, get_or-append, ints, false≢true, get_or-replicate, length-replicate, get_or-append_right, get_or-take, length-take-le, length-drop, length-append, WIDE_ENTRY, Kind, Pos, Zero, Free, Mat, entry, dot, column, width, HasKind, MayWeigh, is_signed, kind_at, signed_count, IsPositive, positive_kinds, kinds_at, lt_or, all_given, IsNarrow, AreFree, IsSmallCut, IsSmallSolution}
 
 -- ---- kinds
 

@@ -1,29 +1,6 @@
 -- The answer on the rank that a proof or a stop gives.
-use Rattle.std.proofs.Common.{◌≡◌, ℕ, ◌≤◌, List, length, refl, sym, ap, subst, arith}
-use Rattle.std.specs.Prelude.{ℤ}
-use Rattle.crn_vec.specs.Kept.{KeptNums}
-use Rattle.crn_vec.specs.Network.{Net, IsNetwork}
-use Rattle.crn_vec.specs.Vectors.{Mat}
-use Rattle.crn_vec.specs.Elementary.{NamesWide}
-use Rattle.crn_vec.specs.NetSystems.{species_system}
-use Rattle.crn_vec.specs.declared.limits.TheConstants.{MAX_REACTIONS}
-use Rattle.crn_cert.specs.declared.answer.Answer.{Answer}
-use Rattle.crn_cert.specs.declared.answer.RankProof.{RankProof}
-use Rattle.crn_cert.specs.declared.answer.Verdict.{Verdict}
-use Rattle.crn_cert.specs.declared.answer.Verdict.TheVariants.{Rank}
-use Rattle.crn_cert.specs.declared.answer.Proof.{Proof}
-use Rattle.crn_cert.specs.declared.answer.Proof.TheVariants.{Rank as RankRows}
-use Rattle.crn_cert.specs.Questions.{Earlier, Q5}
-use Rattle.crn_cert.specs.Formed.{IsFormed, IsWideGap}
-use Rattle.crn_cert.specs.Valid.{IsValid}
-use Rattle.crn_cert.proofs.CallerLemmas.{valid_answers_are_true, all_vectors, rank_is_formed}
-use Rattle.crn_rank.specs.Rank.{ProvesRank, member_matrix}
-use Rattle.crn_cert.specs.Answered.{IsAnswer}
-use Rattle.crn_solve.specs.Inner.Given.{IsRankAnswer, wide_answer}
-use Rattle.crn_conc.proofs.CallerLemmas.{vectors_count}
-use Rattle.crn_defi.proofs.CallerLemmas.{all_places, rank_is}
+use Rattle.crn_solve.proofs.Prelude.{◌≡◌, ℕ, ◌≤◌, List, length, refl, sym, ap, subst, arith, ℤ, KeptNums, Net, IsNetwork, Mat, NamesWide, species_system, MAX_REACTIONS, Answer, RankProof, Verdict, Rank, Proof, RankRows, Earlier, Q5, IsFormed, IsWideGap, IsValid, valid_answers_are_true, all_vectors, rank_is_formed, ProvesRank, member_matrix, IsAnswer, IsRankAnswer, wide_answer, vectors_count, all_places, rank_is, wide_basis}
 use Rattle.crn_solve.proofs.Ranks.{rank_from}
-use Rattle.crn_conc.proofs.CallerLemmas.{wide_basis}
 
 pub base_few : (net : Net) (proof : RankProof) → IsNetwork net → ProvesRank net (all_places net) proof → length proof.base.list ≤ MAX_REACTIONS
 base_few net proof n h = let r = rank_from net (length proof.base.list) n (rank_is net proof h) in omega (arith, r.1, n.partial.reactions_limit)

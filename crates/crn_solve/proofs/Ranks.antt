@@ -1,16 +1,5 @@
 -- The rank of a network is from 1 to the lesser of the numbers of its species and of its reactions.
-use Rattle.std.proofs.Common.{◌≡◌, ℕ, ◌<◌, ◌≤◌, inl, inr, List, [], ◌∷◌, length, get_or, refl, sym, ap, ◌∙◌, arith}
-use Rattle.std.specs.Prelude.{ℤ, pos, min}
-use Rattle.std.proofs.lemmas.List.{length-map}
-use Rattle.crn_vec.specs.Lists.{IsIn}
-use Rattle.crn_vec.specs.Network.{Net, IsNetwork, JoinsTwo}
-use Rattle.crn_vec.specs.Vectors.{entry, AreOfLength}
-use Rattle.crn_vec.specs.Rank.{IsChoice, IsRank, chosen}
-use Rattle.crn_vec.specs.Deficiency.{vectors}
-use Rattle.crn_vec.proofs.CallerLemmas.{all_at, same_place, vector_long, lt_or}
-use Rattle.crn_defi.proofs.CallerLemmas.{ascending_few, few_independent, same_if_none, one_independent}
-use Rattle.crn_cert.specs.Ranges.{IsFrom}
-use Rattle.crn_conc.proofs.CallerLemmas.{vectors_count, vector_at, vector_width}
+use Rattle.crn_solve.proofs.Prelude.{◌≡◌, ℕ, ◌<◌, ◌≤◌, inl, inr, List, [], ◌∷◌, length, get_or, refl, sym, ap, ◌∙◌, arith, ℤ, pos, min, length-map, IsIn, Net, IsNetwork, JoinsTwo, entry, AreOfLength, IsChoice, IsRank, chosen, vectors, all_at, same_place, vector_long, lt_or, ascending_few, few_independent, same_if_none, one_independent, IsFrom, vectors_count, vector_at, vector_width}
 
 -- ---- ascending numbers below n are at most n
 

@@ -1,19 +1,5 @@
 -- The answer on confluence vectors is one of the crate of regularity, rests on an open verdict, or says that the network is not regular.
-use Rattle.std.proofs.Common.{◌≡◌, ℕ, [], ◌∷◌, refl, sym, subst, arith}
-use Rattle.crn_vec.specs.Network.{Net, IsNetwork}
-use Rattle.crn_vec.specs.Confluence.{IsRegular}
-use Rattle.crn_cert.specs.declared.answer.Verdict.{Verdict}
-use Rattle.crn_cert.specs.declared.answer.Verdict.TheVariants.{Classes, Strong, Yes, YesVec, NoTerminal, NoDependence, NoCycle, Unknown}
-use Rattle.crn_cert.specs.Questions.{Earlier, Q1, Q2, Q4, Q11, Q12, IsNo, IsOpen, IsYes, on}
-use Rattle.crn_cert.specs.Verdicts.{tight}
-use Rattle.crn_cert.specs.Says.{AreLinkageClasses, AreStrongClasses, IsTrueOf}
-use Rattle.crn_cert.specs.Valid.{IsValid}
-use Rattle.crn_cert.specs.Law.{IsTrueOrOpen}
-use Rattle.crn_cert.specs.Answered.{IsAnswer}
-use Rattle.crn_cert.proofs.CallerLemmas.{valid_answers_are_true, no_tight, open_tight}
-use Rattle.crn_graph.specs.declared.linkage_data.LinkageData.{LinkageData}
-use Rattle.crn_graph.specs.declared.strong_data.StrongData.{StrongData}
-use Rattle.crn_solve.specs.Inner.Given.{irregular_answer, rests_answer}
+use Rattle.crn_solve.proofs.Prelude.{◌≡◌, ℕ, [], ◌∷◌, refl, sym, subst, arith, Net, IsNetwork, IsRegular, Verdict, Classes, Strong, Yes, YesVec, NoTerminal, NoDependence, NoCycle, Unknown, Earlier, Q1, Q2, Q4, Q11, Q12, IsNo, IsOpen, IsYes, on, tight, AreLinkageClasses, AreStrongClasses, IsTrueOf, IsValid, IsTrueOrOpen, IsAnswer, valid_answers_are_true, no_tight, open_tight, LinkageData, StrongData, irregular_answer, rests_answer}
 
 -- a true yes says that the network is regular
 pub regular_yes : (net : Net) (v : Verdict) → IsTrueOrOpen net Q11 v → IsYes v → IsRegular net

@@ -1,24 +1,5 @@
 -- Answers to questions 11 and 12 give the vector and the sides to question 13.
-use Rattle.std.proofs.Common.{◌≡◌, ◌∙◌, ap, subst}
-use Rattle.std.specs.List.{AllByRecursion}
-use Rattle.crn_vec.specs.Kept.{KeptInts}
-use Rattle.crn_vec.specs.Network.{Net, IsNetwork}
-use Rattle.crn_vec.specs.Deficiency.{IsLabelled}
-use Rattle.crn_cert.specs.declared.answer.Answer.{Answer}
-use Rattle.crn_cert.specs.declared.answer.Proof.{Proof}
-use Rattle.crn_cert.specs.declared.answer.Proof.TheVariants.{Sides, Ties}
-use Rattle.crn_cert.specs.declared.answer.Verdict.{Verdict}
-use Rattle.crn_cert.specs.declared.answer.Verdict.TheVariants.{Yes, YesVec}
-use Rattle.crn_cert.specs.Questions.{Earlier, Q2, Q11, Q12, on, IsYes}
-use Rattle.crn_cert.specs.Ranges.{IsNarrow}
-use Rattle.crn_cert.specs.Says.{IsTrueOf}
-use Rattle.crn_cert.specs.Formed.{IsFormedOf, IsFormed}
-use Rattle.crn_cert.specs.Valid.{linkage, IsValid}
-use Rattle.crn_cert.specs.Verdicts.{tight}
-use Rattle.crn_cert.proofs.CallerLemmas.{yes_tight}
-use Rattle.crn_shape.proofs.CallerLemmas.{tested_sides}
-use Rattle.crn_solve.specs.Inner.Sides.{GiveSides}
-use Rattle.crn_cert.proofs.CallerLemmas.{sides_formed}
+use Rattle.crn_solve.proofs.Prelude.{◌≡◌, ◌∙◌, ap, subst, AllByRecursion, KeptInts, Net, IsNetwork, IsLabelled, Answer, Proof, Sides, Ties, Verdict, Yes, YesVec, Earlier, Q2, Q11, Q12, on, IsYes, IsNarrow, IsTrueOf, IsFormedOf, IsFormed, linkage, IsValid, tight, yes_tight, tested_sides, GiveSides, sides_formed}
 
 -- a yes on regularity is there with the sides
 regular_given : (net : Net) (earlier : Earlier) (v : Verdict) (p : Proof) (vector : KeptInts) → IsNetwork net → IsTrueOf net Q2 (on earlier Q2) → IsLabelled net (linkage earlier) → IsFormedOf net earlier Q11 v p → IsValid net earlier Q11 (record { verdict = v; proof = p })

@@ -1,28 +1,6 @@
 -- The answer on signals is one of the crate of signals, rests on an open verdict, or says that there is no vector.
-use Rattle.std.proofs.Common.{◌≡◌, ◌∙◌, ◌⊎◌, ℕ, inl, inr, List, [], ◌∷◌, refl, ap, sym, subst, arith}
-use Rattle.std.specs.Prelude.{◌↔◌, IsTrue, Bool, ℤ, Result, Ok, Err, IfOk}
-use Rattle.std.specs.Option.{IsSome, IsSomeAnd}
-use Rattle.std.proofs.lemmas.Bool.{false≢true}
-use Rattle.crn_vec.specs.Kept.{KeptInts}
-use Rattle.crn_vec.specs.Network.{Net, IsNetwork}
-use Rattle.crn_vec.specs.Strong.{IsWeaklyReversible}
-use Rattle.crn_vec.specs.Confluence.{negative}
-use Rattle.crn_vec.specs.NetSignals.{HasNoSignal}
-use Rattle.crn_cert.specs.declared.answer.Proof.{Proof}
-use Rattle.crn_cert.specs.declared.answer.Proof.TheVariants.{Sides}
-use Rattle.crn_cert.specs.declared.answer.Verdict.{Verdict}
-use Rattle.crn_cert.specs.declared.answer.Verdict.TheVariants.{YesVec}
-use Rattle.crn_cert.specs.Questions.{Earlier, Q2, Q4, Q12, Q13, IsOpen, IsYes, on, vector_given}
-use Rattle.crn_cert.specs.Says.{IsTrueOf}
-use Rattle.crn_cert.specs.Valid.{IsValid}
-use Rattle.crn_cert.specs.Law.{IsTrueOrOpen}
-use Rattle.crn_cert.specs.Licensed.{IsLicensedBudget, PassForSignals}
-use Rattle.crn_cert.specs.Answered.{IsAnswer}
-use Rattle.crn_cert.specs.Verdicts.{tight}
-use Rattle.crn_cert.proofs.CallerLemmas.{valid_answers_are_true, open_tight, vector_tight, yes_tight}
-use Rattle.crn_shelf.specs.Given.{GiveVector}
-use Rattle.crn_solve.specs.Inner.Given.{inapplicable_answer, rests_answer}
-use Rattle.crn_solve.specs.Inner.Sides.{GiveSides}
+use Rattle.crn_solve.proofs.Prelude.{◌≡◌, ◌∙◌, ◌⊎◌, ℕ, inl, inr, List, [], ◌∷◌, refl, ap, sym, subst, arith, IsTrue, Bool, ℤ, Result, Ok, Err, IfOk, IsSome, IsSomeAnd, false≢true, KeptInts, Net, IsNetwork, IsWeaklyReversible, negative, HasNoSignal, Proof, Sides, Verdict, YesVec, Earlier, Q2, Q4, Q12, Q13, IsOpen, IsYes, on, vector_given, IsTrueOf, IsValid, IsTrueOrOpen, IsLicensedBudget, PassForSignals, IsAnswer, tight, valid_answers_are_true, open_tight, vector_tight, yes_tight, GiveVector, inapplicable_answer, rests_answer, GiveSides}
+use Rattle.std.specs.Prelude.{◌↔◌}
 
 -- an open verdict on confluence vectors leaves signals open
 pub signal_rests : (net : Net) (budget : ℕ) (earlier : Earlier) (v : Verdict) → IsOpen v → on earlier Q12 ≡ tight v → IsAnswer net budget earlier Q13 (rests_answer 12)

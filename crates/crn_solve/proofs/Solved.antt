@@ -1,23 +1,5 @@
 -- Answers to the questions before the two on concordance and answers to these two are answers to all.
-use Rattle.std.proofs.Common.{◌≡◌, ℕ, List, [], ◌∷◌, ◌++◌, ◌+◌, length, refl, sym, subst, ◌∙◌, arith, ap}
-use Rattle.std.proofs.lemmas.List.{append_assoc, length-append, length-map, map-append}
-use Rattle.crn_vec.specs.Network.{Net}
-use Rattle.crn_cert.specs.declared.answer.Answer.{Answer}
-use Rattle.crn_cert.specs.declared.answer.Verdict.{Verdict}
-use Rattle.crn_cert.specs.Answered.{IsAnswer}
-use Rattle.crn_cert.specs.Answers.{verdicts_of}
-use Rattle.crn_cert.specs.Built.{built}
-use Rattle.crn_cert.specs.Formed.{AreFormed}
-use Rattle.crn_cert.specs.Licensed.{AllTrueOrLicensed, IsLicensedBudget}
-use Rattle.crn_cert.specs.Questions.{Earlier, IsOpen, Question, Q13, Q14, Q15}
-use Rattle.crn_cert.specs.TreeSizes.{HasFewNodes, HaveFewNodes}
-use Rattle.crn_cert.specs.Valid.{AreValid}
-use Rattle.crn_solve.specs.Spent.{AreOpenIfSpent}
-use Rattle.crn_solve.specs.Visits.{AllListVisits, HaveNodeForEachVisit}
-use Rattle.crn_vec.specs.Influence.{plain_table, strong_table}
-use Rattle.crn_conc.specs.Visits.{ListsTableVisits}
-use Rattle.crn_cert.specs.Verdicts.{tight}
-use Rattle.crn_solve.specs.Inner.Solved.{AreAnswers, AreFirstAnswers, FirstAreDecided, IsVectorFirst, first_questions}
+use Rattle.crn_solve.proofs.Prelude.{◌≡◌, ℕ, List, [], ◌∷◌, ◌++◌, ◌+◌, length, refl, sym, subst, ◌∙◌, arith, ap, append_assoc, length-append, length-map, map-append, Net, Answer, Verdict, IsAnswer, verdicts_of, built, AreFormed, AllTrueOrLicensed, IsLicensedBudget, Earlier, IsOpen, Question, Q13, Q14, Q15, HasFewNodes, HaveFewNodes, AreValid, AreOpenIfSpent, AllListVisits, HaveNodeForEachVisit, plain_table, strong_table, ListsTableVisits, tight, AreAnswers, AreFirstAnswers, FirstAreDecided, IsVectorFirst, first_questions}
 use Rattle.crn_solve.proofs.AllAnswers.{are_formed, are_valid, are_answered}
 
 -- there are as many answers as questions

@@ -1,16 +1,5 @@
 -- The answer on the Deficiency Zero Theorem is one of the crate of deficiencies, or rests on the rank; what the answer on the Deficiency One Theorem rests on.
-use Rattle.std.proofs.Common.{◌≡◌, ◌↔◌, ◌∙◌, ℕ, ap, sym, subst}
-use Rattle.std.specs.Prelude.{IsTrue, Bool}
-use Rattle.crn_vec.specs.Network.{Net}
-use Rattle.crn_vec.specs.Strong.{IsWeaklyReversible}
-use Rattle.crn_cert.proofs.CallerLemmas.{weak_yes, weak_no, open_tight, yes_tight}
-use Rattle.crn_cert.specs.declared.answer.Verdict.{Verdict}
-use Rattle.crn_cert.specs.Questions.{Earlier, Q4, Q5, Q9, IsOpen, IsYes, on}
-use Rattle.crn_cert.specs.Says.{IsTrueOf}
-use Rattle.crn_cert.specs.Answered.{IsAnswer}
-use Rattle.crn_cert.specs.Verdicts.{tight}
-use Rattle.crn_defi.proofs.CallerLemmas.{zero_rests}
-use Rattle.crn_solve.specs.Inner.Given.{rests_answer}
+use Rattle.crn_solve.proofs.Prelude.{◌≡◌, ◌↔◌, ◌∙◌, ℕ, ap, sym, subst, IsTrue, Bool, Net, IsWeaklyReversible, weak_yes, weak_no, open_tight, yes_tight, Verdict, Earlier, Q4, Q5, Q9, IsOpen, IsYes, on, IsTrueOf, IsAnswer, tight, zero_rests, rests_answer}
 
 -- a true verdict on weak reversibility is a yes if and only if the network is weakly reversible
 pub weak_is : (net : Net) (v : Verdict) (weak : Bool) → IsTrueOf net Q4 v → (IsTrue weak ↔ IsYes v) → (IsTrue weak ↔ IsWeaklyReversible net.reactions)

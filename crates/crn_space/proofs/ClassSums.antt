@@ -1,15 +1,5 @@
 -- The deficiencies of the linkage classes sum to at most that of the network.
-use Rattle.std.proofs.Common.{◌≡◌, ℕ, suc, ◌+◌, ◌<◌, ◌≤◌, ◌==◌, Bool, List, [], ◌∷◌, length, get_or, map, sym, subst, arith}
-use Rattle.std.specs.Prelude.{filter, sum}
-use Rattle.std.proofs.lemmas.List.{length-map}
-use Rattle.std.proofs.lemmas.List.Sums.{sum_by-cons}
-use Rattle.crn_vec.specs.Lists.{IsIn}
-use Rattle.crn_vec.specs.Network.{Net, JoinsTwo, reaction_vector}
-use Rattle.crn_vec.specs.Linkage.{SameClass}
-use Rattle.crn_vec.specs.Rank.{IsIndependent}
-use Rattle.crn_vec.specs.Deficiency.{IsComplex, class_reactions, class_members, IsClassDeficiency}
-use Rattle.crn_vec.proofs.CallerLemmas.{all_in, in_at, class_then, class_back, number_is_one}
-use Rattle.crn_space.specs.ClassSums.{ClassDeficienciesSumToAtMost}
+use Rattle.crn_space.proofs.Prelude.{◌≡◌, ℕ, suc, ◌+◌, ◌<◌, ◌≤◌, ◌==◌, Bool, List, [], ◌∷◌, length, get_or, map, sym, subst, arith, filter, sum, length-map, sum_by-cons, IsIn, Net, JoinsTwo, reaction_vector, SameClass, IsIndependent, IsComplex, class_reactions, class_members, IsClassDeficiency, all_in, in_at, class_then, class_back, number_is_one, ClassDeficienciesSumToAtMost}
 use Rattle.crn_space.proofs.Chosen.{taken, taken_vectors, taken_in}
 use Rattle.crn_space.proofs.Counts.{counted, counted_all}
 use Rattle.crn_space.proofs.Roots.{number_of_classes}

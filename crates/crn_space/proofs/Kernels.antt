@@ -1,15 +1,6 @@
 -- A list of vectors of one length has an independent part that shows which weights all of them give nothing to, and independent relations for the rest.
-use Rattle.std.proofs.Common.{◌≡◌, ◌⊎◌, ℕ, suc, ◌+◌, inl, inr, List, [], ◌∷◌, length, map, refl, sym, ap, ◌∙◌, arith}
-use Rattle.std.specs.Prelude.{ℤ, pos, ◌*ℤ◌}
-use Rattle.std.specs.List.{range_with_len}
-use Rattle.std.proofs.lemmas.Int.{ints}
-use Rattle.std.proofs.lemmas.List.{length-map}
+use Rattle.crn_space.proofs.Prelude.{◌≡◌, ◌⊎◌, ℕ, suc, ◌+◌, inl, inr, List, [], ◌∷◌, length, map, refl, sym, ap, ◌∙◌, arith, ℤ, pos, ◌*ℤ◌, range_with_len, ints, length-map, IsIn, entry, dot, column, AreOfLength, IsZero, combination_at, IsIndependent, lt_or, past_end, length-column, no_zero, dot-comm, dot-zero, dots, comb, length-comb, entry-comb, transposed, Zero, Solves, null, Related, in_range, zero_from}
 use lib.IntN.{*ℤ_comm, *ℤ-zero, zero-*ℤ}
-use Rattle.crn_vec.specs.Lists.{IsIn}
-use Rattle.crn_vec.specs.Vectors.{entry, dot, column, AreOfLength}
-use Rattle.crn_vec.specs.Rank.{IsZero, combination_at, IsIndependent}
-use Rattle.crn_vec.proofs.CallerLemmas.{lt_or, past_end, length-column, no_zero, dot-comm, dot-zero, dots, comb, length-comb, entry-comb, transposed, Zero, Solves, null, Related}
-use Rattle.crn_vec.proofs.CallerLemmas.{in_range, zero_from}
 use Rattle.crn_space.proofs.Few.{zero_entry}
 use Rattle.crn_space.proofs.Parts.{IsPart, part_later, zero_more, spread}
 use Rattle.crn_space.proofs.SpaceFew.{dots_none}

@@ -12,3 +12,4 @@ mod Kernels
 mod SpaceSome
 mod Dimension
 pub mod CallerLemmas
+mod Prelude

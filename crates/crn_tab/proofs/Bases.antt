@@ -1,16 +1,6 @@
 -- The rows of a tableau make a basis, and are the vectors that it names.
-use Rattle.std.proofs.Common.{◌≡◌, ◌≢◌, ℕ, ◌+◌, ◌-◌, ◌<◌, ◌≤◌, inl, inr, List, length, sym, ap, subst, ◌∙◌, arith}
-use Rattle.std.specs.Prelude.{ℤ, pos, ◌*ℤ◌, slice_index, unsigned_abs}
-use Rattle.std.specs.Int.{◌∣◌}
-use Rattle.std.proofs.lemmas.Int.{ints}
-use Rattle.std.proofs.lemmas.Nat.Gcd.{dvd-zero}
-use Rattle.std.proofs.Math.Nat.{eq-one_of_dvd-one}
+use Rattle.crn_tab.proofs.Prelude.{◌≡◌, ◌≢◌, ℕ, ◌+◌, ◌-◌, ◌<◌, ◌≤◌, inl, inr, List, length, sym, ap, subst, ◌∙◌, arith, ℤ, pos, ◌*ℤ◌, slice_index, unsigned_abs, ◌∣◌, ints, dvd-zero, eq-one_of_dvd-one, Mat, entry, AreOfLength, IsIn, width, IsBasis, IsPrimitive, IsNamed, no_zero, past_end, inside_or, lt_or, orthogonal, dot_single, IsContent, slot_entry, spread, basis_of, ArePlaced, IsRowAt}
 use lib.IntN.{*ℤ-zero, zero-*ℤ}
-use Rattle.crn_vec.specs.Vectors.{Mat, entry, AreOfLength}
-use Rattle.crn_vec.specs.Lists.{IsIn}
-use Rattle.crn_vec.specs.Elementary.{width, IsBasis, IsPrimitive, IsNamed}
-use Rattle.crn_vec.proofs.CallerLemmas.{no_zero, past_end, inside_or, lt_or, orthogonal, dot_single}
-use Rattle.crn_tab.specs.Slots.{IsContent, slot_entry, spread, basis_of, ArePlaced, IsRowAt}
 use Rattle.crn_tab.proofs.Places.{isIn_or, slot_basic, slot_own, slot_none, length-spread, entry-spread, in_basis, basis_only, basis_ascending}
 
 -- a coordinate outside the basis has the slot of a row

@@ -1,9 +1,5 @@
 -- Whether a coordinate is in the basis, by its slot.
-use Rattle.std.proofs.Common.{◌≡◌, ℕ, ◌<◌, ◌≤◌, List, length, ap, arith, nat_lt}
-use Rattle.std.specs.Prelude.{slice_index, IsTrue, ◌↔◌}
-use Rattle.crn_vec.specs.Lists.{IsIn}
-use Rattle.crn_tab.specs.Inner.Start.{IsIdentity}
-use Rattle.crn_tab.specs.Slots.{basis_of}
+use Rattle.crn_tab.proofs.Prelude.{◌≡◌, ℕ, ◌<◌, ◌≤◌, List, length, ap, arith, nat_lt, slice_index, IsTrue, ◌↔◌, IsIn, IsIdentity, basis_of}
 use Rattle.crn_tab.proofs.Places.{lt_true, below_from, in_basis, basis_only}
 
 pub slot_below : (n : ℕ) (at : List ℕ) (k : ℕ) → IsIn k (basis_of n at) → slice_index at k < n

@@ -1,9 +1,5 @@
 -- Where a coordinate of the basis is.
-use Rattle.std.proofs.Common.{◌+◌, ◌^◌, ◌<◌, ℕ, List, length, arith}
-use Rattle.std.specs.Prelude.{ℤ, slice_index}
-use Rattle.crn_vec.specs.Vectors.{Mat}
-use Rattle.crn_vec.specs.Lists.{IsIn}
-use Rattle.crn_tab.specs.Slots.{basis_of, row_at, IsTableau}
+use Rattle.crn_tab.proofs.Prelude.{◌+◌, ◌^◌, ◌<◌, ℕ, List, length, arith, ℤ, slice_index, Mat, IsIn, basis_of, row_at, IsTableau}
 use Rattle.crn_tab.proofs.BasicTest.{slot_below}
 use Rattle.crn_tab.proofs.Bases.{rows_make_basis}
 

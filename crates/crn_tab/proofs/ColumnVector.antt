@@ -1,19 +1,6 @@
 -- The vector that a basis names by a coordinate in it, from the rows of a tableau.
-use Rattle.std.proofs.Common.{◌≡◌, ◌≢◌, ℕ, zero, suc, ◌+◌, ◌-◌, ◌*◌, ◌/◌, ◌<◌, ◌≤◌, inl, inr, List, [], ◌∷◌, length, refl, sym, ap, subst, ◌∙◌, arith, nat_eq}
-use Rattle.std.specs.Prelude.{ℤ, pos, ◌+ℤ◌, ◌-ℤ◌, ◌*ℤ◌, neg_ℤ, ◌≤ℤ◌, int_div, slice_index, unsigned_abs}
-use Rattle.std.specs.Int.{◌∣◌}
-use Rattle.std.proofs.lemmas.Int.{ints, unsigned_abs-mul}
-use Rattle.std.proofs.lemmas.Nat.Gcd.{dvd_antisymm, le_of_dvd}
-use Rattle.std.proofs.Math.Nat.{dvd-mul_right, div-mul_cancel, mul-dvd-mul_right, dvd_of_mul-dvd-mul_right, mul_comm, mul_assoc, pos_of_dvd_of_pos, eq_of_mul-eq-mul_left}
+use Rattle.crn_tab.proofs.Prelude.{◌≡◌, ◌≢◌, ℕ, zero, suc, ◌+◌, ◌-◌, ◌*◌, ◌/◌, ◌<◌, ◌≤◌, inl, inr, List, [], ◌∷◌, length, refl, sym, ap, subst, ◌∙◌, arith, nat_eq, ℤ, pos, ◌+ℤ◌, ◌-ℤ◌, ◌*ℤ◌, neg_ℤ, ◌≤ℤ◌, int_div, slice_index, unsigned_abs, ◌∣◌, ints, unsigned_abs-mul, dvd_antisymm, le_of_dvd, dvd-mul_right, div-mul_cancel, mul-dvd-mul_right, dvd_of_mul-dvd-mul_right, mul_comm, mul_assoc, pos_of_dvd_of_pos, eq_of_mul-eq-mul_left, exact, Mat, entry, IsIn, width, InRowSpace, IsPrimitive, IsNamed, WideAt, left-comm, mul-neg, past_end, lt_or, eq_or, orthogonal, dot_two, choose, spread, basis_of, row_at, IsTableau, MakesWhole, IsScale, HasWideScale, column_entry, column_of}
 use lib.IntN.{*ℤ_comm, *ℤ-zero, zero-*ℤ}
-use Rattle.crn_frac.proofs.CallerLemmas.{exact}
-use Rattle.crn_vec.specs.Vectors.{Mat, entry}
-use Rattle.crn_vec.specs.Lists.{IsIn}
-use Rattle.crn_vec.specs.Elementary.{width, InRowSpace, IsPrimitive, IsNamed, WideAt}
-use Rattle.crn_vec.proofs.CallerLemmas.{left-comm, mul-neg, past_end, lt_or, eq_or, orthogonal, dot_two}
-use Rattle.crn_tab.specs.Tableau.{choose}
-use Rattle.crn_tab.specs.Slots.{spread, basis_of, row_at, IsTableau}
-use Rattle.crn_tab.specs.Inner.Columns.{MakesWhole, IsScale, HasWideScale, column_entry, column_of}
 use Rattle.crn_tab.proofs.Places.{isIn_or, lt_true, lt_false, eq_true, eq_false, slot_basic, entry-spread}
 use Rattle.crn_tab.proofs.BasicTest.{slot_below}
 use Rattle.crn_tab.proofs.Bases.{rows_make_basis, zero_outside, outside_slot, at_own}

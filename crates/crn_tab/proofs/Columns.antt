@@ -1,16 +1,6 @@
 -- Vectors (x, Ax): differences, and that a basis and a coordinate in it name one vector, up to its sign.
-use Rattle.std.proofs.Common.{◌≡◌, ◌≢◌, ◌⊎◌, ℕ, ◌+◌, ◌*◌, ◌≤◌, inl, inr, List, [], length, get_or, take, sym, ap, subst, ◌∙◌, arith}
-use Rattle.std.specs.Prelude.{ℤ, pos, ◌-ℤ◌, ◌*ℤ◌, unsigned_abs}
-use Rattle.std.specs.Int.{◌∣◌}
-use Rattle.std.proofs.lemmas.Int.{ints, unsigned_abs-mul}
-use Rattle.std.proofs.lemmas.List.{get_or-take, length-take-le}
-use Rattle.std.proofs.lemmas.Nat.Gcd.{dvd-zero}
+use Rattle.crn_tab.proofs.Prelude.{◌≡◌, ◌≢◌, ◌⊎◌, ℕ, ◌+◌, ◌*◌, ◌≤◌, inl, inr, List, [], length, get_or, take, sym, ap, subst, ◌∙◌, arith, ℤ, pos, ◌-ℤ◌, ◌*ℤ◌, unsigned_abs, ◌∣◌, ints, unsigned_abs-mul, get_or-take, length-take-le, dvd-zero, Mat, entry, dot, AreOfLength, IsIn, InRowSpace, InDualSpace, IsBasis, IsPrimitive, IsNamed, IsNamedRow, IsNamedColumn, WideAt, AreProportional, IsElementary, IsWideMatrix, no_zero, mul-sub, left-comm, past_end, lt_or, eq_or, dot-comm, AreSmall}
 use lib.IntN.{*ℤ_comm}
-use Rattle.crn_vec.specs.Vectors.{Mat, entry, dot, AreOfLength}
-use Rattle.crn_vec.specs.Lists.{IsIn}
-use Rattle.crn_vec.specs.Elementary.{InRowSpace, InDualSpace, IsBasis, IsPrimitive, IsNamed, IsNamedRow, IsNamedColumn, WideAt, AreProportional, IsElementary, IsWideMatrix}
-use Rattle.crn_vec.proofs.CallerLemmas.{no_zero, mul-sub, left-comm, past_end, lt_or, eq_or, dot-comm}
-use Rattle.crn_tab.specs.Tableau.{AreSmall}
 use Rattle.crn_tab.proofs.Dots.{dot_combined}
 use Rattle.crn_tab.proofs.Differences.{differences, length-differences, entry-differences}
 use Rattle.crn_tab.proofs.Signs.{times_one, own, is_none, same_sizes, one_row, some_own}

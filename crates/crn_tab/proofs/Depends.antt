@@ -1,13 +1,6 @@
 -- How a coordinate outside the basis depends on one in it.
-use Rattle.std.proofs.Common.{◌≡◌, ◌≢◌, ℕ, ◌+◌, ◌-◌, ◌<◌, inl, inr, List, sym, ap, ◌∙◌, arith}
-use Rattle.std.specs.Prelude.{ℤ, pos, ◌+ℤ◌, ◌*ℤ◌, neg_ℤ, slice_index, unsigned_abs}
-use Rattle.std.proofs.lemmas.Int.{ints}
+use Rattle.crn_tab.proofs.Prelude.{◌≡◌, ◌≢◌, ℕ, ◌+◌, ◌-◌, ◌<◌, inl, inr, List, sym, ap, ◌∙◌, arith, ℤ, pos, ◌+ℤ◌, ◌*ℤ◌, neg_ℤ, slice_index, unsigned_abs, ints, Mat, entry, IsIn, width, IsBasis, IsNamed, IsNamedRow, IsNamedColumn, no_zero, left-comm, mul-neg, neg-mul, spread, basis_of, row_at, IsTableau}
 use lib.IntN.{*ℤ_comm, *ℤ-zero}
-use Rattle.crn_vec.specs.Vectors.{Mat, entry}
-use Rattle.crn_vec.specs.Lists.{IsIn}
-use Rattle.crn_vec.specs.Elementary.{width, IsBasis, IsNamed, IsNamedRow, IsNamedColumn}
-use Rattle.crn_vec.proofs.CallerLemmas.{no_zero, left-comm, mul-neg, neg-mul}
-use Rattle.crn_tab.specs.Slots.{spread, basis_of, row_at, IsTableau}
 use Rattle.crn_tab.proofs.Places.{entry-spread, slot_basic}
 use Rattle.crn_tab.proofs.Bases.{rows_make_basis, at_own}
 use Rattle.crn_tab.proofs.BasicTest.{slot_below}

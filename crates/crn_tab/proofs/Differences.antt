@@ -1,9 +1,6 @@
 -- The difference of two rows, each times a factor.
-use Rattle.std.proofs.Common.{◌≡◌, ℕ, zero, suc, List, [], ◌∷◌, length, refl, arith}
-use Rattle.std.specs.Prelude.{ℤ, ◌-ℤ◌, ◌*ℤ◌}
-use Rattle.std.proofs.lemmas.Int.{ints}
+use Rattle.crn_tab.proofs.Prelude.{◌≡◌, ℕ, zero, suc, List, [], ◌∷◌, length, refl, arith, ℤ, ◌-ℤ◌, ◌*ℤ◌, ints, entry}
 use lib.IntN.{*ℤ-zero}
-use Rattle.crn_vec.specs.Vectors.{entry}
 
 pub differences : ℤ → ℤ → List ℤ → List ℤ → List ℤ
 differences p q [] v = []

@@ -1,10 +1,6 @@
 -- Dot products: differences, and single products.
-use Rattle.std.proofs.Common.{◌≡◌, ℕ, suc, List, [], ◌∷◌, length, ap, arith}
-use Rattle.std.specs.Prelude.{ℤ, ◌-ℤ◌, ◌*ℤ◌}
-use Rattle.std.proofs.lemmas.Int.{ints}
+use Rattle.crn_tab.proofs.Prelude.{◌≡◌, ℕ, suc, List, [], ◌∷◌, length, ap, arith, ℤ, ◌-ℤ◌, ◌*ℤ◌, ints, entry, dot, distrib, distrib-right, assoc, mul-sub}
 use lib.IntN.{*ℤ_comm, *ℤ-zero, zero-*ℤ}
-use Rattle.crn_vec.specs.Vectors.{entry, dot}
-use Rattle.crn_vec.proofs.CallerLemmas.{distrib, distrib-right, assoc, mul-sub}
 
 step : (p q t z w v c : ℤ) → z *ℤ t ≡ (p *ℤ w) -ℤ (q *ℤ v) → (z *ℤ c) *ℤ t ≡ (p *ℤ (w *ℤ c)) -ℤ (q *ℤ (v *ℤ c))
 step p q t z w v c e =

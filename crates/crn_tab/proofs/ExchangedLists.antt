@@ -1,9 +1,5 @@
 -- The ascending list with one coordinate in place of another.
-use Rattle.std.proofs.Common.{◌≡◌, ◌≢◌, ℕ, ◌<◌, ◌⊎◌, inl, inr, List, [], ◌∷◌, sym, ◌∙◌, arith}
-use Rattle.std.specs.Prelude.{◌↔◌}
-use Rattle.crn_vec.specs.Lists.{IsIn, IsAbove, IsAscending}
-use Rattle.crn_vec.specs.Elementary.{Exchanged}
-use Rattle.crn_vec.proofs.CallerLemmas.{eq_or, lt_or, above_ascending, above_lower}
+use Rattle.crn_tab.proofs.Prelude.{◌≡◌, ◌≢◌, ℕ, ◌<◌, ◌⊎◌, inl, inr, List, [], ◌∷◌, sym, ◌∙◌, arith, ◌↔◌, IsIn, IsAbove, IsAscending, Exchanged, eq_or, lt_or, above_ascending, above_lower}
 
 -- the members other than b
 record Without (b : ℕ) (xs ys : List ℕ) : Type 0 where

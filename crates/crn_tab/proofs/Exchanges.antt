@@ -1,14 +1,6 @@
 -- An exchange of two coordinates: their slots change places, and each row goes over to its new one.
-use Rattle.std.proofs.Common.{◌≡◌, ◌≢◌, ℕ, zero, suc, ◌+◌, ◌<◌, inl, inr, List, length, sym, ap, ◌∙◌, arith}
-use Rattle.std.specs.Prelude.{ℤ, pos, negsuc, ◌-ℤ◌, ◌*ℤ◌, ◌≤ℤ◌, slice_index}
-use Rattle.std.proofs.lemmas.Int.{ints}
-use Rattle.std.proofs.Math.ListN.{length-set as length-put}
+use Rattle.crn_tab.proofs.Prelude.{◌≡◌, ◌≢◌, ℕ, zero, suc, ◌+◌, ◌<◌, inl, inr, List, length, sym, ap, ◌∙◌, arith, ℤ, pos, negsuc, ◌-ℤ◌, ◌*ℤ◌, ◌≤ℤ◌, slice_index, ints, length-put, Mat, entry, width, pos_pos, past_end, lt_or, eq_or, IsNewRow, put, slot_entry, spread, ArePlaced, IsRowAt}
 use lib.IntN.{*ℤ-zero, zero-*ℤ}
-use Rattle.crn_vec.specs.Vectors.{Mat, entry}
-use Rattle.crn_vec.specs.Elementary.{width}
-use Rattle.crn_vec.proofs.CallerLemmas.{pos_pos, past_end, lt_or, eq_or}
-use Rattle.crn_tab.specs.Inner.Rows.{IsNewRow, put}
-use Rattle.crn_tab.specs.Slots.{slot_entry, spread, ArePlaced, IsRowAt}
 use Rattle.crn_tab.proofs.NewRows.{put_same, put_other}
 use Rattle.crn_tab.proofs.Places.{slot_basic, slot_own, slot_none, length-spread, entry-spread}
 use Rattle.crn_tab.proofs.Spaces.{dual_combined}

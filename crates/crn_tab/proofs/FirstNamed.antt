@@ -1,15 +1,5 @@
 -- At first, row i of a tableau is (-A_i, e_i).
-use Rattle.std.proofs.Common.{◌≡◌, ℕ, ◌+◌, ◌<◌, ◌⊎◌, inl, inr, List, [], length, get_or, sym, ap, ◌∙◌, arith, nat_eq}
-use Rattle.std.specs.List.{range_with_len}
-use Rattle.std.specs.Prelude.{ℤ, pos, neg_ℤ, ◌↔◌}
-use Rattle.std.proofs.lemmas.List.FromFn.{length-range_with_len, get_or-range_with_len}
-use Rattle.crn_vec.specs.Vectors.{Mat, entry, AreOfLength}
-use Rattle.crn_vec.specs.Lists.{IsIn}
-use Rattle.crn_vec.specs.Elementary.{width, IsNamed}
-use Rattle.crn_vec.proofs.CallerLemmas.{lt_or, past_end, eq_or, row_count}
-use Rattle.crn_tab.specs.Inner.Start.{IsIdentity, start_row}
-use Rattle.crn_tab.specs.Tableau.{first_entry, choose}
-use Rattle.crn_tab.specs.Slots.{slot_entry, spread}
+use Rattle.crn_tab.proofs.Prelude.{◌≡◌, ℕ, ◌+◌, ◌<◌, ◌⊎◌, inl, inr, List, [], length, get_or, sym, ap, ◌∙◌, arith, nat_eq, range_with_len, ℤ, pos, neg_ℤ, ◌↔◌, length-range_with_len, get_or-range_with_len, Mat, entry, AreOfLength, IsIn, width, IsNamed, lt_or, past_end, eq_or, row_count, IsIdentity, start_row, first_entry, choose, slot_entry, spread}
 use Rattle.crn_tab.proofs.Places.{lt_true, lt_false, eq_true, eq_false, slot_basic, slot_own, slot_none, length-spread, entry-spread}
 use Rattle.crn_tab.proofs.Bases.{spread_primitive}
 use Rattle.crn_tab.proofs.FirstRows.{identity_placed, length-start_row, start_entry, start_last, first_dual, one_primitive}

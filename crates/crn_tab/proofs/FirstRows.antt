@@ -1,18 +1,5 @@
 -- The rows that a tableau keeps at first make a tableau.
-use Rattle.std.proofs.Common.{◌≡◌, ◌≢◌, ℕ, zero, suc, ◌+◌, ◌-◌, ◌*◌, ◌<◌, ◌≤◌, inl, inr, List, [], ◌∷◌, ◌++◌, length, get_or, take, drop, map, refl, sym, ap, subst, ◌∙◌, arith, lit<, append_assoc, add-one}
-use Rattle.std.specs.Prelude.{ℤ, pos, neg_ℤ, ◌*ℤ◌, slice_index, unsigned_abs}
-use Rattle.std.specs.Int.{◌∣◌}
-use Rattle.std.proofs.lemmas.Int.{ints}
-use Rattle.std.proofs.lemmas.List.{append-nil, get_or-drop, get_or-append-add, get_or_append_left, length-append}
-use Rattle.std.proofs.Math.Nat.{one-dvd, suc-mul}
-use Rattle.std.proofs.Math.Seq.{take-append_seam}
-use Rattle.crn_vec.specs.declared.limits.TheConstants.{MAX_AMOUNT, MAX_COORDINATES, WIDE_ENTRY}
-use Rattle.crn_vec.specs.Vectors.{Mat, entry, dot, column, AreOfLength, AreWithin}
-use Rattle.crn_vec.specs.Elementary.{width, InDualSpace}
-use Rattle.crn_vec.proofs.CallerLemmas.{within_at, past_end, lt_or, length-neg, entry-neg, dot_single, zero_times, entry-column, row_count}
-use Rattle.crn_tab.specs.Tableau.{AreSmall, choose}
-use Rattle.crn_tab.specs.Slots.{IsContent, slot_entry, spread, basis_from, row_at, ArePlaced, IsRowAt, IsTableau}
-use Rattle.crn_tab.specs.Inner.Start.{IsIdentity, start_row, start_rows}
+use Rattle.crn_tab.proofs.Prelude.{◌≡◌, ◌≢◌, ℕ, zero, suc, ◌+◌, ◌-◌, ◌*◌, ◌<◌, ◌≤◌, inl, inr, List, [], ◌∷◌, ◌++◌, length, get_or, take, drop, map, refl, sym, ap, subst, ◌∙◌, arith, lit<, append_assoc, add-one, ℤ, pos, neg_ℤ, ◌*ℤ◌, slice_index, unsigned_abs, ◌∣◌, ints, append-nil, get_or-drop, get_or-append-add, get_or_append_left, length-append, one-dvd, suc-mul, take-append_seam, MAX_AMOUNT, MAX_COORDINATES, WIDE_ENTRY, Mat, entry, dot, column, AreOfLength, AreWithin, width, InDualSpace, within_at, past_end, lt_or, length-neg, entry-neg, dot_single, zero_times, entry-column, row_count, AreSmall, choose, IsContent, slot_entry, spread, basis_from, row_at, ArePlaced, IsRowAt, IsTableau, IsIdentity, start_row, start_rows}
 use Rattle.crn_tab.proofs.SameRows.{everywhere}
 use Rattle.crn_tab.proofs.Places.{lt_true, lt_false, slot_basic, slot_own, slot_none, length-spread, entry-spread}
 use Rattle.crn_tab.proofs.Finish.{below_list}

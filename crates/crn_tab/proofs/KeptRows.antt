@@ -1,9 +1,5 @@
 -- What is known of rows and of an exchange of them, if other lists hold the same.
-use Rattle.std.proofs.Common.{◌≡◌, ◌≢◌, ◌<◌, ◌≤◌, ◌*◌, ◌^◌, ℕ, List, Bool, length, sym, subst, arith}
-use Rattle.std.specs.Prelude.{ℤ, IsTrue, pos}
-use Rattle.crn_vec.specs.Vectors.{entry}
-use Rattle.crn_tab.specs.Slots.{row_at}
-use Rattle.crn_tab.specs.Inner.Rows.{AreBelow, AreFilled, AreRows, AreRowsBelow, IsKeptRow}
+use Rattle.crn_tab.proofs.Prelude.{◌≡◌, ◌≢◌, ◌<◌, ◌≤◌, ◌*◌, ◌^◌, ℕ, List, Bool, length, sym, subst, arith, ℤ, IsTrue, pos, entry, row_at, AreBelow, AreFilled, AreRows, AreRowsBelow, IsKeptRow}
 use Rattle.crn_tab.proofs.Finish.{below_list, below_row}
 
 pub kept_at : (w w' m : ℕ) (rows rows' : List ℤ) → w' ≡ w → rows' ≡ rows → ((i : ℕ) → i < m → IsKeptRow w (row_at w rows i)) → (i : ℕ) → i < m → IsKeptRow w' (row_at w' rows' i)

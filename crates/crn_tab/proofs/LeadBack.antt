@@ -1,12 +1,5 @@
 -- The lead with its own entry put back, as the row that it becomes.
-use Rattle.std.proofs.Common.{◌≡◌, ◌≢◌, ◌<◌, ◌≤◌, ◌-◌, ℕ, inl, inr, List, length, set, ap, ◌∙◌, sym, subst, arith, to_z, of_z}
-use Rattle.std.specs.Prelude.{ℤ, pos, unsigned_abs}
-use Rattle.std.specs.Int.{w64}
-use Rattle.std.proofs.Math.ListN.{length-set}
-use Rattle.crn_vec.specs.declared.limits.TheConstants.{WIDE_ENTRY}
-use Rattle.crn_vec.specs.Vectors.{entry}
-use Rattle.crn_tab.specs.Slots.{row_at}
-use Rattle.crn_tab.specs.Inner.Rows.{IsLead}
+use Rattle.crn_tab.proofs.Prelude.{◌≡◌, ◌≢◌, ◌<◌, ◌≤◌, ◌-◌, ℕ, inl, inr, List, length, set, ap, ◌∙◌, sym, subst, arith, to_z, of_z, ℤ, pos, unsigned_abs, w64, length-set, WIDE_ENTRY, entry, row_at, IsLead}
 use Rattle.crn_tab.proofs.NewRows.{look}
 use Rattle.crn_tab.proofs.SameRows.{same_rows}
 use Rattle.crn_tab.proofs.Cross.{read}

@@ -1,13 +1,5 @@
 -- A lead from a row whose places c and w - 1 were swapped.
-use Rattle.std.proofs.Common.{◌≡◌, ◌≢◌, ℕ, ◌-◌, inl, inr, List, length, refl, ap, ◌∙◌, arith, to_z, of_z, false, true, sym}
-use Rattle.std.specs.Prelude.{ℤ, pos, negsuc, neg_ℤ, ◌≤ℤ◌, int_lt}
-use Rattle.std.specs.List.{SwappedAt}
-use Rattle.std.specs.Int.{w64}
-use Rattle.std.proofs.lemmas.Int.{ints}
-use Rattle.crn_vec.specs.Vectors.{entry}
-use Rattle.crn_vec.proofs.CallerLemmas.{minus_one, one-mul}
-use Rattle.crn_tab.specs.Tableau.{AreSmall}
-use Rattle.crn_tab.specs.Inner.Rows.{IsLead}
+use Rattle.crn_tab.proofs.Prelude.{◌≡◌, ◌≢◌, ℕ, ◌-◌, inl, inr, List, length, refl, ap, ◌∙◌, arith, to_z, of_z, false, true, sym, ℤ, pos, negsuc, neg_ℤ, ◌≤ℤ◌, int_lt, SwappedAt, w64, ints, entry, minus_one, one-mul, AreSmall, IsLead}
 use Rattle.crn_tab.proofs.Cross.{read}
 
 no_less : (n : ℕ) → int_lt (pos n) (pos 0) ≡ true → ⊥

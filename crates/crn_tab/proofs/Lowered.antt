@@ -1,16 +1,6 @@
 -- Two factors without their common divisor, and the new row that they make.
-use Rattle.std.proofs.Common.{◌≡◌, ◌≢◌, ℕ, zero, suc, ◌<◌, List, length, sym, ap, subst, ◌∙◌, arith}
-use Rattle.std.specs.Prelude.{ℤ, pos, negsuc, ◌-ℤ◌, ◌*ℤ◌, ◌≤ℤ◌, unsigned_abs}
-use Rattle.std.specs.Int.{IsGcd, ◌∣◌}
-use Rattle.std.proofs.lemmas.Int.{ints, unsigned_abs-mul}
-use Rattle.std.proofs.lemmas.Nat.Gcd.{IsGcd-swap}
-use Rattle.std.proofs.Math.IntN.{negsuc-*ℤ-pos}
+use Rattle.crn_tab.proofs.Prelude.{◌≡◌, ◌≢◌, ℕ, zero, suc, ◌<◌, List, length, sym, ap, subst, ◌∙◌, arith, ℤ, pos, negsuc, ◌-ℤ◌, ◌*ℤ◌, ◌≤ℤ◌, unsigned_abs, IsGcd, ◌∣◌, ints, unsigned_abs-mul, IsGcd-swap, negsuc-*ℤ-pos, left-comm, entry, reduced, put, IsCombined, IsNewRow, IsContent}
 use lib.IntN.{zero-*ℤ}
-use Rattle.crn_vec.proofs.CallerLemmas.{left-comm}
-use Rattle.crn_vec.specs.Vectors.{entry}
-use Rattle.crn_frac.proofs.CallerLemmas.{reduced}
-use Rattle.crn_tab.specs.Inner.Rows.{put, IsCombined, IsNewRow}
-use Rattle.crn_tab.specs.Slots.{IsContent}
 use Rattle.crn_tab.proofs.NewRows.{put_same, put_other, put_twice}
 use Rattle.crn_tab.proofs.Settled.{settled}
 

@@ -1,11 +1,6 @@
 -- A basis and a coordinate name one primitive vector, up to its sign.
-use Rattle.std.proofs.Common.{◌≡◌, ◌≢◌, ℕ, ◌*◌, ◌≤◌, ◌⊎◌, inl, inr, List, sym, ap, ◌∙◌, arith}
-use Rattle.std.specs.Prelude.{ℤ, pos, negsuc, ◌*ℤ◌, neg_ℤ, unsigned_abs}
-use Rattle.std.proofs.lemmas.Int.{ints, unsigned_abs-mul}
+use Rattle.crn_tab.proofs.Prelude.{◌≡◌, ◌≢◌, ℕ, ◌*◌, ◌≤◌, ◌⊎◌, inl, inr, List, sym, ap, ◌∙◌, arith, ℤ, pos, negsuc, ◌*ℤ◌, neg_ℤ, unsigned_abs, ints, unsigned_abs-mul, Mat, entry, AreOfLength, IsPrimitive, IsNamed, mul-neg}
 use lib.IntN.{*ℤ_comm}
-use Rattle.crn_vec.specs.Vectors.{Mat, entry, AreOfLength}
-use Rattle.crn_vec.specs.Elementary.{IsPrimitive, IsNamed}
-use Rattle.crn_vec.proofs.CallerLemmas.{mul-neg}
 use Rattle.crn_tab.proofs.Signs.{same_sizes, one_row, some_own}
 use Rattle.crn_tab.proofs.Columns.{cancel_left, one_column, some_own_column, not_zero}
 

@@ -1,12 +1,5 @@
 -- The entries of the kept row of a coordinate outside the basis are those of every primitive vector named so and positive there.
-use Rattle.std.proofs.Common.{◌≡◌, ℕ, ◌+◌, ◌-◌, ◌<◌, inl, inr, List, sym, ap, ◌∙◌, arith}
-use Rattle.std.specs.Prelude.{ℤ, pos, ◌≤ℤ◌, slice_index, unsigned_abs}
-use Rattle.std.proofs.lemmas.Int.{ints}
-use Rattle.crn_vec.specs.declared.limits.TheConstants.{WIDE_ENTRY}
-use Rattle.crn_vec.specs.Vectors.{Mat, entry}
-use Rattle.crn_vec.specs.Lists.{IsIn}
-use Rattle.crn_vec.specs.Elementary.{width, IsNamed}
-use Rattle.crn_tab.specs.Slots.{slot_entry, spread, basis_of, row_at, IsTableau}
+use Rattle.crn_tab.proofs.Prelude.{◌≡◌, ℕ, ◌+◌, ◌-◌, ◌<◌, inl, inr, List, sym, ap, ◌∙◌, arith, ℤ, pos, ◌≤ℤ◌, slice_index, unsigned_abs, ints, WIDE_ENTRY, Mat, entry, IsIn, width, IsNamed, slot_entry, spread, basis_of, row_at, IsTableau}
 use Rattle.crn_tab.proofs.Places.{entry-spread}
 use Rattle.crn_tab.proofs.RowVector.{row_of}
 use Rattle.crn_tab.proofs.OwnSign.{own_positive}

@@ -1,17 +1,6 @@
 -- The kept row of a coordinate outside the basis is positive there, and its signs are those of every vector named so.
-use Rattle.std.proofs.Common.{◌≡◌, ℕ, zero, suc, ◌+◌, ◌-◌, ◌<◌, inl, inr, List, length, set, get_or, sym, ap, subst, ◌∙◌, arith}
-use Rattle.std.specs.Prelude.{ℤ, pos, negsuc, ◌*ℤ◌, ◌≤ℤ◌, slice_index}
-use Rattle.std.proofs.lemmas.Int.{ints}
-use Rattle.std.proofs.lemmas.List.{get_or-set_same, get_or-set_other}
+use Rattle.crn_tab.proofs.Prelude.{◌≡◌, ℕ, zero, suc, ◌+◌, ◌-◌, ◌<◌, inl, inr, List, length, set, get_or, sym, ap, subst, ◌∙◌, arith, ℤ, pos, negsuc, ◌*ℤ◌, ◌≤ℤ◌, slice_index, ints, get_or-set_same, get_or-set_other, Sign, Zero, Plus, Minus, Mat, entry, HasSign, IsIn, width, IsNamed, IsNamedRow, no_zero, eq_or, one-mul, IsRowOfSign, NamesRows, slot_entry, spread, basis_of, row_at, IsTableau}
 use lib.IntN.{*ℤ-zero}
-use Rattle.crn_vec.specs.declared.signs.Sign.{Sign}
-use Rattle.crn_vec.specs.declared.signs.Sign.TheVariants.{Zero, Plus, Minus}
-use Rattle.crn_vec.specs.Vectors.{Mat, entry, HasSign}
-use Rattle.crn_vec.specs.Lists.{IsIn}
-use Rattle.crn_vec.specs.Elementary.{width, IsNamed, IsNamedRow}
-use Rattle.crn_vec.proofs.CallerLemmas.{no_zero, eq_or, one-mul}
-use Rattle.crn_tab.specs.Tableau.{IsRowOfSign, NamesRows}
-use Rattle.crn_tab.specs.Slots.{slot_entry, spread, basis_of, row_at, IsTableau}
 use Rattle.crn_tab.proofs.Places.{entry-spread, slot_own}
 use Rattle.crn_tab.proofs.Signs.{one_row, no_wide}
 use Rattle.crn_tab.proofs.Bases.{rows_make_basis}

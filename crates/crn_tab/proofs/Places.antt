@@ -1,13 +1,5 @@
 -- Slots and coordinates.
-use Rattle.std.proofs.Common.{◌≡◌, ◌≢◌, ℕ, zero, suc, ◌+◌, ◌<◌, ◌≤◌, ◌⊎◌, inl, inr, List, [], ◌∷◌, length, map, take, ◌++◌, add-one, refl, ap, subst, ◌∙◌, arith, Bool, true, false, nat_lt, nat_eq}
-use Rattle.std.specs.Prelude.{ℤ, pos, slice_index}
-use Rattle.std.proofs.lemmas.Bool.Decides.{nat_tests}
-use Rattle.std.proofs.lemmas.List.{append-nil}
-use Rattle.crn_vec.specs.Vectors.{entry}
-use Rattle.crn_vec.specs.Lists.{IsIn, IsAbove, IsAscending}
-use Rattle.crn_vec.proofs.CallerLemmas.{eq_or}
-use Rattle.crn_tab.specs.Tableau.{choose}
-use Rattle.crn_tab.specs.Slots.{slot_entry, spread, basis_from, basis_of}
+use Rattle.crn_tab.proofs.Prelude.{◌≡◌, ◌≢◌, ℕ, zero, suc, ◌+◌, ◌<◌, ◌≤◌, ◌⊎◌, inl, inr, List, [], ◌∷◌, length, map, take, ◌++◌, add-one, refl, ap, subst, ◌∙◌, arith, Bool, true, false, nat_lt, nat_eq, ℤ, pos, slice_index, nat_tests, append-nil, entry, IsIn, IsAbove, IsAscending, eq_or, choose, slot_entry, spread, basis_from, basis_of}
 
 pub isIn_or : (k : ℕ) (xs : List ℕ) → IsIn k xs ⊎ (¬ IsIn k xs)
 isIn_or k [] = inr (λ h. h)

@@ -1,14 +1,7 @@
 -- Primitive rows: a row divided by its content.
-use Rattle.std.proofs.Common.{◌≡◌, ◌≢◌, ℕ, ◌*◌, ◌<◌, ◌≤◌, inl, inr, List, length, sym, ap, subst, ◌∙◌, arith}
-use Rattle.std.specs.Prelude.{ℤ, pos, ◌-ℤ◌, ◌*ℤ◌, ◌≤ℤ◌, unsigned_abs}
-use Rattle.std.specs.Int.{◌∣◌}
-use Rattle.std.proofs.lemmas.Int.{ints, unsigned_abs-mul}
-use Rattle.std.proofs.Math.Nat.{one-dvd, one-mul, mul-le-mul, mul-dvd-mul_right, dvd_of_mul-dvd-mul_right, pos_of_dvd_of_pos}
+use Rattle.crn_tab.proofs.Prelude.{◌≡◌, ◌≢◌, ℕ, ◌*◌, ◌<◌, ◌≤◌, inl, inr, List, length, sym, ap, subst, ◌∙◌, arith, ℤ, pos, ◌-ℤ◌, ◌*ℤ◌, ◌≤ℤ◌, unsigned_abs, ◌∣◌, ints, unsigned_abs-mul, one-dvd, mul-le-mul, mul-dvd-mul_right, dvd_of_mul-dvd-mul_right, pos_of_dvd_of_pos, past_end, inside_or, lt_or, zero_times, abs_some, entry, IsContent, IsCombined, IsPrimitivePart}
+use Rattle.std.proofs.Math.Nat.{one-mul}
 use lib.IntN.{*ℤ-zero}
-use Rattle.crn_vec.proofs.CallerLemmas.{past_end, inside_or, lt_or, zero_times, abs_some}
-use Rattle.crn_vec.specs.Vectors.{entry}
-use Rattle.crn_tab.specs.Slots.{IsContent}
-use Rattle.crn_tab.specs.Inner.Rows.{IsCombined, IsPrimitivePart}
 
 pub content_some : (v : List ℤ) (g k : ℕ) → IsContent v g → entry v k ≢ pos 0 → 1 ≤ g
 content_some v g k h ne = pos_of_dvd_of_pos (h.divides k) (abs_some (entry v k) ne)

@@ -1,13 +1,5 @@
 -- The row of a coordinate outside the basis.
-use Rattle.std.proofs.Common.{◌≡◌, ℕ, ◌+◌, ◌-◌, ◌*◌, ◌<◌, ◌≤◌, List, length, ap, subst, ◌∙◌, arith, lit<}
-use Rattle.std.specs.Prelude.{ℤ, slice_index}
-use Rattle.std.proofs.Math.Nat.{suc-mul, mul-le-mul_right}
-use Rattle.crn_vec.specs.declared.limits.TheConstants.{WIDE_ENTRY}
-use Rattle.crn_vec.specs.Vectors.{Mat}
-use Rattle.crn_vec.specs.Lists.{IsIn}
-use Rattle.crn_vec.specs.Elementary.{width, IsNamed}
-use Rattle.crn_tab.specs.Tableau.{AreSmall}
-use Rattle.crn_tab.specs.Slots.{spread, basis_of, row_at, IsTableau}
+use Rattle.crn_tab.proofs.Prelude.{◌≡◌, ℕ, ◌+◌, ◌-◌, ◌*◌, ◌<◌, ◌≤◌, List, length, ap, subst, ◌∙◌, arith, lit<, ℤ, slice_index, suc-mul, mul-le-mul_right, WIDE_ENTRY, Mat, IsIn, width, IsNamed, AreSmall, spread, basis_of, row_at, IsTableau}
 use Rattle.crn_tab.proofs.Bases.{outside_slot, rows_make_basis, row_is_named}
 use Rattle.crn_tab.proofs.Finish.{below_row, spread_small}
 

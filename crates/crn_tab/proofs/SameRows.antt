@@ -1,11 +1,5 @@
 -- Rows by their entries.
-use Rattle.std.proofs.Common.{◌≡◌, ℕ, ◌<◌, inl, inr, List, length, sym, subst, lit<}
-use Rattle.std.specs.Prelude.{ℤ, pos, unsigned_abs}
-use Rattle.std.proofs.lemmas.List.{ext_get_or}
-use Rattle.crn_vec.specs.declared.limits.TheConstants.{WIDE_ENTRY}
-use Rattle.crn_vec.specs.Vectors.{entry}
-use Rattle.crn_vec.proofs.CallerLemmas.{past_end, inside_or}
-use Rattle.crn_tab.specs.Tableau.{AreSmall}
+use Rattle.crn_tab.proofs.Prelude.{◌≡◌, ℕ, ◌<◌, inl, inr, List, length, sym, subst, lit<, ℤ, pos, unsigned_abs, ext_get_or, WIDE_ENTRY, entry, past_end, inside_or, AreSmall}
 
 pub same_rows : (v w : List ℤ) → length v ≡ length w → ((k : ℕ) → k < length v → entry v k ≡ entry w k) → v ≡ w
 same_rows v w e h = ext_get_or (pos 0) v w e h

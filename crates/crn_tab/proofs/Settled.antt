@@ -1,15 +1,6 @@
 -- What divides a difference of two primitive rows divides an entry of each.
-use Rattle.std.proofs.Common.{◌≡◌, ◌≢◌, ℕ, zero, suc, ◌+◌, ◌*◌, ◌-◌, ◌/◌, ◌≤◌, ◌⊎◌, inl, inr, List, ap, subst, arith}
-use Rattle.std.specs.Prelude.{ℤ, pos, ◌-ℤ◌, ◌*ℤ◌, unsigned_abs}
-use Rattle.std.specs.Int.{IsGcd, ◌∣◌}
-use Rattle.std.proofs.lemmas.Int.{ints, unsigned_abs-mul}
-use Rattle.std.proofs.lemmas.Nat.Gcd.{dvd-zero, dvd_trans}
-use Rattle.std.proofs.Math.Nat.{dvd-add, dvd-sub, dvd-mul_right, dvd-mul_left_of_dvd, div-mul_cancel, pos_of_dvd_of_pos, eq-one_of_dvd-one}
+use Rattle.crn_tab.proofs.Prelude.{◌≡◌, ◌≢◌, ℕ, zero, suc, ◌+◌, ◌*◌, ◌-◌, ◌/◌, ◌≤◌, ◌⊎◌, inl, inr, List, ap, subst, arith, ℤ, pos, ◌-ℤ◌, ◌*ℤ◌, unsigned_abs, IsGcd, ◌∣◌, ints, unsigned_abs-mul, dvd-zero, dvd_trans, dvd-add, dvd-sub, dvd-mul_right, dvd-mul_left_of_dvd, div-mul_cancel, pos_of_dvd_of_pos, eq-one_of_dvd-one, common, eq_or, entry, IsContent}
 use lib.IntN.{*ℤ-zero}
-use Rattle.crn_frac.proofs.CallerLemmas.{common}
-use Rattle.crn_vec.proofs.CallerLemmas.{eq_or}
-use Rattle.crn_vec.specs.Vectors.{entry}
-use Rattle.crn_tab.specs.Slots.{IsContent}
 use Rattle.crn_tab.proofs.Signs.{gcd_by}
 use Rattle.crn_tab.proofs.Scales.{whole_only}
 

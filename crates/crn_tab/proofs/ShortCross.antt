@@ -1,9 +1,5 @@
 -- The difference of two products of short numbers, as 32 bits hold it.
-use Rattle.std.proofs.Common.{◌≡◌, ◌*◌, ◌-◌, ◌^◌, ◌<◌, ◌≤◌, arith, to_z, of_z}
-use Rattle.std.specs.Prelude.{ℤ, ◌-ℤ◌, ◌*ℤ◌, FitsSigned, unsigned_abs}
-use Rattle.std.specs.Int.{w32}
-use Rattle.std.proofs.lemmas.Int.{ints, to_z-of_z, fits_signed_from_abs, unsigned_abs-mul}
-use Rattle.std.proofs.Math.Nat.{mul-le-mul}
+use Rattle.crn_tab.proofs.Prelude.{◌≡◌, ◌*◌, ◌-◌, ◌^◌, ◌<◌, ◌≤◌, arith, to_z, of_z, ℤ, ◌-ℤ◌, ◌*ℤ◌, FitsSigned, unsigned_abs, w32, ints, to_z-of_z, fits_signed_from_abs, unsigned_abs-mul, mul-le-mul}
 
 pub product_short : (a b : ℤ) → unsigned_abs a < 2 ^ 14 → unsigned_abs b < 2 ^ 14 → unsigned_abs (a *ℤ b) < 2 ^ 28
 product_short a b p q =

@@ -1,18 +1,7 @@
 -- Two primitive vectors of one name have the same entries up to sign, so a kept basis has no wide row.
-use Rattle.std.proofs.Common.{◌≡◌, ℕ, zero, suc, ◌+◌, ◌-◌, ◌*◌, ◌/◌, ◌%◌, ◌<◌, ◌≤◌, ◌⊎◌, inl, inr, List, length, refl, sym, ap, subst, ◌∙◌, arith}
-use Rattle.std.specs.Prelude.{ℤ, pos, negsuc, ◌-ℤ◌, ◌*ℤ◌, unsigned_abs, slice_index}
-use Rattle.std.specs.Int.{IsGcd, ◌∣◌}
-use Rattle.std.proofs.lemmas.Int.{ints, unsigned_abs-mul}
-use Rattle.std.proofs.lemmas.Nat.Gcd.{IsGcd-from_zero, IsGcd-from_mod, dvd_antisymm, dvd-zero}
-use Rattle.std.proofs.Math.Nat.{dvd-mul_left, dvd-mul_right, div-mul_cancel, dvd_of_mul-dvd-mul_right, mul_comm, pos_of_dvd_of_pos, one-mul, eq_of_mul-eq-mul_left}
+use Rattle.crn_tab.proofs.Prelude.{◌≡◌, ℕ, zero, suc, ◌+◌, ◌-◌, ◌*◌, ◌/◌, ◌%◌, ◌<◌, ◌≤◌, ◌⊎◌, inl, inr, List, length, refl, sym, ap, subst, ◌∙◌, arith, ℤ, pos, negsuc, ◌-ℤ◌, ◌*ℤ◌, unsigned_abs, slice_index, IsGcd, ◌∣◌, ints, unsigned_abs-mul, IsGcd-from_zero, IsGcd-from_mod, dvd_antisymm, dvd-zero, dvd-mul_left, dvd-mul_right, div-mul_cancel, dvd_of_mul-dvd-mul_right, mul_comm, pos_of_dvd_of_pos, eq_of_mul-eq-mul_left, common, Mat, entry, AreOfLength, IsIn, width, InDualSpace, IsBasis, IsPrimitive, IsNamed, IsNamedRow, WideAt, lt_or, eq_or, AreSmall, basis_of, row_at, spread, IsTableau}
+use Rattle.std.proofs.Math.Nat.{one-mul}
 use lib.IntN.{*ℤ_comm}
-use Rattle.crn_frac.proofs.CallerLemmas.{common}
-use Rattle.crn_vec.specs.Vectors.{Mat, entry, AreOfLength}
-use Rattle.crn_vec.specs.Lists.{IsIn}
-use Rattle.crn_vec.specs.Elementary.{width, InDualSpace, IsBasis, IsPrimitive, IsNamed, IsNamedRow, WideAt}
-use Rattle.crn_vec.proofs.CallerLemmas.{lt_or, eq_or}
-use Rattle.crn_tab.specs.Tableau.{AreSmall}
-use Rattle.crn_tab.specs.Slots.{basis_of, row_at, spread, IsTableau}
 use Rattle.crn_tab.proofs.Spaces.{dual_combined}
 use Rattle.crn_tab.proofs.Differences.{differences, length-differences, entry-differences}
 use Rattle.crn_tab.proofs.Unique.{dual_none}

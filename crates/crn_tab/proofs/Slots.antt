@@ -1,11 +1,5 @@
 -- The slots after an exchange.
-use Rattle.std.proofs.Common.{◌≡◌, ◌≢◌, ℕ, zero, suc, ◌+◌, ◌<◌, ◌≤◌, inl, inr, List, [], ◌∷◌, length, set, refl, sym, ap, ◌∙◌, arith, Bool, true, false, nat_lt}
-use Rattle.std.specs.Prelude.{slice_index}
-use Rattle.std.proofs.Math.ListN.{length-set}
-use Rattle.crn_vec.specs.Elementary.{Exchanged}
-use Rattle.crn_vec.proofs.CallerLemmas.{eq_or, look_at}
-use Rattle.crn_tab.specs.Tableau.{choose}
-use Rattle.crn_tab.specs.Slots.{basis_from, basis_of, ArePlaced}
+use Rattle.crn_tab.proofs.Prelude.{◌≡◌, ◌≢◌, ℕ, zero, suc, ◌+◌, ◌<◌, ◌≤◌, inl, inr, List, [], ◌∷◌, length, set, refl, sym, ap, ◌∙◌, arith, Bool, true, false, nat_lt, slice_index, length-set, Exchanged, eq_or, look_at, choose, basis_from, basis_of, ArePlaced}
 use Rattle.crn_tab.proofs.Places.{lt_true, lt_false, in_basis, basis_only, basis_ascending}
 use Rattle.crn_tab.proofs.Exchanges.{Swapped}
 

@@ -1,12 +1,6 @@
 -- Differences of vectors (-uA, u).
-use Rattle.std.proofs.Common.{◌≡◌, ◌≢◌, ℕ, ◌+◌, List, length, drop, ap, ◌∙◌, arith}
-use Rattle.std.specs.Prelude.{ℤ, pos, ◌+ℤ◌, ◌-ℤ◌, ◌*ℤ◌, neg_ℤ}
-use Rattle.std.proofs.lemmas.Int.{ints}
-use Rattle.std.proofs.lemmas.List.{get_or-drop, length-drop}
+use Rattle.crn_tab.proofs.Prelude.{◌≡◌, ◌≢◌, ℕ, ◌+◌, List, length, drop, ap, ◌∙◌, arith, ℤ, pos, ◌+ℤ◌, ◌-ℤ◌, ◌*ℤ◌, neg_ℤ, ints, get_or-drop, length-drop, Mat, entry, dot, column, InDualSpace, distrib, mul-neg, no_zero}
 use lib.IntN.{*ℤ_comm}
-use Rattle.crn_vec.specs.Vectors.{Mat, entry, dot, column}
-use Rattle.crn_vec.specs.Elementary.{InDualSpace}
-use Rattle.crn_vec.proofs.CallerLemmas.{distrib, mul-neg, no_zero}
 use Rattle.crn_tab.proofs.Dots.{dot_combined}
 
 opposite : (p q t z w v dz dw dv : ℤ) → t ≢ pos 0 → z *ℤ t ≡ (p *ℤ w) -ℤ (q *ℤ v) → dz *ℤ t ≡ (p *ℤ dw) -ℤ (q *ℤ dv) → w ≡ neg_ℤ dw → v ≡ neg_ℤ dv → z ≡ neg_ℤ dz

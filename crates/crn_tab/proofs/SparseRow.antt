@@ -1,14 +1,6 @@
 -- A row less a low multiple of the lead, if the row has the factor 1.
-use Rattle.std.proofs.Common.{◌≡◌, ℕ, zero, suc, ◌^◌, ◌<◌, ◌⊎◌, inl, inr, List, [], ◌∷◌, length, refl, sym, ap, subst, ◌∙◌, arith, to_z, of_z}
-use Rattle.std.specs.Prelude.{ℤ, pos, neg_ℤ, ◌-ℤ◌, ◌*ℤ◌, FitsSigned, slice_index, slice_index_or, unsigned_abs}
-use Rattle.std.specs.Int.{w64}
-use Rattle.std.proofs.lemmas.Int.{ints, to_z-of_z, fits_signed_from_abs}
+use Rattle.crn_tab.proofs.Prelude.{◌≡◌, ℕ, zero, suc, ◌^◌, ◌<◌, ◌⊎◌, inl, inr, List, [], ◌∷◌, length, refl, sym, ap, subst, ◌∙◌, arith, to_z, of_z, ℤ, pos, neg_ℤ, ◌-ℤ◌, ◌*ℤ◌, FitsSigned, slice_index, slice_index_or, unsigned_abs, w64, ints, to_z-of_z, fits_signed_from_abs, past_end, inside_or, at_in, in_at, WIDE_ENTRY, IsIn, entry, put, ArePlaces}
 use lib.IntN.{*ℤ-zero}
-use Rattle.crn_vec.proofs.CallerLemmas.{past_end, inside_or, at_in, in_at}
-use Rattle.crn_vec.specs.declared.limits.TheConstants.{WIDE_ENTRY}
-use Rattle.crn_vec.specs.Lists.{IsIn}
-use Rattle.crn_vec.specs.Vectors.{entry}
-use Rattle.crn_tab.specs.Inner.Rows.{put, ArePlaces}
 use Rattle.crn_tab.proofs.Cross.{read}
 use Rattle.crn_tab.proofs.LowCross.{product_low, read_low}
 use Rattle.crn_tab.proofs.NewRows.{look, put_same, put_other}

@@ -1,10 +1,5 @@
 -- The places where a row is not 0, as they are listed.
-use Rattle.std.proofs.Common.{◌≡◌, ◌≢◌, ℕ, zero, suc, ◌+◌, ◌<◌, inl, inr, List, [], ◌∷◌, ◌++◌, length, refl, sym, ap, subst, arith}
-use Rattle.std.specs.Prelude.{ℤ, pos, slice_index}
-use Rattle.std.proofs.lemmas.List.{length-append}
-use Rattle.crn_vec.proofs.CallerLemmas.{eq_or, lt_or, in_push, at_in, in_left, in_right}
-use Rattle.crn_vec.specs.Lists.{IsIn}
-use Rattle.crn_vec.specs.Vectors.{entry}
+use Rattle.crn_tab.proofs.Prelude.{◌≡◌, ◌≢◌, ℕ, zero, suc, ◌+◌, ◌<◌, inl, inr, List, [], ◌∷◌, ◌++◌, length, refl, sym, ap, subst, arith, ℤ, pos, slice_index, length-append, eq_or, lt_or, in_push, at_in, in_left, in_right, IsIn, entry}
 
 pushed_before : (xs : List ℕ) (c j : ℕ) → j < length xs → slice_index (xs ++ c ∷ []) j ≡ slice_index xs j
 pushed_before [] c j h = absurd (omega arith)

@@ -1,8 +1,5 @@
 -- What a tableau keeps, if other lists hold the same.
-use Rattle.std.proofs.Common.{◌≡◌, ◌+◌, ℕ, List, sym, subst}
-use Rattle.std.specs.Prelude.{ℤ}
-use Rattle.crn_vec.specs.Vectors.{Mat}
-use Rattle.crn_tab.specs.Slots.{IsTableau, IsWhole}
+use Rattle.crn_tab.proofs.Prelude.{◌≡◌, ◌+◌, ℕ, List, sym, subst, ℤ, Mat, IsTableau, IsWhole}
 
 pub whole : (a a' : Mat) (at at' order order' : List ℕ) (rows rows' : List ℤ) (scratch : ℕ) → a' ≡ a → at' ≡ at → order' ≡ order → rows' ≡ rows
     → IsTableau a at order rows → scratch ≡ a.cols + 1 → IsWhole a' at' order' rows' scratch

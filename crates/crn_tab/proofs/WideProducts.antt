@@ -1,10 +1,5 @@
 -- The product of a number of 64 bits and a small one, as 128 bits hold it.
-use Rattle.std.proofs.Common.{◌≡◌, ◌≤◌, ◌<◌, ◌^◌, ℕ, refl, sym, ap, subst, ◌∙◌, arith, to_z, of_z}
-use Rattle.std.specs.Prelude.{ℤ, ◌*ℤ◌, FitsSigned, unsigned_abs}
-use Rattle.std.specs.Int.{◌∣◌, w64, w128}
-use Rattle.std.proofs.lemmas.Int.{ints, to_z-of_z, fits_signed_from_abs, fits_signed_mul, unsigned_abs-mul}
-use Rattle.std.proofs.Math.Nat.{dvd-mul_left}
-use Rattle.crn_vec.specs.declared.limits.TheConstants.{WIDE_ENTRY}
+use Rattle.crn_tab.proofs.Prelude.{◌≡◌, ◌≤◌, ◌<◌, ◌^◌, ℕ, refl, sym, ap, subst, ◌∙◌, arith, to_z, of_z, ℤ, ◌*ℤ◌, FitsSigned, unsigned_abs, ◌∣◌, w64, w128, ints, to_z-of_z, fits_signed_from_abs, fits_signed_mul, unsigned_abs-mul, dvd-mul_left, WIDE_ENTRY}
 
 abs_le : (x : ℤ) → FitsSigned w64 x → unsigned_abs x ≤ 2 ^ 63
 abs_le x f = omega (arith, ints, f)

@@ -1,14 +1,5 @@
 -- A text split at its first arrow.
-use Rattle.std.proofs.Common.{◌≡◌, ℕ, suc, true, false, eqb, List, [], ◌∷◌, ◌++◌, Some, None, Bor, refl, sym, ap, ◌∙◌, append_assoc, inl, inr, arith}
-use Rattle.std.specs.Prelude.{◌≢◌}
-use Rattle.std.specs.List.{list_any}
-use Rattle.std.proofs.lemmas.Bool.{ne_eqb, or_parts, or_right}
-use Rattle.std.proofs.lemmas.List.{append-nil}
-use Rattle.std.proofs.lemmas.List.Folds.{list_any-append}
-use Rattle.crn_text.specs.Tokens.{Token, token, tokens, tokens_after, first_token}
-use Rattle.crn_text.specs.Sides.{is_arrow, is_stray}
-use Rattle.crn_text.specs.Inner.Pieces.{SplitsAt, SplitsArrow, PartsAt}
-use Rattle.crn_text.specs.declared.token.TokenKind.TheVariants.{Arrow, BothWays, Back, Stray}
+use Rattle.crn_text.proofs.Prelude.{◌≡◌, ℕ, suc, true, false, eqb, List, [], ◌∷◌, ◌++◌, Some, None, Bor, refl, sym, ap, ◌∙◌, append_assoc, inl, inr, arith, ◌≢◌, list_any, ne_eqb, or_parts, or_right, append-nil, list_any-append, Token, token, tokens, tokens_after, first_token, is_arrow, is_stray, SplitsAt, SplitsArrow, PartsAt, Arrow, BothWays, Back, Stray}
 use Rattle.crn_text.proofs.Apart.{EndsBefore, last_or, tokens_apart, no_arrow}
 
 -- ---- the end of a side

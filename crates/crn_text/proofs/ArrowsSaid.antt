@@ -1,17 +1,6 @@
 -- Arrows that come again in a line add nothing.
-use Rattle.std.proofs.Common.{◌≡◌, ℕ, zero, suc, List, [], ◌∷◌, ◌++◌, get_or, set, Option, Some, None, Ok, Bor, sym, ap₂, subst}
-use Rattle.crn_vec.specs.Lists.{IsIn}
-use Rattle.crn_vec.specs.Network.{Net, Statement}
-use Rattle.crn_vec.proofs.CallerLemmas.{in_left, in_right, all_set}
-use Rattle.crn_net.specs.Terms.{side_of}
-use Rattle.crn_net.specs.Grows.{Grown}
-use Rattle.crn_net.specs.declared.term.Term.{Term}
-use Rattle.crn_text.specs.Tokens.{tokens}
-use Rattle.crn_text.specs.Sides.{terms_of, by_arrow}
-use Rattle.crn_text.specs.Inner.Pieces.{StatementsGive}
-use Rattle.crn_text.specs.Inner.Said.{says, AreIn, IsSaid, AreSaid, HasSaid}
-use Rattle.crn_text.specs.declared.token.TokenKind.{TokenKind}
-use Rattle.crn_text.specs.declared.said.Step.{Step}
+use Rattle.crn_text.proofs.Prelude.{◌≡◌, ℕ, zero, suc, List, [], ◌∷◌, ◌++◌, get_or, set, Option, Some, None, Ok, Bor, sym, ap₂, subst, IsIn, Net, Statement, in_left, in_right, all_set, side_of, Grown, Term, tokens, terms_of, by_arrow, StatementsGive, says, AreIn, AreSaid, HasSaid, TokenKind, Step}
+use Rattle.crn_text.specs.Inner.Said.{IsSaid}
 use Rattle.crn_text.proofs.ArrowsRead.{ArrowsRead}
 use Rattle.crn_text.proofs.Repeats.{any_stay}
 

@@ -1,19 +1,5 @@
 -- The amounts of the names of a canonical side, and its length.
-use Rattle.std.proofs.Common.{◌≡◌, ℕ, zero, suc, ◌+◌, ◌*◌, ◌≤◌, false, cond, List, [], ◌∷◌, ◌++◌, length, map, refl, sym, ap, ap₂, subst, ◌∙◌, inl, inr, arith}
-use Rattle.std.specs.Prelude.{ℤ, pos, negsuc, codes, decimal}
-use Rattle.std.specs.List.{AllByRecursion}
-use Rattle.std.specs.Str.{bytes_eq}
-use Rattle.std.proofs.lemmas.Bool.{cases_Bool}
-use Rattle.std.proofs.lemmas.Fmt.{length-decimal-le}
-use Rattle.std.proofs.lemmas.Int.{ints}
-use Rattle.std.proofs.lemmas.List.{length-append}
-use Rattle.std.proofs.lemmas.List.Sums.{sum_by-cons}
-use Rattle.std.proofs.lemmas.Slice.Eq.{bytes_eq-Decides}
-use Rattle.crn_vec.specs.Lists.{IsIn, AreDistinct}
-use Rattle.crn_vec.specs.Network.{IsName, IsAmount, amount_in, amounts_in}
-use Rattle.crn_vec.specs.declared.limits.TheConstants.{MAX_AMOUNT}
-use Rattle.crn_vec.proofs.CallerLemmas.{none_said, map_same}
-use Rattle.crn_text.specs.Canonical.{term, terms, or_zero, side}
+use Rattle.crn_text.proofs.Prelude.{◌≡◌, ℕ, zero, suc, ◌+◌, ◌*◌, ◌≤◌, false, cond, List, [], ◌∷◌, ◌++◌, length, map, refl, sym, ap, ap₂, subst, ◌∙◌, inl, inr, arith, ℤ, pos, negsuc, codes, decimal, AllByRecursion, bytes_eq, cases_Bool, length-decimal-le, ints, length-append, sum_by-cons, bytes_eq-Decides, IsIn, AreDistinct, IsName, IsAmount, amount_in, amounts_in, MAX_AMOUNT, none_said, map_same, term, terms, or_zero, side}
 use Rattle.crn_text.proofs.CanonicalTokens.{IsGood, term_text, tail_text, side_text}
 use Rattle.crn_text.proofs.CanonicalNames.{held}
 

@@ -1,17 +1,6 @@
 -- The species of a network appear in its canonical text in their order.
-use Rattle.std.proofs.Common.{◌≡◌, ◌⊎◌, ℕ, zero, suc, ◌+◌, ◌<◌, ◌≤◌, List, [], ◌∷◌, ◌++◌, length, map, get_or, eqb, refl, sym, ap, ap₂, subst, ◌∙◌, append_assoc, add-one, inl, inr, arith}
-use Rattle.std.specs.Prelude.{ℤ, pos, negsuc, ◌≤ℤ◌}
-use Rattle.std.specs.List.{flat_map}
-use Rattle.std.specs.Str.{bytes_eq}
-use Rattle.std.proofs.lemmas.Bool.{cases_lt}
-use Rattle.std.proofs.lemmas.Bool.Decides.{Decides-eqb}
-use Rattle.std.proofs.lemmas.Int.{ints}
-use Rattle.std.proofs.lemmas.List.{map-append, length_push}
-use Rattle.std.proofs.lemmas.Slice.Eq.{bytes_eq-Decides}
-use Rattle.std.proofs.Math.Seq.{get_or-append_seam}
-use Rattle.crn_vec.specs.Lists.{IsIn, firsts}
-use Rattle.crn_vec.specs.Network.{Net, IsPartialNetwork, IsVector, IsHeldBefore, Holds, ends}
-use Rattle.crn_vec.proofs.CallerLemmas.{firsts_map, all_at, same_place, same_test, in_flat_map, of_flat_map}
+use Rattle.crn_text.proofs.Prelude.{◌≡◌, ℕ, zero, suc, ◌+◌, ◌<◌, ◌≤◌, List, [], ◌∷◌, ◌++◌, length, map, get_or, eqb, refl, sym, ap, ap₂, subst, ◌∙◌, append_assoc, add-one, inl, inr, arith, ℤ, pos, negsuc, ◌≤ℤ◌, flat_map, bytes_eq, cases_lt, Decides-eqb, ints, map-append, length_push, bytes_eq-Decides, get_or-append_seam, IsIn, firsts, Net, IsPartialNetwork, IsVector, IsHeldBefore, Holds, ends, firsts_map, all_at, same_place, same_test, in_flat_map, of_flat_map}
+use Rattle.std.proofs.Common.{◌⊎◌}
 use Rattle.crn_text.proofs.Complexes.{all_kept, upto, places_all, ends_are, numbers_are}
 use Rattle.crn_text.proofs.Numbering.{AreAfter, known_or_first, after_known, after_append, in_order, in_upto, of_upto}
 

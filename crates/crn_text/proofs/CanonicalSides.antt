@@ -1,14 +1,5 @@
 -- A canonical side has its own terms, and is sound.
-use Rattle.std.proofs.Common.{◌≡◌, ℕ, zero, suc, ◌≤◌, true, false, List, [], ◌∷◌, ◌++◌, map, refl, sym, ap, ap₂, subst, ◌∙◌, arith}
-use Rattle.std.specs.Prelude.{codes}
-use Rattle.std.specs.List.{AllByRecursion, list_all, list_any}
-use Rattle.std.proofs.lemmas.List.{append-nil}
-use Rattle.crn_vec.specs.Network.{amount_in}
-use Rattle.crn_vec.specs.declared.limits.TheConstants.{MAX_AMOUNT}
-use Rattle.crn_text.specs.Tokens.{Token, token}
-use Rattle.crn_text.specs.Sides.{is_plus, is_term, is_side, is_zero, term_of, terms_of, places}
-use Rattle.crn_text.specs.SoundLines.{IsSoundTerm, IsSoundSide}
-use Rattle.crn_text.specs.declared.token.TokenKind.TheVariants.{Name, Plus}
+use Rattle.crn_text.proofs.Prelude.{◌≡◌, ℕ, zero, suc, ◌≤◌, true, false, List, [], ◌∷◌, ◌++◌, map, refl, sym, ap, ap₂, subst, ◌∙◌, arith, codes, AllByRecursion, list_all, list_any, append-nil, amount_in, MAX_AMOUNT, Token, token, is_plus, is_term, is_side, is_zero, term_of, terms_of, places, IsSoundTerm, IsSoundSide, Name, Plus}
 use Rattle.crn_text.proofs.Lists.{split_last, split_at}
 use Rattle.crn_text.proofs.CanonicalTokens.{IsGood, number_tokens, term_tokens, tail_tokens, side_tokens, decimal_is}
 

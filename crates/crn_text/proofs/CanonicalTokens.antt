@@ -1,21 +1,5 @@
 -- The tokens of the terms, sides and lines that the canonical text writes.
-use Rattle.std.proofs.Common.{◌≡◌, ℕ, zero, suc, ◌+◌, ◌/◌, ◌%◌, ◌<◌, ◌≤◌, Bool, true, false, List, [], ◌∷◌, ◌++◌, length, take, drop, get_or, map, refl, sym, ap, ap₂, ◌∙◌, append_assoc, arith}
-use Rattle.std.specs.Prelude.{codes, decimal, not, pos}
-use Rattle.std.specs.List.{AllByRecursion, flat_map, list_all, prefix_len}
-use Rattle.std.proofs.lemmas.Bool.{and_parts, not-true}
-use Rattle.std.proofs.Math.Seq.{take-append_seam, drop-append_seam}
-use Rattle.std.proofs.lemmas.Bool.Decides.{nat_tests}
-use Rattle.std.proofs.lemmas.Fmt.{decimal_by_steps}
-use Rattle.std.proofs.lemmas.List.{append-nil, length-append}
-use Rattle.std.proofs.lemmas.List.Folds.{list_all-append}
-use Rattle.crn_vec.specs.Network.{is_letter, is_name_byte, begins_name, IsName}
-use Rattle.crn_vec.specs.declared.limits.TheConstants.{MAX_AMOUNT}
-use Rattle.crn_text.specs.Tokens.{Token, token, tokens, tokens_after, first_token, is_digit, is_blank}
-use Rattle.std.specs.Str.Parse.{digits_value}
-use Rattle.crn_text.specs.Canonical.{term, or_zero}
-use Rattle.crn_text.specs.Inner.Pieces.{Begins}
-use Rattle.crn_text.specs.declared.token.TokenKind.{TokenKind}
-use Rattle.crn_text.specs.declared.token.TokenKind.TheVariants.{Number, Name, Plus, Arrow}
+use Rattle.crn_text.proofs.Prelude.{◌≡◌, ℕ, zero, suc, ◌+◌, ◌/◌, ◌%◌, ◌<◌, ◌≤◌, Bool, true, false, List, [], ◌∷◌, ◌++◌, length, take, drop, get_or, map, refl, sym, ap, ap₂, ◌∙◌, append_assoc, arith, codes, decimal, not, pos, AllByRecursion, flat_map, list_all, prefix_len, and_parts, not-true, take-append_seam, drop-append_seam, nat_tests, decimal_by_steps, append-nil, length-append, list_all-append, is_letter, is_name_byte, begins_name, IsName, MAX_AMOUNT, Token, token, tokens, tokens_after, first_token, is_digit, is_blank, digits_value, term, or_zero, Begins, TokenKind, Number, Name, Plus, Arrow}
 use Rattle.crn_text.proofs.Apart.{no_digit}
 use Rattle.crn_text.proofs.Lists.{one_more}
 use Rattle.crn_text.proofs.Numbers.{digit_is_value, value_push}

@@ -1,18 +1,5 @@
 -- The complexes of the reactions of statements.
-use Rattle.std.proofs.Common.{◌≡◌, ℕ, zero, suc, ◌-◌, ◌<◌, ◌≤◌, Bool, true, false, List, [], ◌∷◌, ◌++◌, length, map, get_or, refl, sym, ap, ap₂, subst, ◌∙◌, append_assoc, inl, inr, eqb, leb, arith}
-use Rattle.std.specs.Prelude.{ℤ, not, filter}
-use Rattle.std.specs.List.{AllByRecursion, flat_map}
-use Rattle.std.specs.Ordering.{int_eq}
-use Rattle.std.specs.Cmp.Lexicographic.{pointwise}
-use Rattle.std.specs.Bool.{Decides}
-use Rattle.std.proofs.lemmas.Bool.Decides.{Decides-eqb}
-use Rattle.std.proofs.lemmas.Bool.{cases_Bool, cases_lt, eqb-true, eqb-false, leb-true, leb-false, le-leb, lt-leb, not-false}
-use Rattle.std.proofs.lemmas.List.{append-nil}
-use Rattle.crn_vec.specs.Lists.{IsIn, firsts}
-use Rattle.crn_vec.proofs.CallerLemmas.{IsNumberedInOrder, appears_in_order, in_left, in_right, in_map, all_in, at_in, same_place, map_twice, firsts_known, firsts_firsts, firsts_map, row_decides, sides_decide, same_test, ends_below, append_same, flat_map_push}
-use Rattle.crn_vec.specs.Network.{Net, IsPartialNetwork, IsVector, JoinsTwo, ends, sides_of, sides_eq}
-use Rattle.crn_net.specs.Grows.{with_zeros, both_with_zeros}
-use Rattle.crn_text.specs.Faults.{both_of}
+use Rattle.crn_text.proofs.Prelude.{◌≡◌, ℕ, zero, suc, ◌-◌, ◌<◌, ◌≤◌, Bool, true, false, List, [], ◌∷◌, ◌++◌, length, map, get_or, refl, sym, ap, ap₂, subst, ◌∙◌, append_assoc, inl, inr, eqb, leb, arith, ℤ, not, filter, AllByRecursion, flat_map, int_eq, pointwise, Decides, Decides-eqb, cases_Bool, cases_lt, eqb-true, eqb-false, leb-true, leb-false, le-leb, lt-leb, not-false, append-nil, IsIn, firsts, IsNumberedInOrder, appears_in_order, in_left, in_right, in_map, all_in, at_in, same_place, map_twice, firsts_known, firsts_firsts, firsts_map, row_decides, sides_decide, same_test, ends_below, append_same, flat_map_push, Net, IsPartialNetwork, IsVector, JoinsTwo, ends, sides_of, sides_eq, with_zeros, both_with_zeros, both_of}
 
 -- ---- repeats that are dropped drop no first occurrence of what they have
 

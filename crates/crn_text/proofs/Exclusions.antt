@@ -1,10 +1,5 @@
 -- First faults exclude one another, and exclude networks.
-use Rattle.std.proofs.Common.{◌≡◌, ℕ, ◌+◌, List, Option, Some, sym, ap, ◌∙◌, inl, inr, arith}
-use Rattle.std.proofs.lemmas.Bool.{cases_order}
-use Rattle.crn_vec.proofs.CallerLemmas.{none_some}
-use Rattle.crn_text.specs.Tokens.{lines}
-use Rattle.crn_text.specs.Spells.{Fault, fault_on}
-use Rattle.crn_text.specs.declared.fault.TextCode.{TextCode}
+use Rattle.crn_text.proofs.Prelude.{◌≡◌, ℕ, ◌+◌, List, Option, Some, sym, ap, ◌∙◌, inl, inr, arith, cases_order, none_some, lines, Fault, fault_on, TextCode}
 
 one_code : (o : Option TextCode) (code another : TextCode) → o ≡ Some code → o ≡ Some another → code ≡ another
 one_code o code another p q = cc

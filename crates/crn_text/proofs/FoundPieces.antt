@@ -1,19 +1,5 @@
 -- A text that is compared with the canonical text of a network, piece by piece.
-use Rattle.std.proofs.Common.{◌≡◌, ℕ, zero, suc, ◌+◌, ◌-◌, ◌<◌, ◌≤◌, ◌==◌, Bool, true, false, eqb, List, [], ◌∷◌, ◌++◌, length, get_or, set, take, drop, replicate, Option, Some, None, Bor, refl, sym, ap, subst, ◌∙◌, append_assoc, arith, take_all}
-use Rattle.std.specs.Prelude.{codes, ◌↔◌, IsTrue}
-use Rattle.std.specs.List.{flat_map}
-use Rattle.std.specs.Option.{MatchOption}
-use Rattle.std.specs.Cmp.Lexicographic.{pointwise}
-use Rattle.std.proofs.lemmas.Bool.{eqb-true, eq-eqb}
-use Rattle.std.proofs.lemmas.Bool.Decides.{Decides-eqb}
-use Rattle.std.proofs.lemmas.Slice.Eq.{strip_prefix_is}
-use Rattle.std.proofs.lemmas.List.{append-nil, append_cancel_left, length-append}
-use Rattle.std.proofs.Math.Seq.{take-append_seam}
-use Rattle.crn_io.proofs.CallerLemmas.{flat_map_step, flat_map_whole}
-use Rattle.crn_vec.specs.Network.{Net}
-use Rattle.crn_text.specs.Canonical.{complex_text, reaction_line, canonical}
-use Rattle.crn_text.specs.Inner.Found.{Follows, IsPiece, AreFound}
-use Rattle.crn_text.specs.declared.canonical.Piece.{Piece}
+use Rattle.crn_text.proofs.Prelude.{◌≡◌, ℕ, zero, suc, ◌+◌, ◌-◌, ◌<◌, ◌≤◌, ◌==◌, Bool, true, false, eqb, List, [], ◌∷◌, ◌++◌, length, get_or, set, take, drop, replicate, Option, Some, None, Bor, refl, sym, ap, subst, ◌∙◌, append_assoc, arith, take_all, codes, ◌↔◌, IsTrue, flat_map, MatchOption, pointwise, eqb-true, eq-eqb, Decides-eqb, strip_prefix_is, append-nil, append_cancel_left, length-append, take-append_seam, flat_map_step, flat_map_whole, Net, complex_text, reaction_line, canonical, Follows, IsPiece, AreFound, Piece}
 
 -- ---- the pieces
 

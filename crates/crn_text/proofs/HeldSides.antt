@@ -1,17 +1,7 @@
 -- Sides that were read before, where they come again.
-use Rattle.std.proofs.Common.{◌≡◌, ℕ, ◌+◌, ◌-◌, ◌%◌, ◌^◌, ◌≤◌, true, false, List, [], ◌∷◌, ◌++◌, length, get_or, take, take_all, drop, map, refl, sym, ap, ap₂, subst, ◌∙◌, append_assoc, arith, length-append}
+use Rattle.crn_text.proofs.Prelude.{◌≡◌, ℕ, ◌+◌, ◌-◌, ◌%◌, ◌^◌, ◌≤◌, true, false, List, [], ◌∷◌, ◌++◌, length, get_or, take, take_all, drop, map, refl, sym, ap, ap₂, subst, ◌∙◌, append_assoc, arith, AllByRecursion, prefix_len, append-nil, take-append-drop, length-drop, length-take-le, length-map, take_more, IsName, amount_in, MAX_AMOUNT, MAX_TEXT, name_at, side_of, IsTerm, Term, Token, tokens, is_blank, terms_of, sides_fault, OccursIn, ReadsTerms, moved, IsTrimmed}
+use Rattle.std.proofs.Common.{length-append}
 use Rattle.std.specs.Prelude.{None}
-use Rattle.std.specs.List.{AllByRecursion, prefix_len}
-use Rattle.std.proofs.lemmas.List.{append-nil, take-append-drop, length-drop, length-take-le, length-map, take_more}
-use Rattle.crn_vec.specs.Network.{IsName, amount_in}
-use Rattle.crn_vec.specs.declared.limits.TheConstants.{MAX_AMOUNT, MAX_TEXT}
-use Rattle.crn_net.specs.Terms.{name_at, side_of, IsTerm}
-use Rattle.crn_net.specs.declared.term.Term.{Term}
-use Rattle.crn_text.specs.Tokens.{Token, tokens, is_blank}
-use Rattle.crn_text.specs.Sides.{terms_of}
-use Rattle.crn_text.specs.Faults.{sides_fault}
-use Rattle.crn_text.specs.Inner.Pieces.{OccursIn, ReadsTerms}
-use Rattle.crn_text.specs.Inner.Held.{moved, IsTrimmed}
 use Rattle.crn_text.proofs.Apart.{EndsBefore, tokens_apart}
 use Rattle.crn_text.proofs.QuickPlaces.{blank_no_name, all_blank}
 use Rattle.crn_text.proofs.Terms.{occurs_first, occurs_last, piece_at}

@@ -1,20 +1,7 @@
 -- Each text spells a network or has a first fault.
-use Rattle.std.proofs.Common.{◌≡◌, ◌⊎◌, ℕ, zero, suc, ◌+◌, ◌<◌, ◌≤◌, false, List, [], ◌∷◌, ◌++◌, Option, Some, None, length, take, get_or, refl, sym, ap, subst, ◌∙◌, append_assoc, add-one, inl, inr, arith}
-use Rattle.std.specs.Prelude.{nat_lt}
-use Rattle.std.specs.List.{AllByRecursion}
-use Rattle.std.proofs.lemmas.Bool.{cases_Bool, cases_lt, ltb-false}
-use Rattle.std.proofs.lemmas.List.{append-nil, take_all, take_more}
-use Rattle.crn_vec.specs.Network.{Net, Statement}
-use Rattle.crn_vec.specs.declared.limits.TheConstants.{MAX_SPECIES, MAX_COMPLEXES, MAX_REACTIONS, MAX_TEXT}
-use Rattle.crn_vec.proofs.CallerLemmas.{flat_map_push, option_or}
-use Rattle.crn_net.specs.Grows.{Grown, IsSelf, no_net, names_with, complexes_with, reactions_with}
-use Rattle.crn_net.proofs.CallerLemmas.{Grown-none, Grown-more, Grown-network, IsSaid, may_grow}
-use Rattle.crn_text.specs.Tokens.{lines}
-use Rattle.crn_text.specs.Sides.{line_statements, all_statements}
-use Rattle.crn_text.specs.Faults.{is_self, names_of, complexes_of, reactions_of, statement_fault, statements_fault, own_fault, line_fault, or_else}
-use Rattle.crn_text.specs.Spells.{Spells, Fault, fault_on, AreFaultless}
-use Rattle.crn_text.specs.declared.fault.TextCode.{TextCode}
-use Rattle.crn_text.specs.declared.fault.TextCode.TheVariants.{TextTooLong, NoReaction}
+use Rattle.crn_text.proofs.Prelude.{◌≡◌, ℕ, zero, suc, ◌+◌, ◌<◌, ◌≤◌, false, List, [], ◌∷◌, ◌++◌, Option, Some, None, length, take, get_or, refl, sym, ap, subst, ◌∙◌, append_assoc, add-one, inl, inr, arith, nat_lt, AllByRecursion, cases_Bool, cases_lt, ltb-false, append-nil, take_more, Net, Statement, MAX_SPECIES, MAX_COMPLEXES, MAX_REACTIONS, MAX_TEXT, flat_map_push, option_or, Grown, IsSelf, no_net, names_with, complexes_with, reactions_with, Grown-none, Grown-more, Grown-network, IsSaid, may_grow, lines, line_statements, all_statements, is_self, names_of, complexes_of, reactions_of, statement_fault, statements_fault, own_fault, line_fault, or_else, Spells, Fault, fault_on, AreFaultless, TextCode, TextTooLong, NoReaction}
+use Rattle.std.proofs.Common.{◌⊎◌}
+use Rattle.std.proofs.lemmas.List.{take_all}
 use Rattle.crn_text.proofs.LinesRead.{none_own, text_ok, text_without}
 use Rattle.crn_text.proofs.Sayings.{line_said}
 use Rattle.crn_text.proofs.Statements.{names_all, complexes_all, reactions_all, self_tested}

@@ -1,24 +1,8 @@
 -- One line of a text after another.
-use Rattle.std.proofs.Common.{◌≡◌, ℕ, zero, suc, ◌+◌, ◌<◌, ◌≤◌, Bool, true, false, List, [], ◌∷◌, ◌++◌, length, take, drop, get_or, Option, Some, None, Result, Ok, Err, Bor, refl, sym, ap, subst, ◌∙◌, inl, inr, below_more, arith}
-use Rattle.crn_vec.proofs.CallerLemmas.{flat_map_push, all_given}
-use Rattle.std.specs.Prelude.{map, ◌⊎◌}
-use Rattle.std.specs.List.{list_all}
-use Rattle.std.proofs.lemmas.List.{append-nil, length-drop, take_all, take_more}
-use Rattle.crn_vec.specs.Lists.{firsts}
-use Rattle.crn_vec.specs.Network.{Net, Statement, IsNetwork, sides_eq, said_by}
-use Rattle.crn_vec.specs.declared.limits.TheConstants.{MAX_TEXT}
-use Rattle.crn_net.specs.Grows.{Grown, FinishGives}
-use Rattle.crn_net.specs.declared.fault.NetFault.{NetFault}
+use Rattle.crn_text.proofs.Prelude.{◌≡◌, ℕ, zero, suc, ◌+◌, ◌<◌, ◌≤◌, Bool, true, false, List, [], ◌∷◌, ◌++◌, length, take, drop, get_or, Option, Some, None, Result, Ok, Err, Bor, refl, sym, ap, subst, ◌∙◌, inl, inr, below_more, arith, flat_map_push, all_given, ◌⊎◌, list_all, append-nil, length-drop, take_more, firsts, Net, Statement, IsNetwork, sides_eq, said_by, MAX_TEXT, Grown, FinishGives, NetFault, Grown-names, Grown-reactions, net_code, lines, before_comment, tokens, tokens_after, line_statements, all_statements, is_plain, own_fault, line_fault, or_else, Spells, Fault, fault_on, AreFaultless, IsFirstFault, IsWithoutReaction, SplitsAt, after_split, TokensGive, LineGives, TextCode, NotAscii, NoMemory, NoReaction}
+use Rattle.std.specs.Prelude.{map}
+use Rattle.std.proofs.lemmas.List.{take_all}
 use Rattle.crn_net.specs.declared.fault.NetFault.TheVariants as refusal
-use Rattle.crn_net.proofs.CallerLemmas.{Grown-names, Grown-reactions}
-use Rattle.crn_text.specs.Codes.{net_code}
-use Rattle.crn_text.specs.Tokens.{lines, before_comment, tokens, tokens_after}
-use Rattle.crn_text.specs.Sides.{line_statements, all_statements}
-use Rattle.crn_text.specs.Faults.{is_plain, own_fault, line_fault, or_else}
-use Rattle.crn_text.specs.Spells.{Spells, Fault, fault_on, AreFaultless, IsFirstFault, IsWithoutReaction}
-use Rattle.crn_text.specs.Inner.Pieces.{SplitsAt, after_split, TokensGive, LineGives}
-use Rattle.crn_text.specs.declared.fault.TextCode.{TextCode}
-use Rattle.crn_text.specs.declared.fault.TextCode.TheVariants.{NotAscii, NoMemory, NoReaction}
 use Rattle.crn_text.proofs.Splits.{lines_after, lines_split, split_size}
 
 -- ---- one line

@@ -1,8 +1,6 @@
 -- Numbers each of which is after the smaller ones.
-use Rattle.std.proofs.Common.{◌≡◌, ◌⊎◌, ℕ, zero, suc, ◌+◌, ◌<◌, ◌≤◌, List, [], ◌∷◌, ◌++◌, inl, inr, arith}
-use Rattle.std.proofs.lemmas.Bool.{cases_lt}
-use Rattle.crn_vec.specs.Lists.{IsIn}
-use Rattle.crn_vec.proofs.CallerLemmas.{IsNumberedInOrder}
+use Rattle.crn_text.proofs.Prelude.{◌≡◌, ℕ, zero, suc, ◌+◌, ◌<◌, ◌≤◌, List, [], ◌∷◌, ◌++◌, inl, inr, arith, cases_lt, IsIn, IsNumberedInOrder}
+use Rattle.std.proofs.Common.{◌⊎◌}
 use Rattle.crn_text.proofs.Complexes.{upto}
 
 -- ---- each number after the smaller ones

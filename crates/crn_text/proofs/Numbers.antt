@@ -1,14 +1,5 @@
 -- The number that digits write, as far as it doesn't exceed a limit.
-use Rattle.std.proofs.Common.{◌≡◌, ℕ, zero, suc, ◌+◌, ◌-◌, ◌*◌, ◌<◌, ◌≤◌, ◌==◌, true, false, List, [], ◌∷◌, ◌++◌, length, get_or, take, drop, refl, sym, ap, ◌∙◌, inl, inr, arith}
-use Rattle.std.specs.Prelude.{min, nat_le, nat_lt}
-use Rattle.std.specs.Char.{digit_value}
-use Rattle.std.specs.List.{list_all}
-use Rattle.std.specs.Str.Parse.{digits_value, digits_value_after}
-use Rattle.std.proofs.lemmas.Bool.{and_parts, leb-true, le-ltb, lt-ltb, eqb-true, eqb-false, cases_Bool, cases_lt}
-use Rattle.std.proofs.lemmas.List.{take-append-drop, length-drop}
-use Rattle.std.proofs.lemmas.List.Folds.{list_all-append}
-use Rattle.crn_text.specs.Tokens.{is_digit}
-use Rattle.crn_text.specs.declared.side.TheConstants.{LARGE}
+use Rattle.crn_text.proofs.Prelude.{◌≡◌, ℕ, zero, suc, ◌+◌, ◌-◌, ◌*◌, ◌<◌, ◌≤◌, ◌==◌, true, false, List, [], ◌∷◌, ◌++◌, length, get_or, take, drop, refl, sym, ap, ◌∙◌, inl, inr, arith, min, nat_le, nat_lt, digit_value, list_all, digits_value, digits_value_after, and_parts, leb-true, le-ltb, lt-ltb, eqb-true, eqb-false, cases_Bool, cases_lt, take-append-drop, length-drop, list_all-append, is_digit, LARGE}
 
 -- the value of a decimal digit
 pub digit_is_value : (d : ℕ) → is_digit d ≡ true → digit_value d ≡ d - 48

@@ -1,17 +1,6 @@
 -- A text is split in one way, which is into its tokens.
-use Rattle.std.proofs.Common.{◌≡◌, ℕ, zero, suc, ◌<◌, ◌≤◌, Bool, true, false, eqb, List, [], ◌∷◌, ◌++◌, length, take, drop, get_or, refl, sym, ap, subst, ◌∙◌, inl, inr, arith}
-use Rattle.std.specs.Prelude.{codes, nat_eq, ◌≢◌, ◌==◌, ◌||◌}
-use Rattle.std.specs.List.{prefix_len, list_all, starts_with}
-use Rattle.std.proofs.Math.Seq.{take-append_seam}
-use Rattle.std.proofs.lemmas.Bool.{cases_Bool, ne_eqb, eqb-true, eqb-false, and_from, or_parts}
-use Rattle.std.proofs.lemmas.Bool.Decides.{Decides-eqb}
-use Rattle.std.proofs.lemmas.List.{append-nil, length-append, length-take, length-drop, take-append-drop}
-use Rattle.std.proofs.lemmas.Slice.Eq.{starts_is}
-use Rattle.crn_vec.specs.Network.{is_letter, is_name_byte}
-use Rattle.crn_text.specs.Tokens.{Token, token, tokens, tokens_after, is_blank, is_digit, BeginsNot, BeginsNone, IsToken, IsSplitInto, TextsAreSplitInOneWay}
-use Rattle.crn_text.specs.Inner.Pieces.{Begins}
-use Rattle.crn_text.specs.declared.token.TokenKind.{TokenKind}
-use Rattle.crn_text.specs.declared.token.TokenKind.TheVariants.{Number, Name, Plus, Arrow, BothWays, Back, Stray}
+use Rattle.crn_text.proofs.Prelude.{◌≡◌, ℕ, zero, suc, ◌<◌, ◌≤◌, Bool, true, false, eqb, List, [], ◌∷◌, ◌++◌, length, take, drop, get_or, refl, sym, ap, subst, ◌∙◌, inl, inr, arith, codes, nat_eq, ◌≢◌, ◌||◌, prefix_len, list_all, starts_with, take-append_seam, cases_Bool, ne_eqb, eqb-true, eqb-false, and_from, or_parts, Decides-eqb, append-nil, length-append, length-take, length-drop, take-append-drop, starts_is, is_letter, is_name_byte, Token, token, tokens, tokens_after, is_blank, is_digit, BeginsNot, BeginsNone, IsToken, IsSplitInto, TextsAreSplitInOneWay, Begins, TokenKind, Number, Name, Plus, Arrow, BothWays, Back, Stray}
+use Rattle.std.specs.Prelude.{◌==◌}
 use Rattle.crn_text.proofs.ArrowSplit.{tokens_arrow, tokens_both, tokens_back}
 use Rattle.crn_text.proofs.CanonicalTokens.{stops, tokens_number, tokens_name}
 use Rattle.crn_text.proofs.Lists.{one_more}

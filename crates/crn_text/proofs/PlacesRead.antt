@@ -1,20 +1,6 @@
 -- A side as its places are read one after the other.
-use Rattle.std.proofs.Common.{◌≡◌, ℕ, ◌+◌, ◌*◌, ◌<◌, ◌≤◌, Bool, true, false, List, [], ◌∷◌, ◌++◌, length, Option, Some, None, Bor, Result, Ok, Err, refl, sym, ap, ap₂, subst, ◌∙◌, append_assoc, arith}
-use Rattle.std.specs.Prelude.{map, nat_le, ◌&&◌, ◌↔◌, IsTrue, IfOk}
-use Rattle.std.specs.List.{AllByRecursion, list_all}
-use Rattle.std.proofs.lemmas.Bool.{and_from, and_parts, le-leb, leb-true}
-use Rattle.std.proofs.lemmas.List.{length-append, append-nil, map-append, map_push, length-take, length-drop}
-use Rattle.std.proofs.lemmas.List.Folds.{list_all-append}
-use Rattle.crn_vec.specs.Network.{amount_in}
-use Rattle.crn_vec.specs.declared.limits.TheConstants.{MAX_TEXT, MAX_TERMS, MAX_AMOUNT, MAX_NAME}
-use Rattle.crn_net.specs.Terms.{name_at, side_of, IsTerm, IsSide}
-use Rattle.crn_net.specs.declared.term.Term.{Term}
-use Rattle.crn_text.specs.Tokens.{Token, tokens, tokens_after}
-use Rattle.crn_text.specs.Sides.{is_term, term_of, terms_of, is_zero, places}
-use Rattle.crn_text.specs.SoundLines.{IsSoundTerm, IsSoundSide}
-use Rattle.crn_text.specs.Faults.{sides_fault}
-use Rattle.crn_text.specs.Inner.Pieces.{OccursIn, SplitsAt, ReadsTerm, is_within, ReadsSide}
-use Rattle.crn_vec.proofs.CallerLemmas.{all_push}
+use Rattle.crn_text.proofs.Prelude.{◌≡◌, ℕ, ◌+◌, ◌*◌, ◌<◌, ◌≤◌, Bool, true, false, List, [], ◌∷◌, ◌++◌, length, Option, Some, None, Bor, Result, Ok, Err, refl, sym, ap, ap₂, subst, ◌∙◌, append_assoc, arith, nat_le, ◌&&◌, ◌↔◌, IsTrue, IfOk, AllByRecursion, list_all, and_from, and_parts, le-leb, leb-true, length-append, append-nil, map-append, map_push, length-take, length-drop, list_all-append, amount_in, MAX_TEXT, MAX_TERMS, MAX_AMOUNT, MAX_NAME, name_at, side_of, IsTerm, IsSide, Term, Token, tokens, tokens_after, is_term, term_of, terms_of, is_zero, places, IsSoundTerm, IsSoundSide, sides_fault, OccursIn, SplitsAt, ReadsTerm, is_within, ReadsSide, all_push}
+use Rattle.std.specs.Prelude.{map}
 use Rattle.crn_text.proofs.Places.{places_after, places_split}
 use Rattle.crn_text.proofs.Splits.{split_size}
 use Rattle.crn_text.proofs.Terms.{piece_size, occurs_split}

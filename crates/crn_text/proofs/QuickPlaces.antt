@@ -1,16 +1,5 @@
 -- A place that holds a name, or a number and a name, with blanks around them, read in one pass.
-use Rattle.std.proofs.Common.{◌≡◌, ℕ, ◌+◌, ◌-◌, Bool, true, false, eqb, List, [], ◌∷◌, ◌++◌, length, Option, Some, Bor, refl, ap, ◌∙◌, append_assoc, arith}
-use Rattle.std.specs.List.{list_all, list_any}
-use Rattle.std.proofs.lemmas.Bool.{and_parts}
-use Rattle.std.proofs.lemmas.Bool.Decides.{nat_tests}
-use Rattle.std.proofs.lemmas.List.{length-append}
-use Rattle.std.proofs.lemmas.List.Folds.{list_any-append}
-use Rattle.crn_vec.specs.Network.{is_letter, is_name_byte, begins_name}
-use Rattle.crn_net.specs.Terms.{name_at}
-use Rattle.crn_net.specs.declared.term.Term.{Term}
-use Rattle.crn_text.specs.Tokens.{Token, token, tokens, tokens_after, is_digit, is_blank}
-use Rattle.crn_text.specs.declared.token.TokenKind.TheVariants.{Number, Name}
-use Rattle.crn_text.specs.Inner.Pieces.{OccursIn, after_split, Runs, Numbered, IsSpelled, ReadsTerm, ReadsPlace, count_of}
+use Rattle.crn_text.proofs.Prelude.{◌≡◌, ℕ, ◌+◌, ◌-◌, Bool, true, false, eqb, List, [], ◌∷◌, ◌++◌, length, Option, Some, Bor, refl, ap, ◌∙◌, append_assoc, arith, list_all, list_any, and_parts, nat_tests, length-append, list_any-append, is_letter, is_name_byte, begins_name, name_at, Term, Token, token, tokens, tokens_after, is_digit, is_blank, Number, Name, OccursIn, after_split, Runs, Numbered, IsSpelled, ReadsTerm, ReadsPlace, count_of}
 use Rattle.crn_text.proofs.CanonicalTokens.{stops, letter_no_digit, name_bytes, tokens_number, tokens_name}
 use Rattle.crn_text.proofs.Terms.{occurs_first, occurs_last, piece_at}
 use Rattle.crn_text.proofs.OneSplit.{blanks_prefix}

@@ -1,18 +1,6 @@
 -- The places of lines that are remembered, and the loop over the lines with them.
-use Rattle.std.proofs.Common.{◌≡◌, ℕ, zero, suc, ◌+◌, ◌-◌, ◌<◌, ◌≤◌, List, [], ◌∷◌, ◌++◌, length, take, drop, get_or, set, Option, Some, None, Ok, Bor, sym, ap, subst, ◌∙◌, append_assoc, inl, inr, arith, true, false, Bool, not, ◌==◌, if◌then◌else◌, take_while, refl}
-use Rattle.std.specs.Prelude.{◌||◌}
-use Rattle.std.proofs.lemmas.List.{length-append, length-take, get_or-take, take_more}
-use Rattle.std.proofs.Math.Seq.{drop-append_seam, take-append_seam}
-use Rattle.crn_vec.specs.Lists.{IsIn}
-use Rattle.crn_vec.specs.Network.{Net}
-use Rattle.crn_vec.proofs.CallerLemmas.{in_left, in_right, in_at, all_from, all_set}
-use Rattle.std.proofs.lemmas.Bool.{eqb-true, ne_eqb}
-use Rattle.crn_text.specs.Tokens.{lines, before_comment}
-use Rattle.crn_text.specs.Sides.{all_statements}
-use Rattle.crn_text.specs.Faults.{own_fault}
-use Rattle.crn_text.specs.Inner.Known.{line_at, AreKnown, AreSound}
-use Rattle.crn_text.specs.Inner.Pieces.{SplitsAt, after_split, LineGives}
-use Rattle.crn_text.specs.declared.known.Place.{Place}
+use Rattle.crn_text.proofs.Prelude.{◌≡◌, ℕ, zero, suc, ◌+◌, ◌-◌, ◌<◌, ◌≤◌, List, [], ◌∷◌, ◌++◌, length, take, drop, get_or, set, Option, Some, None, Ok, Bor, sym, ap, subst, ◌∙◌, append_assoc, inl, inr, arith, true, false, Bool, ◌==◌, refl, ◌||◌, length-append, length-take, get_or-take, take_more, drop-append_seam, take-append_seam, IsIn, Net, in_left, in_right, in_at, all_from, all_set, eqb-true, ne_eqb, lines, before_comment, all_statements, own_fault, line_at, AreKnown, AreSound, SplitsAt, after_split, LineGives, Place}
+use Rattle.std.proofs.Common.{not, if◌then◌else◌, take_while}
 use Rattle.crn_text.proofs.LinesRead.{LinesUpTo, lines_more, none_own}
 use Rattle.crn_text.proofs.Splits.{lines_after, lines_split}
 

@@ -1,20 +1,5 @@
 -- A statement, or a line, that was there before adds nothing to the network.
-use Rattle.std.proofs.Common.{◌≡◌, ℕ, false, List, [], ◌∷◌, ◌++◌, length, map, None, Ok, refl, sym, ap, subst, ◌∙◌, append_assoc, inl, inr, arith}
-use Rattle.std.specs.Prelude.{ℤ}
-use Rattle.std.specs.List.{flat_map}
-use Rattle.std.specs.Str.{bytes_eq}
-use Rattle.std.specs.Ordering.{int_eq}
-use Rattle.std.specs.Cmp.Lexicographic.{pointwise}
-use Rattle.std.proofs.lemmas.List.{append-nil, map_push, length-map}
-use Rattle.std.proofs.lemmas.Slice.Eq.{bytes_eq-Decides}
-use Rattle.crn_vec.specs.Lists.{IsIn, firsts}
-use Rattle.crn_vec.specs.Network.{Net, Statement, names_in, said_by, sides_eq, sides_of}
-use Rattle.crn_vec.proofs.CallerLemmas.{in_flat_map, flat_map_push, map_in, firsts_known, sides_decide}
-use Rattle.crn_net.specs.Grows.{Grows, GrownFrom, Grown, no_net, names_with, complexes_with, reactions_with}
-use Rattle.crn_net.proofs.CallerLemmas.{Grown-names, Grown-reactions, Grown-network, Grown-names_with, Grown-reactions_with}
-use Rattle.crn_text.specs.Sides.{line_statements, all_statements}
-use Rattle.crn_text.specs.Faults.{is_self, both_of, names_of, reactions_of, statements_fault, own_fault}
-use Rattle.crn_text.specs.Inner.Pieces.{LineGives}
+use Rattle.crn_text.proofs.Prelude.{◌≡◌, ℕ, false, List, [], ◌∷◌, ◌++◌, length, map, None, Ok, refl, sym, ap, subst, ◌∙◌, append_assoc, inl, inr, arith, ℤ, flat_map, bytes_eq, int_eq, pointwise, append-nil, map_push, length-map, bytes_eq-Decides, IsIn, firsts, Net, Statement, names_in, said_by, sides_eq, sides_of, in_flat_map, flat_map_push, map_in, firsts_known, sides_decide, Grows, GrownFrom, Grown, no_net, names_with, complexes_with, reactions_with, Grown-names, Grown-reactions, Grown-network, Grown-names_with, Grown-reactions_with, line_statements, all_statements, is_self, both_of, names_of, reactions_of, statements_fault, own_fault, LineGives}
 use Rattle.crn_text.proofs.Complexes.{known_all, complexes_are}
 use Rattle.crn_text.proofs.Statements.{self_tested, not_self, complexes_all, grows_fine}
 

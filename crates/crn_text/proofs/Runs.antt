@@ -1,11 +1,5 @@
 -- Runs of bytes of one class, a block at a time.
-use Rattle.std.proofs.Common.{◌≡◌, ℕ, zero, suc, ◌+◌, ◌<◌, ◌≤◌, Bool, true, List, [], ◌∷◌, length, take, drop, refl, sym, ap, ◌∙◌, arith}
-use Rattle.std.specs.List.{list_all, prefix_len}
-use Rattle.std.proofs.lemmas.Bool.{and_parts, eq-eqb, ne_eqb}
-use Rattle.std.proofs.lemmas.List.{take-append-drop, take-take, length-drop, length-take, length-take-le}
-use Rattle.std.proofs.lemmas.List.Folds.{prefix_len-append}
-use Rattle.std.proofs.lemmas.List.Sums.{prefix_len-le-length}
-use Rattle.crn_text.specs.Inner.Pieces.{Runs}
+use Rattle.crn_text.proofs.Prelude.{◌≡◌, ℕ, zero, suc, ◌+◌, ◌<◌, ◌≤◌, Bool, true, List, [], ◌∷◌, length, take, drop, refl, sym, ap, ◌∙◌, arith, list_all, prefix_len, and_parts, eq-eqb, ne_eqb, take-append-drop, take-take, length-drop, length-take, length-take-le, prefix_len-append, prefix_len-le-length, Runs}
 use Rattle.crn_text.proofs.Tokens.{all_prefix}
 
 -- a block whose bytes are all of the class is passed over

@@ -1,7 +1,6 @@
 -- The digits of an amount.
-use Rattle.std.proofs.Common.{◌≡◌, ℕ, ◌+◌, ◌≤◌, List, [], ◌∷◌, ◌++◌, sym, ap, ◌∙◌, append_assoc, arith}
-use Rattle.std.specs.Prelude.{◌<◌, ◌/◌, ◌%◌, decimal}
-use Rattle.std.proofs.lemmas.Fmt.{decimal_digit, decimal_step}
+use Rattle.crn_text.proofs.Prelude.{◌≡◌, ℕ, ◌+◌, ◌≤◌, List, [], ◌∷◌, ◌++◌, sym, ap, ◌∙◌, append_assoc, arith, decimal, decimal_digit, decimal_step}
+use Rattle.std.specs.Prelude.{◌<◌, ◌/◌, ◌%◌}
 
 pub one_digit : (text before : List ℕ) (n : ℕ) → n < 10 → before ≡ text → before ++ (48 + n % 10) ∷ [] ≡ text ++ decimal n
 one_digit text before n lt is = let e : n % 10 ≡ n = omega arith in rw (e, is) (ap (λ (t : List ℕ). text ++ t) (sym (decimal_digit n lt)))

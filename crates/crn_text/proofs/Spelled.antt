@@ -1,27 +1,5 @@
 -- A text that spells a network has no fault.
-use Rattle.std.proofs.Common.{◌≡◌, ℕ, suc, ◌<◌, ◌≤◌, Bool, false, List, [], ◌∷◌, ◌++◌, length, take, drop, get_or, map, None, refl, sym, ap, subst, ◌∙◌, append_assoc, inl, inr, arith}
-use Rattle.std.specs.Prelude.{ℤ, pos, nat_lt}
-use Rattle.std.specs.Bool.{Decides}
-use Rattle.std.specs.List.{flat_map}
-use Rattle.std.specs.Str.{bytes_eq}
-use Rattle.std.specs.Ordering.{int_eq}
-use Rattle.std.specs.Cmp.Lexicographic.{pointwise}
-use Rattle.std.proofs.lemmas.Bool.{cases_Bool, le-ltb}
-use Rattle.std.proofs.lemmas.Slice.Eq.{bytes_eq-Decides}
-use Rattle.std.proofs.lemmas.List.{append-nil, length-map, map-append}
-use Rattle.std.proofs.lemmas.List.Concat.{flat_map-append}
-use Rattle.crn_vec.specs.Lists.{IsIn, AreDistinct, firsts}
-use Rattle.crn_vec.specs.Network.{Net, IsNetwork, Statement, JoinsTwo, sides_of, sides_eq, said_by, names_in, amount_in}
-use Rattle.crn_vec.specs.declared.limits.TheConstants.{MAX_SPECIES, MAX_COMPLEXES, MAX_REACTIONS}
-use Rattle.crn_net.specs.Grows.{with_zeros, both_with_zeros}
-use Rattle.crn_vec.proofs.CallerLemmas.{in_right, in_map, map_in, map_same, map_twice, all_in, same_place, firsts_distinct, firsts_has, firsts_map, firsts_prefix, firsts_length, row_decides, sides_decide, same_test, in_flat_map, append_same, all_at, amounts_same}
-use Rattle.crn_io.proofs.CallerLemmas.{flat_map_whole}
-use Rattle.crn_text.specs.Tokens.{lines}
-use Rattle.crn_text.specs.Sides.{line_statements, all_statements}
-use Rattle.crn_text.specs.Faults.{own_fault, statement_fault, statements_fault, is_self, names_of, reactions_of, complexes_of, both_of}
-use Rattle.crn_text.specs.Spells.{Spells, Fault, fault_on}
-use Rattle.crn_text.specs.declared.fault.TextCode.{TextCode}
-use Rattle.crn_net.proofs.CallerLemmas.{said_with_zeros, with_zeros_test}
+use Rattle.crn_text.proofs.Prelude.{◌≡◌, ℕ, suc, ◌<◌, ◌≤◌, Bool, false, List, [], ◌∷◌, ◌++◌, length, take, drop, get_or, map, None, refl, sym, ap, subst, ◌∙◌, append_assoc, inl, inr, arith, ℤ, pos, nat_lt, Decides, flat_map, bytes_eq, int_eq, pointwise, cases_Bool, le-ltb, bytes_eq-Decides, append-nil, length-map, map-append, flat_map-append, IsIn, AreDistinct, firsts, Net, IsNetwork, Statement, JoinsTwo, sides_of, sides_eq, said_by, names_in, amount_in, MAX_SPECIES, MAX_COMPLEXES, MAX_REACTIONS, with_zeros, both_with_zeros, in_right, in_map, map_in, map_same, map_twice, all_in, same_place, firsts_distinct, firsts_has, firsts_map, firsts_prefix, firsts_length, row_decides, sides_decide, same_test, in_flat_map, append_same, all_at, amounts_same, flat_map_whole, lines, line_statements, all_statements, own_fault, statement_fault, statements_fault, is_self, names_of, reactions_of, complexes_of, both_of, Spells, Fault, fault_on, TextCode, said_with_zeros, with_zeros_test}
 use Rattle.crn_text.proofs.Complexes.{all_kept, flat_map_map, complexes_are}
 use Rattle.crn_text.proofs.Statements.{self_same}
 

@@ -1,11 +1,5 @@
 -- Texts split at the first byte like this one.
-use Rattle.std.proofs.Common.{◌≡◌, ℕ, ◌+◌, false, eqb, List, [], ◌∷◌, ◌++◌, length, take, drop, Option, Some, None, Bor, refl, sym, ap, ap₂, ◌∙◌, inl, inr, arith}
-use Rattle.std.specs.Prelude.{not}
-use Rattle.std.specs.List.{prefix_len, list_any, take_while}
-use Rattle.std.proofs.lemmas.Bool.{cases_Bool, eqb-true, eq-eqb, or_parts}
-use Rattle.std.proofs.lemmas.List.{length-append, append-nil, take-append-drop}
-use Rattle.crn_text.specs.Tokens.{lines}
-use Rattle.crn_text.specs.Inner.Pieces.{SplitsAt, after_split}
+use Rattle.crn_text.proofs.Prelude.{◌≡◌, ℕ, ◌+◌, false, eqb, List, [], ◌∷◌, ◌++◌, length, take, drop, Option, Some, None, Bor, refl, sym, ap, ap₂, ◌∙◌, inl, inr, arith, not, prefix_len, list_any, take_while, cases_Bool, eqb-true, eq-eqb, or_parts, length-append, append-nil, take-append-drop, lines, SplitsAt, after_split}
 use Rattle.crn_text.proofs.Lists.{one_more, split_at, split_last}
 
 -- the number of bytes before the first such byte

@@ -1,24 +1,8 @@
 -- What the builder of a network answers, and the first fault of a statement.
-use Rattle.std.proofs.Common.{◌≡◌, ℕ, true, false, List, [], ◌∷◌, ◌++◌, length, Some, None, Result, Err, refl, sym, ap, subst, ◌∙◌, inl, inr, eqb}
-use Rattle.std.specs.Prelude.{map, ◌⊎◌, nat_lt, ℤ}
-use Rattle.std.specs.List.{list_all, flat_map}
-use Rattle.std.specs.Ordering.{int_eq}
-use Rattle.std.specs.Cmp.Lexicographic.{pointwise}
-use Rattle.std.proofs.lemmas.Bool.{cases_Bool, lt-ltb, le-ltb, eqb-true, eq-eqb}
-use Rattle.crn_vec.specs.Lists.{IsIn, firsts}
-use Rattle.crn_vec.specs.Network.{Net, Statement, names_in, said_by, sides_eq, amount_in}
-use Rattle.crn_vec.specs.declared.limits.TheConstants.{MAX_SPECIES, MAX_COMPLEXES, MAX_REACTIONS}
-use Rattle.crn_net.specs.Grows.{AddGives, Grows, Grown, IsSelf, said_with, names_with, complexes_with, reactions_with}
-use Rattle.crn_net.specs.declared.fault.NetFault.{NetFault}
+use Rattle.crn_text.proofs.Prelude.{◌≡◌, ℕ, true, false, List, [], ◌∷◌, ◌++◌, length, Some, None, Result, Err, refl, sym, ap, subst, ◌∙◌, inl, inr, eqb, ◌⊎◌, nat_lt, ℤ, list_all, flat_map, int_eq, pointwise, cases_Bool, lt-ltb, le-ltb, eqb-true, eq-eqb, IsIn, firsts, Net, Statement, names_in, said_by, sides_eq, amount_in, MAX_SPECIES, MAX_COMPLEXES, MAX_REACTIONS, AddGives, Grows, Grown, IsSelf, said_with, names_with, complexes_with, reactions_with, NetFault, Grown-more, Grown-network, Grown-names_with, Grown-reactions_with, self_says, says_self, has_name, none_said, in_left, in_right, net_code, is_self, both_of, names_of, complexes_of, reactions_of, statement_fault, StatementGives, TextCode, NoMemory}
+use Rattle.std.specs.Prelude.{map}
 use Rattle.crn_net.specs.declared.fault.NetFault.TheVariants as net
-use Rattle.crn_net.proofs.CallerLemmas.{Grown-more, Grown-network, Grown-names_with, Grown-reactions_with, self_says, says_self}
-use Rattle.crn_vec.proofs.CallerLemmas.{has_name, none_said, in_left, in_right}
 use Rattle.crn_text.proofs.Complexes.{complexes_more}
-use Rattle.crn_text.specs.Codes.{net_code}
-use Rattle.crn_text.specs.Faults.{is_self, both_of, names_of, complexes_of, reactions_of, statement_fault}
-use Rattle.crn_text.specs.Inner.Pieces.{StatementGives}
-use Rattle.crn_text.specs.declared.fault.TextCode.{TextCode}
-use Rattle.crn_text.specs.declared.fault.TextCode.TheVariants.{NoMemory}
 
 pub names_all : (ss : List Statement) (s : Statement) (old : Net) → Grown ss old → names_with old s ≡ names_of (ss ++ s ∷ [])
 names_all ss s old g = Grown-names_with ss s old g

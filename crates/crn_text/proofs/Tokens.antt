@@ -1,17 +1,6 @@
 -- The tokens of a text.
-use Rattle.std.proofs.Common.{◌≡◌, ℕ, zero, suc, ◌-◌, ◌<◌, ◌≤◌, Bool, true, false, eqb, List, [], ◌∷◌, ◌++◌, Bor, length, take, drop, get_or, refl, sym, ap, ap₂, ◌∙◌, inl, inr, arith}
-use Rattle.std.specs.Prelude.{codes, nat_eq}
-use Rattle.std.specs.List.{prefix_len, starts_with, list_all}
-use Rattle.std.proofs.lemmas.Bool.{cases_Bool, ne_eqb}
-use Rattle.std.proofs.lemmas.List.{length-take, take-append-drop}
-use Rattle.std.proofs.lemmas.List.Sums.{prefix_len-le-length}
-use Rattle.crn_vec.specs.Network.{is_letter, is_name_byte, begins_name}
-use Rattle.crn_text.specs.Tokens.{token, first_token, tokens_after, tokens, is_digit, is_blank}
-use Rattle.crn_text.specs.Sides.{is_name_kind, is_number_kind}
-use Rattle.crn_text.specs.Inner.Pieces.{Begins, BeginsWith}
-use Rattle.crn_text.specs.declared.token.TokenKind.{TokenKind}
+use Rattle.crn_text.proofs.Prelude.{◌≡◌, ℕ, zero, suc, ◌-◌, ◌<◌, ◌≤◌, Bool, true, false, eqb, List, [], ◌∷◌, ◌++◌, Bor, length, take, drop, get_or, refl, sym, ap, ap₂, ◌∙◌, inl, inr, arith, codes, nat_eq, prefix_len, starts_with, list_all, cases_Bool, ne_eqb, length-take, take-append-drop, prefix_len-le-length, is_letter, is_name_byte, begins_name, token, first_token, tokens_after, tokens, is_digit, is_blank, is_name_kind, is_number_kind, Begins, BeginsWith, TokenKind, Number, Name, Plus, Arrow, BothWays, Back, Stray}
 use Rattle.crn_text.proofs.Lists.{one_more}
-use Rattle.crn_text.specs.declared.token.TokenKind.TheVariants.{Number, Name, Plus, Arrow, BothWays, Back, Stray}
 
 pub begins_number : (rest : List ℕ) → 0 < length rest → is_digit (get_or rest 0 0) ≡ true → Begins rest Number (prefix_len is_digit rest)
 unfolding first_token

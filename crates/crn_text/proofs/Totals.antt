@@ -1,14 +1,5 @@
 -- The sums of a side: the amount of each name.
-use Rattle.std.proofs.Common.{◌≡◌, ℕ, ◌≤◌, false, List, [], ◌∷◌, ◌++◌, refl, ap, inl, inr, arith}
-use Rattle.std.specs.Prelude.{◌⊎◌, ◌||◌, if◌then◌else◌, nat_lt}
-use Rattle.std.specs.List.{list_any}
-use Rattle.std.specs.Str.{bytes_eq}
-use Rattle.std.proofs.lemmas.Bool.{cases_Bool, or_parts, ltb-false}
-use Rattle.std.proofs.lemmas.Slice.Eq.{bytes_eq-Decides}
-use Rattle.std.proofs.lemmas.List.Sums.{sum_by-append, sum_by-cons}
-use Rattle.crn_vec.specs.Network.{amount_in}
-use Rattle.crn_vec.specs.declared.limits.TheConstants.{MAX_AMOUNT}
-use Rattle.crn_text.specs.Faults.{has_large}
+use Rattle.crn_text.proofs.Prelude.{◌≡◌, ℕ, ◌≤◌, false, List, [], ◌∷◌, ◌++◌, refl, ap, inl, inr, arith, ◌⊎◌, ◌||◌, if◌then◌else◌, nat_lt, list_any, bytes_eq, cases_Bool, or_parts, ltb-false, bytes_eq-Decides, sum_by-append, sum_by-cons, amount_in, MAX_AMOUNT, has_large}
 
 -- the amount of a name in a term
 abbrev share : List ℕ → List ℕ × ℕ → ℕ

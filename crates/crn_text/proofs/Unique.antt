@@ -1,14 +1,5 @@
 -- A text spells at most one network, since networks with the same names and the same reactions, as amounts, are equal.
-use Rattle.std.proofs.Common.{◌≡◌, ℕ, suc, ◌<◌, ◌≤◌, List, [], ◌∷◌, length, get_or, map, refl, sym, ap, ap₂, subst, ◌∙◌, inl, inr, arith}
-use Rattle.std.specs.Prelude.{ℤ}
-use Rattle.std.specs.List.{flat_map}
-use Rattle.std.proofs.lemmas.Bool.{cases_lt}
-use Rattle.crn_vec.proofs.CallerLemmas.{same_place, IsNumberedInOrder, appears_in_order, pair, ends_below}
-use Rattle.crn_vec.specs.Lists.{IsIn, AreDistinct, firsts}
-use Rattle.crn_vec.specs.Network.{Net, IsPartialNetwork, ends, sides_of, sides_eq, said_by}
-use Rattle.crn_text.specs.Tokens.{lines}
-use Rattle.crn_text.specs.Sides.{all_statements}
-use Rattle.crn_text.specs.Spells.{Spells}
+use Rattle.crn_text.proofs.Prelude.{◌≡◌, ℕ, suc, ◌<◌, ◌≤◌, List, [], ◌∷◌, length, get_or, map, refl, sym, ap, ap₂, subst, ◌∙◌, inl, inr, arith, ℤ, flat_map, cases_lt, same_place, IsNumberedInOrder, appears_in_order, pair, ends_below, IsIn, AreDistinct, firsts, Net, IsPartialNetwork, ends, sides_of, sides_eq, said_by, lines, all_statements, Spells}
 
 lists_same : {A : Type 0} (xs ys : List A) (e : A) → length xs ≡ length ys → ((k : ℕ) → k < length xs → get_or xs k e ≡ get_or ys k e) → xs ≡ ys
 lists_same [] [] e long at = refl

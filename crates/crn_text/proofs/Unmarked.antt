@@ -1,12 +1,5 @@
 -- Bytes that begin no arrow are no stray marks.
-use Rattle.std.proofs.Common.{◌≡◌, ℕ, ◌+◌, ◌-◌, ◌≤◌, Bool, true, false, eqb, List, [], ◌∷◌, length, take, drop, refl, sym, ◌∙◌, inl, inr, arith}
-use Rattle.std.specs.List.{prefix_len, list_any}
-use Rattle.std.proofs.lemmas.Bool.{cases_Bool, or_parts}
-use Rattle.std.proofs.lemmas.List.{length-take}
-use Rattle.crn_vec.specs.Network.{is_letter, is_name_byte}
-use Rattle.crn_text.specs.Tokens.{first_token, tokens_after, tokens, is_digit, is_blank}
-use Rattle.crn_text.specs.Sides.{is_stray}
-use Rattle.crn_text.specs.Inner.Pieces.{is_unmarked}
+use Rattle.crn_text.proofs.Prelude.{◌≡◌, ℕ, ◌+◌, ◌-◌, ◌≤◌, Bool, true, false, eqb, List, [], ◌∷◌, length, take, drop, refl, sym, ◌∙◌, inl, inr, arith, prefix_len, list_any, cases_Bool, or_parts, length-take, is_letter, is_name_byte, first_token, tokens_after, tokens, is_digit, is_blank, is_stray, is_unmarked}
 use Rattle.crn_text.proofs.Lists.{one_more}
 
 pub run_fits : (q : ℕ → Bool) (bs : List ℕ) → prefix_len q bs ≤ length bs

@@ -1,15 +1,5 @@
 -- A text whose first byte but blanks is no zero is not the single number zero.
-use Rattle.std.proofs.Common.{◌≡◌, ℕ, zero, suc, ◌-◌, ◌≤◌, ◌==◌, true, false, List, [], ◌∷◌, take, drop, get_or, refl, ap, subst, ◌∙◌, arith}
-use Rattle.std.specs.Prelude.{nat_le}
-use Rattle.std.specs.List.{list_all, prefix_len}
-use Rattle.std.specs.Str.Parse.{digits_value}
-use Rattle.std.proofs.lemmas.Bool.{and_parts, leb-true, eqb-false, ne_eqb}
-use Rattle.std.proofs.lemmas.Str.Parse.{digits_value-take-le}
-use Rattle.crn_text.specs.Tokens.{Token, token, tokens, tokens_after, is_blank, is_digit, IsToken}
-use Rattle.crn_text.specs.Sides.{is_zero}
-use Rattle.crn_text.specs.Inner.Pieces.{first_byte}
-use Rattle.crn_text.specs.declared.token.TokenKind.{TokenKind}
-use Rattle.crn_text.specs.declared.token.TokenKind.TheVariants.{Number, Name, Plus, Arrow, BothWays, Back, Stray}
+use Rattle.crn_text.proofs.Prelude.{◌≡◌, ℕ, zero, suc, ◌-◌, ◌≤◌, ◌==◌, true, false, List, [], ◌∷◌, take, drop, get_or, refl, ap, subst, ◌∙◌, arith, nat_le, list_all, prefix_len, digits_value, and_parts, leb-true, eqb-false, ne_eqb, digits_value-take-le, Token, token, tokens, tokens_after, is_blank, is_digit, IsToken, is_zero, first_byte, TokenKind, Number, Name, Plus, Arrow, BothWays, Back, Stray}
 use Rattle.crn_text.proofs.Numbers.{digit_is_value}
 use Rattle.crn_text.proofs.OneSplit.{found}
 use Rattle.crn_text.proofs.Tokens.{tokens_skip, no_blank_there, tokens_first}

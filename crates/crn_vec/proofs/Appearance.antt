@@ -1,7 +1,5 @@
 -- Numbering by first appearance, and the same read from left to right with the count of what has appeared.
-use Rattle.std.proofs.Common.{◌≡◌, ℕ, zero, suc, ◌<◌, ◌⊎◌, inl, inr, List, [], ◌∷◌, length, get_or, arith}
-use Rattle.std.proofs.lemmas.Bool.{cases_lt}
-use Rattle.crn_vec.specs.Network.{IsFirstAppearance}
+use Rattle.crn_vec.proofs.Prelude.{◌≡◌, ℕ, zero, suc, ◌<◌, ◌⊎◌, inl, inr, List, [], ◌∷◌, length, get_or, arith, cases_lt, IsFirstAppearance}
 
 -- each number that appears for the first time is the next one, and those below `next` are known
 abbrev pub IsNumberedInOrder : ℕ → List ℕ → Type 0

@@ -1,7 +1,5 @@
 -- Ascending lists of numbers, and ranges.
-use Rattle.std.proofs.Common.{◌≡◌, ℕ, zero, suc, ◌+◌, ◌<◌, ◌≤◌, List, [], ◌∷◌, ◌++◌, length, get_or, map, inl, inr, refl, sym, ap, ◌∙◌, arith}
-use Rattle.std.specs.List.{range_with_len, AllByRecursion}
-use Rattle.crn_vec.specs.Lists.{IsIn, IsAbove, IsAscending}
+use Rattle.crn_vec.proofs.Prelude.{◌≡◌, ℕ, zero, suc, ◌+◌, ◌<◌, ◌≤◌, List, [], ◌∷◌, ◌++◌, length, get_or, map, inl, inr, refl, sym, ap, ◌∙◌, arith, range_with_len, AllByRecursion, IsIn, IsAbove, IsAscending}
 use Rattle.crn_vec.proofs.Lists.{at_in}
 use Rattle.crn_vec.proofs.Entries.{eq_or}
 

@@ -1,26 +1,5 @@
 -- A signal over the pairs of a shape is a signal of its network: over the other order of a pair the sum is the opposite one.
-use Rattle.std.proofs.Common.{◌≡◌, ℕ, zero, suc, ◌<◌, ◌⊎◌, inl, inr, List, [], ◌∷◌, length, get_or, take, refl, sym, ap, ap₂, subst, ◌∙◌, arith}
-use Rattle.std.specs.Prelude.{ℤ, pos, negsuc, neg_ℤ, ◌+ℤ◌, ◌-ℤ◌, Some, slice_index_or}
-use Rattle.std.specs.List.{AllZip, AllByRecursion}
-use Rattle.std.proofs.lemmas.Int.{ints}
-use Rattle.std.proofs.lemmas.List.{length-map, ext_get_or}
-use Rattle.crn_vec.specs.declared.signs.Sign.{Sign}
-use Rattle.crn_vec.specs.declared.signs.Sign.TheVariants.{Zero, Plus, Minus}
-use Rattle.crn_vec.specs.Lists.{IsIn}
-use Rattle.crn_vec.specs.Vectors.{dot, entry, HasSign}
-use Rattle.crn_vec.specs.Network.{Net, IsNetwork}
-use Rattle.crn_vec.specs.Linkage.{IsLinked, SameClass}
-use Rattle.crn_vec.specs.Walks.{LeadsTo}
-use Rattle.crn_vec.specs.Strong.{SameStrong, IsTerminal}
-use Rattle.crn_vec.specs.CutPairs.{IsBetween, IsFreeStep, IsOnSide, IsCutPair, IsTerminalPair, IsFirstOfPair}
-use Rattle.crn_vec.specs.Sums.{SumsTo}
-use Rattle.crn_vec.specs.Deficiency.{IsComplex}
-use Rattle.crn_vec.specs.Confluence.{InConfluenceSpace}
-use Rattle.crn_vec.specs.NetSystems.{reaction_system}
-use Rattle.crn_vec.specs.Problems.{opposite}
-use Rattle.crn_vec.specs.Concordance.{sign, image}
-use Rattle.crn_vec.specs.Signals.{Pair, Shape, shelf_at, shelf_of, HasPairSign, IsSignal}
-use Rattle.crn_vec.specs.NetSignals.{top_at, complex_of, IsSignalOf, IsPairOf, IsShapeOf, SignalsAreOfShape}
+use Rattle.crn_vec.proofs.Prelude.{◌≡◌, ℕ, zero, suc, ◌<◌, ◌⊎◌, inl, inr, List, [], ◌∷◌, length, get_or, take, refl, sym, ap, ap₂, subst, ◌∙◌, arith, ℤ, pos, negsuc, neg_ℤ, ◌+ℤ◌, ◌-ℤ◌, Some, slice_index_or, AllZip, AllByRecursion, ints, length-map, ext_get_or, Sign, Zero, Plus, Minus, IsIn, dot, entry, HasSign, Net, IsNetwork, IsLinked, SameClass, LeadsTo, SameStrong, IsTerminal, IsBetween, IsFreeStep, IsOnSide, IsCutPair, IsTerminalPair, IsFirstOfPair, SumsTo, IsComplex, InConfluenceSpace, reaction_system, opposite, sign, image, Pair, Shape, shelf_at, shelf_of, HasPairSign, IsSignal, top_at, complex_of, IsSignalOf, IsPairOf, IsShapeOf, SignalsAreOfShape}
 use Rattle.crn_vec.proofs.Sums.{plus, dot-plus, length-plus, entry-plus}
 use Rattle.crn_vec.proofs.SumLaws.{sums_one}
 use Rattle.crn_vec.proofs.SideLaws.{is_between, free_back}

@@ -1,19 +1,7 @@
 -- A regular network whose confluence space is a line has a confluence vector, and as good as one.
-use Rattle.std.proofs.Common.{◌≡◌, ◌≢◌, ◌⊎◌, ℕ, zero, suc, ◌<◌, List, [], ◌∷◌, length, refl, sym, ap, subst, ◌∙◌, inl, inr, arith}
-use Rattle.std.specs.Prelude.{ℤ, pos, negsuc, ◌*ℤ◌, ◌≤ℤ◌, ◌↔◌, neg_ℤ}
-use Rattle.std.specs.List.{AllByRecursion}
-use Rattle.std.proofs.lemmas.Int.{ints}
+use Rattle.crn_vec.proofs.Prelude.{◌≡◌, ◌≢◌, ◌⊎◌, ℕ, zero, suc, ◌<◌, List, [], ◌∷◌, length, refl, sym, ap, subst, ◌∙◌, inl, inr, arith, ℤ, pos, negsuc, ◌*ℤ◌, ◌≤ℤ◌, neg_ℤ, AllByRecursion, ints, IsIn, Net, IsNetwork, JoinsTwo, IsLinked, SameClass, entry, dot, column, combination_at, IsNumberOf, Reaches, SameStrong, IsTerminal, StaysStrong, IsWeaklyReversible, AreMarks, SumsTo, IsComplex, IsPositiveDependence, IsRegular, InConfluenceSpace, HasConfluenceLine, IsNonzero, GathersAt, IsConfluenceVector, ArePositiveMultiples, negative, ConfluenceVectorsAreOne}
+use Rattle.std.specs.Prelude.{◌↔◌}
 use lib.IntN.{*ℤ_comm, *ℤ-zero, zero-*ℤ}
-use Rattle.crn_vec.specs.Lists.{IsIn}
-use Rattle.crn_vec.specs.Network.{Net, IsNetwork, JoinsTwo}
-use Rattle.crn_vec.specs.Linkage.{IsLinked, SameClass}
-use Rattle.crn_vec.specs.Vectors.{entry, dot, column}
-use Rattle.crn_vec.specs.Rank.{combination_at}
-use Rattle.crn_vec.specs.Walks.{IsNumberOf}
-use Rattle.crn_vec.specs.Strong.{Reaches, SameStrong, IsTerminal, StaysStrong, IsWeaklyReversible}
-use Rattle.crn_vec.specs.Sums.{AreMarks, SumsTo}
-use Rattle.crn_vec.specs.Deficiency.{IsComplex, IsPositiveDependence}
-use Rattle.crn_vec.specs.Confluence.{IsRegular, InConfluenceSpace, HasConfluenceLine, IsNonzero, GathersAt, IsConfluenceVector, ArePositiveMultiples, negative, ConfluenceVectorsAreOne}
 use Rattle.crn_vec.proofs.Ring.{no_zero, mul-neg, is_zero, neg-mul, minus_one}
 use Rattle.crn_vec.proofs.KindLaws.{up_up}
 use Rattle.crn_vec.proofs.Orthogonal.{length-listed}

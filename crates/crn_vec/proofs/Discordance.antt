@@ -1,22 +1,6 @@
 -- A table is discordant if and only if some full prefix of its problem is feasible.
-use Rattle.std.proofs.Common.{◌≡◌, ℕ, zero, suc, ◌+◌, ◌<◌, ◌⊎◌, inl, inr, List, [], ◌∷◌, ◌++◌, length, get_or, map, drop, take, replicate, Bool, true, false, ◌&&◌, cond, refl, sym, ap, ap₂, subst, ◌∙◌, arith, eqb}
-use Rattle.std.specs.Prelude.{ℤ, pos, negsuc}
-use Rattle.std.specs.List.{AllZip, AllByRecursion}
-use Rattle.std.proofs.lemmas.Int.{ints}
-use Rattle.std.proofs.lemmas.Bool.{false≢true, eq-eqb}
-use Rattle.std.proofs.lemmas.List.{length-append, length-replicate, length-drop, get_or-drop, ext_get_or, length-map}
-use Rattle.std.proofs.Math.Seq.{take-append_seam}
-use Rattle.crn_vec.specs.declared.signs.Sign.{Sign}
-use Rattle.crn_vec.specs.declared.signs.Sign.TheVariants.{Zero, Plus, Minus}
-use Rattle.crn_vec.specs.declared.signs.Kind.{Kind}
-use Rattle.crn_vec.specs.declared.signs.Kind.TheVariants.{Pos, Neg, Free, Zero as ZeroKind}
-use Rattle.crn_vec.specs.Vectors.{Mat, dot, entry}
-use Rattle.crn_vec.specs.Elementary.{InRowSpace}
-use Rattle.crn_vec.specs.Systems.{HasKind, IsSolution}
+use Rattle.crn_vec.proofs.Prelude.{◌≡◌, ℕ, zero, suc, ◌+◌, ◌<◌, ◌⊎◌, inl, inr, List, [], ◌∷◌, ◌++◌, length, get_or, map, drop, take, replicate, Bool, true, false, ◌&&◌, cond, refl, sym, ap, ap₂, subst, ◌∙◌, arith, eqb, ℤ, pos, negsuc, AllZip, AllByRecursion, ints, false≢true, eq-eqb, length-append, length-replicate, length-drop, get_or-drop, ext_get_or, length-map, take-append_seam, Sign, Zero, Plus, Minus, Kind, Pos, Neg, Free, ZeroKind, Mat, dot, entry, InRowSpace, HasKind, IsSolution, IsFull, IsFeasible, all_zero, SolvesA, SolvesB, IsTable, IsDiscordant, GoesWith, IsNought, HasPositive, HasNegative, image, shares, signed_by, product, products, is_plus, is_minus, some_sign, kind_of_sum, column_kind, kind_of_sign, row_kinds, concordance, sign, DiscordantIfFeasible}
 use Rattle.crn_vec.proofs.Entries.{zip_long}
-use Rattle.crn_vec.specs.Problems.{IsFull, IsFeasible, all_zero, SolvesA, SolvesB}
-use Rattle.crn_vec.specs.Concordance.{IsTable, IsDiscordant, GoesWith, IsNought, HasPositive, HasNegative, image, shares, signed_by, product, products, is_plus, is_minus, some_sign, kind_of_sum, column_kind, kind_of_sign, row_kinds, concordance, sign}
-use Rattle.crn_vec.specs.TableLaws.{DiscordantIfFeasible}
 use Rattle.crn_vec.proofs.TableKinds.{zip_append, zip_prefix, zip_back, length-columns}
 
 pub length-image : (m : Mat) (z : List ℤ) → length (image m z) ≡ length m.rows

@@ -1,8 +1,5 @@
 -- The ends of reactions that join two different complexes of so many.
-use Rattle.std.proofs.Common.{ℕ, ◌<◌, List, [], ◌∷◌, inl, inr, arith}
-use Rattle.std.specs.List.{AllByRecursion}
-use Rattle.crn_vec.specs.Lists.{IsIn}
-use Rattle.crn_vec.specs.Network.{JoinsTwo, ends}
+use Rattle.crn_vec.proofs.Prelude.{ℕ, ◌<◌, List, [], ◌∷◌, inl, inr, arith, AllByRecursion, IsIn, JoinsTwo, ends}
 
 -- each end is below the number of complexes
 pub ends_below : (count : ℕ) (rs : List (ℕ × ℕ)) → AllByRecursion (JoinsTwo count) rs → (c : ℕ) → IsIn c (ends rs) → c < count

@@ -1,10 +1,5 @@
 -- Lists by their entries: which places are inside, lists related place by place, and dot products of one entry more.
-use Rattle.std.proofs.Common.{◌≡◌, ◌≢◌, ℕ, zero, suc, ◌+◌, ◌-◌, ◌<◌, ◌≤◌, ◌⊎◌, inl, inr, List, [], ◌∷◌, ◌++◌, length, map, get_or, take, set, refl, sym, ap, ap₂, ◌∙◌, add-one, arith}
-use Rattle.std.specs.Prelude.{ℤ, pos, ◌+ℤ◌, ◌*ℤ◌, unsigned_abs, nat_abs, slice_index}
-use Rattle.std.specs.List.{AllZip}
-use Rattle.std.proofs.lemmas.Int.{ints}
-use Rattle.std.proofs.lemmas.List.{get_or-map, length-map, take_more}
-use Rattle.crn_vec.specs.Vectors.{entry, dot, AreWithin}
+use Rattle.crn_vec.proofs.Prelude.{◌≡◌, ◌≢◌, ℕ, zero, suc, ◌+◌, ◌-◌, ◌<◌, ◌≤◌, ◌⊎◌, inl, inr, List, [], ◌∷◌, ◌++◌, length, map, get_or, take, set, refl, sym, ap, ap₂, ◌∙◌, add-one, arith, ℤ, pos, ◌+ℤ◌, ◌*ℤ◌, unsigned_abs, nat_abs, slice_index, AllZip, ints, get_or-map, length-map, take_more, entry, dot, AreWithin}
 
 pub past_end : (v : List ℤ) (k : ℕ) → length v ≤ k → entry v k ≡ pos 0
 past_end [] k h = refl

@@ -1,8 +1,5 @@
 -- A network is weakly reversible if and only if the two complexes of each reaction have one label of strong classes.
-use Rattle.std.proofs.Common.{◌≡◌, ◌≢◌, ℕ, ◌<◌, List, length, get_or, inl, sym, ap, subst, ◌∙◌, arith}
-use Rattle.crn_vec.specs.Lists.{IsIn}
-use Rattle.crn_vec.specs.Network.{Net, IsNetwork}
-use Rattle.crn_vec.specs.Strong.{AreRightStrongLabels, StaysStrong, IsWeaklyReversible}
+use Rattle.crn_vec.proofs.Prelude.{◌≡◌, ◌≢◌, ℕ, ◌<◌, List, length, get_or, inl, sym, ap, subst, ◌∙◌, arith, IsIn, Net, IsNetwork, AreRightStrongLabels, StaysStrong, IsWeaklyReversible}
 use Rattle.crn_vec.proofs.WalkLaws.{class_link, weakly_reversible_by_reactions}
 use Rattle.crn_vec.proofs.Reached.{inside_at, place_of, reaction_in}
 

@@ -1,19 +1,6 @@
 -- A regular network has fewer pairs than complexes, so its sign problem of signals is lawful.
-use Rattle.std.proofs.Common.{◌≡◌, ◌≢◌, ℕ, zero, suc, ◌≤◌, ◌<◌, ◌⊎◌, inl, inr, List, [], ◌∷◌, length, get_or, map, refl, sym, ap, ap₂, subst, ◌∙◌, arith}
-use Rattle.std.specs.Prelude.{ℤ, pos, ◌+ℤ◌, ◌-ℤ◌, ◌*ℤ◌, Option}
-use Rattle.std.proofs.lemmas.Int.{ints}
-use Rattle.std.proofs.lemmas.List.{get_or-map, length-map}
+use Rattle.crn_vec.proofs.Prelude.{◌≡◌, ◌≢◌, ℕ, zero, suc, ◌≤◌, ◌<◌, ◌⊎◌, inl, inr, List, [], ◌∷◌, length, get_or, map, refl, sym, ap, ap₂, subst, ◌∙◌, arith, ℤ, pos, ◌+ℤ◌, ◌-ℤ◌, ◌*ℤ◌, Option, ints, get_or-map, length-map, dot, entry, AreOfLength, Net, IsNetwork, minus, IsLinked, IsReaction, IsBetween, IsFreeStep, IsOnSide, IsCutPair, IsTerminalPair, IsFirstOfPair, AreMarks, IsRegular, reaction_system, Pair, Shape, IsPairOf, IsShapeOf, NetworksAreLawful}
 use lib.IntN.{*ℤ-zero, zero-*ℤ}
-use Rattle.crn_vec.specs.Vectors.{dot, entry, AreOfLength}
-use Rattle.crn_vec.specs.Network.{Net, IsNetwork, minus}
-use Rattle.crn_vec.specs.Linkage.{IsLinked}
-use Rattle.crn_vec.specs.Strong.{IsReaction}
-use Rattle.crn_vec.specs.CutPairs.{IsBetween, IsFreeStep, IsOnSide, IsCutPair, IsTerminalPair, IsFirstOfPair}
-use Rattle.crn_vec.specs.Sums.{AreMarks}
-use Rattle.crn_vec.specs.Confluence.{IsRegular}
-use Rattle.crn_vec.specs.NetSystems.{reaction_system}
-use Rattle.crn_vec.specs.Signals.{Pair, Shape}
-use Rattle.crn_vec.specs.NetSignals.{IsPairOf, IsShapeOf, NetworksAreLawful}
 use Rattle.crn_vec.proofs.Lists.{at_in}
 use Rattle.crn_vec.proofs.Entries.{lt_or, past_end, zip_at, zip_long}
 use Rattle.crn_vec.proofs.Sums.{comb, dots, dot-comm, dot_zero, transposed, entry-dots, length-dots}

@@ -1,12 +1,5 @@
 -- The members of a list that pass a test: membership, distinct and ascending lists, one member more at the end, and their count.
-use Rattle.std.proofs.Common.{◌≡◌, ℕ, Bool, true, false, ◌+◌, ◌≤◌, List, [], ◌∷◌, ◌++◌, length, inl, inr, sym, ap, subst, ◌∙◌, refl, arith}
-use Rattle.std.specs.Prelude.{not, count_by}
-use Rattle.std.specs.List.{filter}
-use Rattle.std.proofs.lemmas.List.{length-append}
-use Rattle.std.proofs.lemmas.List.Filters.{length-filter_both}
-use Rattle.std.proofs.lemmas.List.Sums.{length-filter}
-use Rattle.std.proofs.lemmas.Bool.{cases_Bool}
-use Rattle.crn_vec.specs.Lists.{IsIn, AreDistinct, IsAbove, IsAscending}
+use Rattle.crn_vec.proofs.Prelude.{◌≡◌, ℕ, Bool, true, false, ◌+◌, ◌≤◌, List, [], ◌∷◌, ◌++◌, length, inl, inr, sym, ap, subst, ◌∙◌, refl, arith, not, count_by, filter, length-append, length-filter_both, length-filter, cases_Bool, IsIn, AreDistinct, IsAbove, IsAscending}
 use Rattle.crn_vec.proofs.Ascending.{above_lower, above_ascending}
 
 pub filter_from : {A : Type 0} (p : A → Bool) (xs : List A) (y : A) → IsIn y (filter p xs) → IsIn y xs × (p y ≡ true)

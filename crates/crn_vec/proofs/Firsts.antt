@@ -1,11 +1,6 @@
 -- The members of a list, each once, in order of first appearance.
-use Rattle.std.proofs.Common.{◌≡◌, ◌⊎◌, ◌≤◌, Bool, true, false, not, ◌&&◌, List, [], ◌∷◌, ◌++◌, length, map, refl, sym, ap, subst, ◌∙◌, inl, inr, arith}
-use Rattle.std.specs.List.{filter}
-use Rattle.std.specs.Bool.{Decides}
-use Rattle.std.proofs.lemmas.Bool.{cases_Bool}
-use Rattle.std.proofs.lemmas.List.{append-nil, length-append}
-use Rattle.std.proofs.lemmas.List.Elements.{filter-append}
-use Rattle.crn_vec.specs.Lists.{IsIn, AreDistinct, firsts}
+use Rattle.crn_vec.proofs.Prelude.{◌≡◌, ◌⊎◌, ◌≤◌, Bool, true, false, ◌&&◌, List, [], ◌∷◌, ◌++◌, length, map, refl, sym, ap, subst, ◌∙◌, inl, inr, arith, filter, Decides, cases_Bool, append-nil, length-append, filter-append, IsIn, AreDistinct, firsts}
+use Rattle.std.proofs.Common.{not}
 use Rattle.crn_vec.proofs.Filters.{filter_from, filter_has, filter_distinct}
 
 -- ---- filter

@@ -1,9 +1,5 @@
 -- Numbers that 128 bits hold.
-use Rattle.std.proofs.Common.{◌≡◌, ℕ, ◌+◌, ◌*◌, ◌^◌, ◌<◌, ◌≤◌, arith, to_z, of_z}
-use Rattle.std.specs.Prelude.{ℤ, ◌+ℤ◌, ◌*ℤ◌, unsigned_abs}
-use Rattle.std.specs.Int.{w128}
-use Rattle.std.proofs.lemmas.Int.{ints, to_z-of_z, fits_signed_from_abs, unsigned_abs-mul}
-use Rattle.std.proofs.Math.Nat.{mul-le-mul}
+use Rattle.crn_vec.proofs.Prelude.{◌≡◌, ℕ, ◌+◌, ◌*◌, ◌^◌, ◌<◌, ◌≤◌, arith, to_z, of_z, ℤ, ◌+ℤ◌, ◌*ℤ◌, unsigned_abs, w128, ints, to_z-of_z, fits_signed_from_abs, unsigned_abs-mul, mul-le-mul}
 
 pub held : (x : ℤ) → unsigned_abs x < 2 ^ 127 → to_z w128 (of_z w128 x) ≡ x
 held x h = to_z-of_z w128 x (fits_signed_from_abs w128 x (omega arith))

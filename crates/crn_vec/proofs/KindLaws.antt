@@ -1,14 +1,9 @@
 -- What a kind requires of a coordinate in a solution and in a cut: signs of products, and what follows from a
 -- negative product.
-use Rattle.std.proofs.Common.{◌≡◌, ◌≢◌, ℕ, ◌⊎◌, inl, inr, arith, List, ap, refl, suc, zero}
-use Rattle.std.specs.Prelude.{ℤ, pos, negsuc, ◌+ℤ◌, ◌*ℤ◌, ◌≤ℤ◌, ◌<ℤ◌, true}
-use Rattle.std.proofs.lemmas.Int.{ints}
-use Rattle.std.proofs.lemmas.Bool.{false≢true}
+use Rattle.crn_vec.proofs.Prelude.{◌≡◌, ◌≢◌, ℕ, ◌⊎◌, inl, inr, arith, List, ap, refl, suc, zero, ℤ, pos, negsuc, ◌+ℤ◌, ◌*ℤ◌, ◌≤ℤ◌, ◌<ℤ◌, ints, false≢true, Kind, Pos, Neg, NonNeg, Free, entry, dot, HasKind, MayTake, MayWeigh, is_signed}
+use Rattle.std.specs.Prelude.{true}
 use lib.IntN.{*ℤ_comm, *ℤ-zero, zero-*ℤ}
-use Rattle.crn_vec.specs.declared.signs.Kind.{Kind}
-use Rattle.crn_vec.specs.declared.signs.Kind.TheVariants.{Pos, Neg, NonNeg, Zero, Free}
-use Rattle.crn_vec.specs.Vectors.{entry, dot}
-use Rattle.crn_vec.specs.Systems.{HasKind, MayTake, MayWeigh, is_signed}
+use Rattle.crn_vec.specs.declared.signs.Kind.TheVariants.{Zero}
 use Rattle.crn_vec.proofs.Entries.{eq_or}
 use Rattle.crn_vec.proofs.Orthogonal.{part, negative_at}
 

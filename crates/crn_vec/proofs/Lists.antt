@@ -1,14 +1,6 @@
 -- Lists of any kind: members, distinct members, facts of all members, lists with a member put at the end, and pairs.
-use Rattle.std.proofs.Common.{◌≡◌, ◌⊎◌, ℕ, Bool, true, false, zero, suc, ◌<◌, ◌≤◌, List, [], ◌∷◌, ◌++◌, length, get_or, map, take, set, refl, sym, ap, subst, ◌∙◌, inl, inr, arith, drop, ◌↔◌, IsTrue}
-use Rattle.std.specs.Prelude.{◌&&◌, ◌||◌, not, Result, Ok, Err, IfOk}
-use Rattle.std.specs.List.{AllByRecursion, list_any, flat_map}
-use Rattle.std.specs.Bool.{Decides}
-use Rattle.std.proofs.lemmas.Bool.{cases_Bool, false≢true}
-use Rattle.std.proofs.lemmas.List.{append-nil}
-use Rattle.std.proofs.lemmas.List.Concat.{flat_map-append}
-use Rattle.std.proofs.lemmas.List.Folds.{list_any-append}
-use Rattle.std.proofs.Math.Seq.{take-append_seam}
-use Rattle.crn_vec.specs.Lists.{IsIn, AreDistinct}
+use Rattle.crn_vec.proofs.Prelude.{◌≡◌, ◌⊎◌, ℕ, Bool, true, false, zero, suc, ◌<◌, ◌≤◌, List, [], ◌∷◌, ◌++◌, length, get_or, map, take, set, refl, sym, ap, subst, ◌∙◌, inl, inr, arith, drop, ◌↔◌, IsTrue, ◌||◌, not, Result, Ok, Err, IfOk, AllByRecursion, list_any, flat_map, Decides, cases_Bool, false≢true, append-nil, flat_map-append, list_any-append, take-append_seam, IsIn, AreDistinct}
+use Rattle.std.specs.Prelude.{◌&&◌}
 
 pub in_left : {A : Type 0} (x : A) (xs ys : List A) → IsIn x xs → IsIn x (xs ++ ys)
 in_left x [] ys h = absurd h

@@ -1,8 +1,5 @@
 -- More vectors than they have entries are dependent.
-use Rattle.std.proofs.Common.{◌≡◌, ℕ, ◌<◌, inl, inr, arith, List, [], ◌∷◌, ap, refl, suc, zero, length, sym, subst}
-use Rattle.std.specs.Prelude.{ℤ, pos}
-use Rattle.std.proofs.lemmas.Int.{ints}
-use Rattle.crn_vec.specs.Vectors.{dot, AreOfLength, scale}
+use Rattle.crn_vec.proofs.Prelude.{◌≡◌, ℕ, ◌<◌, inl, inr, arith, List, [], ◌∷◌, ap, refl, suc, zero, length, sym, subst, ℤ, pos, ints, dot, AreOfLength, scale}
 use Rattle.crn_vec.proofs.Sums.{plus, zeros, comb, dot-comm}
 use Rattle.crn_vec.proofs.Null.{Zero, Solves, null}
 

@@ -1,13 +1,6 @@
 -- The rows of the systems of a network: how long they are, and what combinations of its vectors have past the species.
-use Rattle.std.proofs.Common.{◌≡◌, ℕ, zero, suc, ◌<◌, ◌≤◌, List, [], ◌∷◌, length, get_or, refl, sym, ap, ◌∙◌, arith}
-use Rattle.std.specs.Prelude.{ℤ, pos, ◌*ℤ◌}
-use Rattle.std.proofs.lemmas.List.{length-map, ext_get_or}
+use Rattle.crn_vec.proofs.Prelude.{◌≡◌, ℕ, zero, suc, ◌<◌, ◌≤◌, List, [], ◌∷◌, length, get_or, refl, sym, ap, ◌∙◌, arith, ℤ, pos, ◌*ℤ◌, length-map, ext_get_or, IsIn, Net, IsNetwork, JoinsTwo, reaction_vector, entry, dot, column, vectors, by_species}
 use lib.IntN.{*ℤ-zero}
-use Rattle.crn_vec.specs.Lists.{IsIn}
-use Rattle.crn_vec.specs.Network.{Net, IsNetwork, JoinsTwo, reaction_vector}
-use Rattle.crn_vec.specs.Vectors.{entry, dot, column}
-use Rattle.crn_vec.specs.Deficiency.{vectors}
-use Rattle.crn_vec.specs.NetSystems.{by_species}
 use Rattle.crn_vec.proofs.Lists.{all_at, all_in, at_in, same_place}
 use Rattle.crn_vec.proofs.Sums.{dot_zero}
 use Rattle.crn_vec.proofs.Carried.{vector_long, entry-column, length-column}

@@ -1,25 +1,6 @@
 -- Signals of a network and its shape: the shape is one, positive multiples share signals, and a signal gives a feasible prefix.
-use Rattle.std.proofs.Common.{◌≡◌, ℕ, zero, suc, ◌<◌, ◌⊎◌, inl, inr, List, [], ◌∷◌, length, get_or, map, refl, sym, ap, subst, ◌∙◌, arith}
-use Rattle.std.specs.Prelude.{ℤ, pos, negsuc, ◌-ℤ◌, ◌*ℤ◌, ◌≤ℤ◌, ◌<ℤ◌, Option, Some, None, slice_index_or}
-use Rattle.std.specs.List.{AllZip, AllByRecursion}
-use Rattle.std.proofs.lemmas.Int.{ints}
-use Rattle.std.proofs.lemmas.List.{get_or-map, length-map, ext_get_or}
+use Rattle.crn_vec.proofs.Prelude.{◌≡◌, ℕ, zero, suc, ◌<◌, ◌⊎◌, inl, inr, List, [], ◌∷◌, length, get_or, map, refl, sym, ap, subst, ◌∙◌, arith, ℤ, pos, negsuc, ◌-ℤ◌, ◌*ℤ◌, ◌≤ℤ◌, ◌<ℤ◌, Option, Some, None, slice_index_or, AllZip, AllByRecursion, ints, get_or-map, length-map, ext_get_or, Sign, Zero, Plus, Minus, IsIn, dot, entry, HasSign, Net, IsNetwork, SameStrong, IsOnSide, IsTerminalPair, IsFirstOfPair, SumsTo, IsComplex, IsRegular, reaction_system, opposite, sign, image, Pair, Shape, complex_at, shelf_at, shelf_of, HasPairSign, IsSignal, top_at, AreTops, complex_of, IsSignalOver, IsSignalOf, IsPairOf, IsShapeOf, MultiplesShareSignals, SignalsAreFeasible, ShapesAreOne}
 use lib.IntN.{*ℤ_comm, zero-*ℤ}
-use Rattle.crn_vec.specs.declared.signs.Sign.{Sign}
-use Rattle.crn_vec.specs.declared.signs.Sign.TheVariants.{Zero, Plus, Minus}
-use Rattle.crn_vec.specs.Lists.{IsIn}
-use Rattle.crn_vec.specs.Vectors.{dot, entry, HasSign}
-use Rattle.crn_vec.specs.Network.{Net, IsNetwork}
-use Rattle.crn_vec.specs.Strong.{SameStrong}
-use Rattle.crn_vec.specs.CutPairs.{IsOnSide, IsTerminalPair, IsFirstOfPair}
-use Rattle.crn_vec.specs.Sums.{SumsTo}
-use Rattle.crn_vec.specs.Deficiency.{IsComplex}
-use Rattle.crn_vec.specs.Confluence.{IsRegular}
-use Rattle.crn_vec.specs.NetSystems.{reaction_system}
-use Rattle.crn_vec.specs.Problems.{opposite}
-use Rattle.crn_vec.specs.Concordance.{sign, image}
-use Rattle.crn_vec.specs.Signals.{Pair, Shape, complex_at, shelf_at, shelf_of, HasPairSign, IsSignal}
-use Rattle.crn_vec.specs.NetSignals.{top_at, AreTops, complex_of, IsSignalOver, IsSignalOf, IsPairOf, IsShapeOf, MultiplesShareSignals, SignalsAreFeasible, ShapesAreOne}
 use Rattle.crn_vec.proofs.Entries.{lt_or}
 use Rattle.crn_vec.proofs.Ascending.{same_members}
 use Rattle.crn_vec.proofs.Ring.{pos_pos}

@@ -1,9 +1,8 @@
 -- A system of homogeneous equations has a solution that is not zero, or only zero, and then no more unknowns than equations.
-use Rattle.std.proofs.Common.{◌≡◌, ℕ, ◌≤◌, ℤ, pos, ◌+ℤ◌, ◌-ℤ◌, ◌*ℤ◌, neg_ℤ, ◌⊎◌, inl, inr, arith, List, [], ◌∷◌, ap, refl, suc, zero, length, ◌<◌}
-use Rattle.std.proofs.lemmas.Int.{ints}
+use Rattle.crn_vec.proofs.Prelude.{◌≡◌, ℕ, ◌≤◌, ◌⊎◌, inl, inr, arith, List, [], ◌∷◌, ap, refl, suc, zero, length, ◌<◌, ints, dot, AreOfLength, scale, entry}
+use Rattle.std.proofs.Common.{ℤ, pos, ◌+ℤ◌, ◌-ℤ◌, ◌*ℤ◌, neg_ℤ}
 use lib.IntN.{*ℤ_comm, *ℤ-zero}
 use Rattle.crn_vec.proofs.Ring.{no_zero, distrib, left-comm, mul-neg, is_zero, one_ne_zero}
-use Rattle.crn_vec.specs.Vectors.{dot, AreOfLength, scale, entry}
 use Rattle.crn_vec.proofs.Sums.{plus, zeros, dot-scale, dot-plus, length-scale, length-plus, length-zeros}
 
 abbrev pub Zero : List ℤ → Type 0

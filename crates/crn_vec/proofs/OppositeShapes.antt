@@ -1,12 +1,5 @@
 -- The shape of the negative of a vector.
-use Rattle.std.proofs.Common.{ℕ, ◌<◌, List, [], ◌∷◌, length, map}
-use Rattle.std.specs.Prelude.{ℤ, Option}
-use Rattle.std.specs.List.{AllZip, AllByRecursion}
-use Rattle.crn_vec.specs.Network.{Net}
-use Rattle.crn_vec.specs.CutPairs.{IsOnSide}
-use Rattle.crn_vec.specs.Confluence.{negative}
-use Rattle.crn_vec.specs.Signals.{Pair}
-use Rattle.crn_vec.specs.NetSignals.{IsPairOf, opposite_pair, NegativesHaveOppositeShapes}
+use Rattle.crn_vec.proofs.Prelude.{ℕ, ◌<◌, List, [], ◌∷◌, length, map, ℤ, Option, AllZip, AllByRecursion, Net, IsOnSide, negative, Pair, IsPairOf, opposite_pair, NegativesHaveOppositeShapes}
 use Rattle.crn_vec.proofs.Confluences.{negative_sum}
 
 below_opposite : (count complexes : ℕ) (pairs : List Pair) → AllByRecursion (λ pair. (pair.top < count) × (pair.low < complexes) × (pair.high < complexes)) pairs → AllByRecursion (λ pair. (pair.top < count) × (pair.low < complexes) × (pair.high < complexes)) (map opposite_pair pairs)

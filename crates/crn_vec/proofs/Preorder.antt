@@ -1,14 +1,6 @@
 -- Visit lists are in preorder.
-use Rattle.std.proofs.Common.{◌≡◌, ◌⊎◌, inl, inr, List, [], ◌∷◌, ◌++◌, Bool, true, false, refl, sym, ap, subst}
-use Rattle.std.proofs.lemmas.Bool.{false≢true}
-use Rattle.std.proofs.lemmas.List.{append_assoc}
+use Rattle.crn_vec.proofs.Prelude.{◌≡◌, ◌⊎◌, inl, inr, List, [], ◌∷◌, ◌++◌, Bool, true, false, refl, sym, ap, subst, false≢true, append_assoc, Sign, Zero, Plus, Minus, IsIn, Signed, IsFull, IsFeasible, children, options_below, all_zero, Visits, over, fallen, ended, opened, IsReached, first, child, root, IsEarlier, IsBefore, AreInPreorder, EndsVisits, VisitsArePreorder}
 use Rattle.std.specs.Prelude.{map}
-use Rattle.crn_vec.specs.declared.signs.Sign.{Sign}
-use Rattle.crn_vec.specs.declared.signs.Sign.TheVariants.{Zero, Plus, Minus}
-use Rattle.crn_vec.specs.Lists.{IsIn}
-use Rattle.crn_vec.specs.Problems.{Signed, IsFull, IsFeasible, children, options_below, all_zero}
-use Rattle.crn_vec.specs.Visits.{Visits, over, fallen, ended, opened, IsReached, first, child, root}
-use Rattle.crn_vec.specs.VisitList.{IsEarlier, IsBefore, AreInPreorder, EndsVisits, VisitsArePreorder}
 use Rattle.crn_vec.proofs.Lists.{in_left, in_right, in_cases}
 use Rattle.crn_vec.proofs.VisitsReached.{only_reached}
 

@@ -1,11 +1,7 @@
 -- Independent vectors that depend on others are no more than those, and the rank is one number.
-use Rattle.std.proofs.Common.{◌≡◌, ℕ, zero, suc, ◌<◌, ◌≤◌, inl, inr, List, [], ◌∷◌, ◌++◌, length, get_or, map, take, drop, refl, ap, subst, ◌∙◌, arith, length-append}
-use Rattle.std.specs.Prelude.{ℤ, pos, ◌≤ℤ◌, ◌*ℤ◌}
-use Rattle.std.proofs.lemmas.Int.{ints}
+use Rattle.crn_vec.proofs.Prelude.{◌≡◌, ℕ, zero, suc, ◌<◌, ◌≤◌, inl, inr, List, [], ◌∷◌, ◌++◌, length, get_or, map, take, drop, refl, ap, subst, ◌∙◌, arith, ℤ, pos, ◌≤ℤ◌, ◌*ℤ◌, ints, entry, dot, column, AreOfLength, IsIn, IsAbove, IsAscending, IsZero, combination_at, IsIndependent, DependsOn, chosen, IsRank, BaseGivesRank, RankIsOneNumber}
+use Rattle.std.proofs.Common.{length-append}
 use lib.IntN.{*ℤ_comm, zero-*ℤ}
-use Rattle.crn_vec.specs.Vectors.{entry, dot, column, AreOfLength}
-use Rattle.crn_vec.specs.Lists.{IsIn, IsAbove, IsAscending}
-use Rattle.crn_vec.specs.Rank.{IsZero, combination_at, IsIndependent, DependsOn, chosen, IsRank, BaseGivesRank, RankIsOneNumber}
 use Rattle.crn_vec.proofs.Ring.{assoc, no_zero}
 use Rattle.crn_vec.proofs.Lists.{in_take, long_take, map_twice}
 use Rattle.crn_vec.proofs.Entries.{lt_or}

@@ -1,7 +1,6 @@
 -- Ring laws and signs of whole numbers.
-use Rattle.std.proofs.Common.{◌≡◌, ◌≢◌, ◌∙◌, sym, ◌+◌, ◌*◌, arith, ap, refl, suc, zero, ℤ, pos, negsuc, ◌+ℤ◌, ◌-ℤ◌, ◌*ℤ◌, ◌<ℤ◌, ◌≤ℤ◌, neg_ℤ, ◌⊎◌, inl, inr, ◌≤◌}
-use Rattle.std.proofs.lemmas.Int.{ints}
-use Rattle.std.specs.Prelude.{unsigned_abs}
+use Rattle.crn_vec.proofs.Prelude.{◌≡◌, ◌≢◌, ◌∙◌, sym, ◌+◌, ◌*◌, arith, ap, refl, suc, zero, ◌⊎◌, inl, inr, ◌≤◌, ints, unsigned_abs}
+use Rattle.std.proofs.Common.{ℤ, pos, negsuc, ◌+ℤ◌, ◌-ℤ◌, ◌*ℤ◌, ◌<ℤ◌, ◌≤ℤ◌, neg_ℤ}
 use borrow.Author.Differences.{up, down, sum_is_lem, product_is, neg_is}
 use lib.IntN.{*ℤ_comm, zero-*ℤ}
 

@@ -1,15 +1,5 @@
 -- Rows of a list that holds them one after another.
-use Rattle.std.proofs.Common.{◌≡◌, ℕ, zero, suc, ◌+◌, ◌*◌, ◌<◌, ◌≤◌, inl, inr, List, [], ◌∷◌, ◌++◌, length, map, get_or, take, drop, refl, sym, ap, ap₂, ◌∙◌, arith}
-use Rattle.std.specs.Prelude.{ℤ, pos, negsuc, unsigned_abs}
-use Rattle.std.specs.List.{AllByRecursion, flat_map}
-use Rattle.std.proofs.lemmas.Int.{ints}
-use Rattle.std.proofs.Math.Seq.{take-append_seam}
-use Rattle.std.proofs.lemmas.List.{length-append, drop-drop, length-drop, length-take-le}
-use Rattle.std.proofs.Math.Nat.{suc-mul, mul-le-mul_right}
-use Rattle.crn_vec.specs.declared.limits.TheConstants.{MAX_AMOUNT}
-use Rattle.crn_vec.specs.Lists.{IsIn}
-use Rattle.crn_vec.specs.Network.{IsAmount}
-use Rattle.crn_vec.specs.Vectors.{rows_of, entry, AreWithin, AreOfLength}
+use Rattle.crn_vec.proofs.Prelude.{◌≡◌, ℕ, zero, suc, ◌+◌, ◌*◌, ◌<◌, ◌≤◌, inl, inr, List, [], ◌∷◌, ◌++◌, length, map, get_or, take, drop, refl, sym, ap, ap₂, ◌∙◌, arith, ℤ, pos, negsuc, unsigned_abs, AllByRecursion, flat_map, ints, take-append_seam, length-append, drop-drop, length-drop, length-take-le, suc-mul, mul-le-mul_right, MAX_AMOUNT, IsIn, IsAmount, rows_of, entry, AreWithin, AreOfLength}
 
 pub length-rows_of : (m n : ℕ) (xs : List ℤ) → length (rows_of m n xs) ≡ m
 length-rows_of zero n xs = refl

@@ -1,25 +1,8 @@
 -- A signal is there if and only if some full prefix of its problem is feasible.
-use Rattle.std.proofs.Common.{◌≡◌, ◌≢◌, ℕ, zero, suc, ◌+◌, ◌<◌, ◌⊎◌, inl, inr, List, [], ◌∷◌, ◌++◌, length, map, take, drop, replicate, Bool, true, false, ◌&&◌, cond, refl, sym, ap, ap₂, subst, ◌∙◌, arith, eqb}
-use Rattle.std.specs.Prelude.{ℤ, pos, negsuc, ◌+ℤ◌, ◌-ℤ◌, ◌*ℤ◌, Option, Some, None, nat_lt, nat_le, ◌||◌}
-use Rattle.std.specs.List.{AllZip, AllByRecursion}
-use Rattle.std.proofs.lemmas.Int.{ints}
-use Rattle.std.proofs.lemmas.Bool.{false≢true, eq-eqb, lt-ltb}
-use Rattle.std.proofs.lemmas.List.{length-append, length-map, length-replicate, length-take-le, length-drop}
-use Rattle.std.proofs.Math.Seq.{take-append_seam, drop-append_seam}
+use Rattle.crn_vec.proofs.Prelude.{◌≡◌, ◌≢◌, ℕ, zero, suc, ◌+◌, ◌<◌, ◌⊎◌, inl, inr, List, [], ◌∷◌, ◌++◌, length, map, take, drop, replicate, Bool, true, false, ◌&&◌, cond, refl, sym, ap, ap₂, subst, ◌∙◌, arith, eqb, ℤ, pos, negsuc, ◌+ℤ◌, ◌-ℤ◌, ◌*ℤ◌, Option, Some, None, nat_lt, nat_le, ◌||◌, AllZip, AllByRecursion, ints, false≢true, eq-eqb, lt-ltb, length-append, length-map, length-replicate, length-take-le, length-drop, take-append_seam, drop-append_seam, Sign, Zero, Plus, Minus, Kind, Free, Mat, dot, entry, HasSign, Net, IsPartialNetwork, minus, HasKind, IsSolution, IsFull, IsFeasible, opposite, all_zero, SolvesA, SolvesB, sign, image, kind_of_sign, row_kinds, kinds_b_of, Pair, Shape, complex_at, shelf_at, shelf_of, HasPairSign, IsSignal, complex_row, pair_row, shelf_matrix, top_kind, pair_kind_by, pair_kind, signals, IsStoichiometric, IsShape, SignalIfFeasible}
 use lib.IntN.{zero-*ℤ}
-use Rattle.crn_vec.specs.declared.signs.Sign.{Sign}
-use Rattle.crn_vec.specs.declared.signs.Sign.TheVariants.{Zero, Plus, Minus}
-use Rattle.crn_vec.specs.declared.signs.Kind.{Kind}
-use Rattle.crn_vec.specs.declared.signs.Kind.TheVariants.{Free}
-use Rattle.crn_vec.specs.Vectors.{Mat, dot, entry, HasSign}
-use Rattle.crn_vec.specs.Network.{Net, IsPartialNetwork, minus}
-use Rattle.crn_vec.specs.Systems.{HasKind, IsSolution}
-use Rattle.crn_vec.specs.Problems.{IsFull, IsFeasible, opposite, all_zero, SolvesA, SolvesB}
-use Rattle.crn_vec.specs.Concordance.{sign, image, kind_of_sign, row_kinds, kinds_b_of}
 use Rattle.crn_vec.proofs.TableKinds.{zip_append, zip_prefix, zip_back, length-rows}
 use Rattle.crn_vec.proofs.Discordance.{solution_of, parts_of, rows_have, rows_are, frees_have, length-image}
-use Rattle.crn_vec.specs.Signals.{Pair, Shape, complex_at, shelf_at, shelf_of, HasPairSign, IsSignal, complex_row, pair_row, shelf_matrix, top_kind, pair_kind_by, pair_kind, signals, IsStoichiometric, IsShape}
-use Rattle.crn_vec.specs.SignalLaws.{SignalIfFeasible}
 use Rattle.crn_vec.proofs.Level.{minus-dot, all_at, level_zero}
 use Rattle.crn_vec.proofs.Ring.{minus_one}
 

@@ -1,12 +1,5 @@
 -- A function that gives signs is the definition's if it is right for the numbers of these signs.
-use Rattle.std.proofs.Common.{◌≡◌, refl, ◌∙◌, arith}
-use Rattle.std.specs.Prelude.{ℤ, pos, negsuc, neg_ℤ, ◌*ℤ◌}
-use Rattle.std.proofs.lemmas.Int.{ints}
-use Rattle.crn_vec.specs.declared.signs.Sign.{Sign}
-use Rattle.crn_vec.specs.declared.signs.Sign.TheVariants.{Zero, Plus, Minus}
-use Rattle.crn_vec.specs.Vectors.{HasSign}
-use Rattle.crn_vec.specs.Problems.{opposite}
-use Rattle.crn_vec.specs.Concordance.{sign, product}
+use Rattle.crn_vec.proofs.Prelude.{◌≡◌, refl, ◌∙◌, arith, ℤ, pos, negsuc, neg_ℤ, ◌*ℤ◌, ints, Sign, Zero, Plus, Minus, HasSign, opposite, sign, product}
 use Rattle.crn_vec.proofs.PrefixKinds.{sign_is}
 
 -- a number of each sign

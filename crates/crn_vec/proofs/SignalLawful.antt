@@ -1,23 +1,8 @@
 -- The problem of signals keeps what every sign problem keeps.
-use Rattle.std.proofs.Common.{◌≡◌, ℕ, zero, suc, ◌+◌, ◌-◌, ◌≤◌, ◌<◌, ◌⊎◌, inl, inr, List, [], ◌∷◌, ◌++◌, length, map, take, drop, replicate, Bool, true, false, ◌&&◌, cond, refl, sym, ap, ap₂, subst, ◌∙◌, arith, eqb, lit≤}
-use Rattle.std.specs.Prelude.{ℤ, Option, Some, None, nat_lt, nat_le, ◌||◌}
-use Rattle.std.specs.List.{AllZip}
-use Rattle.std.proofs.lemmas.Int.{ints}
-use Rattle.std.proofs.lemmas.Bool.{eqb-true, ltb-true, lt-ltb, leb-true}
-use Rattle.std.proofs.lemmas.List.{length-append, length-map, length-replicate, take-map, drop-map, append-nil}
-use Rattle.crn_vec.specs.declared.limits.TheConstants.{MAX_SPECIES, MAX_COMPLEXES, MAX_SIGNED}
-use Rattle.crn_vec.specs.declared.signs.Sign.{Sign}
-use Rattle.crn_vec.specs.declared.signs.Sign.TheVariants.{Zero, Plus, Minus}
-use Rattle.crn_vec.specs.declared.signs.Kind.{Kind}
-use Rattle.crn_vec.specs.declared.signs.Kind.TheVariants.{Free}
-use Rattle.crn_vec.specs.Vectors.{Mat}
-use Rattle.crn_vec.specs.Problems.{opposite, mirror, all_zero, IsLawful, IsSteady}
+use Rattle.crn_vec.proofs.Prelude.{◌≡◌, ℕ, zero, suc, ◌+◌, ◌-◌, ◌≤◌, ◌<◌, ◌⊎◌, inl, inr, List, [], ◌∷◌, ◌++◌, length, map, take, drop, replicate, Bool, true, false, ◌&&◌, cond, refl, sym, ap, ap₂, subst, ◌∙◌, arith, eqb, lit≤, ℤ, Option, Some, None, nat_lt, nat_le, ◌||◌, AllZip, ints, eqb-true, ltb-true, lt-ltb, leb-true, length-append, length-map, length-replicate, take-map, drop-map, append-nil, MAX_SPECIES, MAX_COMPLEXES, MAX_SIGNED, Sign, Zero, Plus, Minus, Kind, Free, Mat, opposite, mirror, all_zero, IsLawful, IsSteady, sign, kind_of_sign, row_kinds, kinds_b_of, Pair, Shape, shelf_at, complex_row, pair_row, shelf_matrix, top_kind, pair_kind_by, pair_kind, shelf_kinds, is_shelf_closed, signals, IsFew}
 use Rattle.crn_vec.proofs.Mirrors.{length-mirror, opposite-opposite}
-use Rattle.crn_vec.specs.Concordance.{sign, kind_of_sign, row_kinds, kinds_b_of}
 use Rattle.crn_vec.proofs.TableKinds.{zip_append, Refines, refines_same, rows_longer, Mirrored, rows_opposite, frees_opposite, sign_opposite, length-rows, count_at_most, count-append, count_none}
 use Rattle.crn_vec.proofs.TableLawful.{solution_refined, solution_opposite, all_zero-mirror, no_more}
-use Rattle.crn_vec.specs.Signals.{Pair, Shape, shelf_at, complex_row, pair_row, shelf_matrix, top_kind, pair_kind_by, pair_kind, shelf_kinds, is_shelf_closed, signals}
-use Rattle.crn_vec.specs.SignalLaws.{IsFew}
 
 -- ---- both parts of longer prefixes
 

@@ -1,17 +1,6 @@
 -- Amounts of the names of a side, and tests that decide whether names, complexes, sides and reactions are equal.
-use Rattle.std.proofs.Common.{◌≡◌, ◌⊎◌, ℕ, true, cond, ◌&&◌, ◌==◌, List, [], ◌∷◌, map, refl, sym, ap, ap₂, inl, inr, arith}
-use Rattle.std.specs.Prelude.{ℤ, pos}
-use Rattle.std.specs.Bool.{Decides}
-use Rattle.std.specs.Str.{bytes_eq}
-use Rattle.std.specs.Ordering.{int_eq}
-use Rattle.std.specs.Cmp.Lexicographic.{pointwise}
-use Rattle.std.specs.Cmp.Rules.{signed_items}
-use Rattle.std.proofs.lemmas.Bool.{cases_Bool}
-use Rattle.std.proofs.lemmas.Bool.Decides.{Decides-eqb}
-use Rattle.std.proofs.lemmas.Slice.Eq.{bytes_eq-Decides}
-use Rattle.std.proofs.lemmas.List.Sums.{sum_by-cons}
-use Rattle.crn_vec.specs.Lists.{IsIn}
-use Rattle.crn_vec.specs.Network.{sides_eq, amount_in, amounts_in}
+use Rattle.crn_vec.proofs.Prelude.{◌≡◌, ◌⊎◌, ℕ, true, cond, ◌&&◌, List, [], ◌∷◌, map, refl, sym, ap, ap₂, inl, inr, arith, ℤ, pos, Decides, bytes_eq, int_eq, pointwise, signed_items, cases_Bool, Decides-eqb, bytes_eq-Decides, sum_by-cons, IsIn, sides_eq, amount_in, amounts_in}
+use Rattle.std.proofs.Common.{◌==◌}
 use Rattle.crn_vec.proofs.Lists.{any_is, and_cases, pair, map_same}
 
 -- ---- tests that decide

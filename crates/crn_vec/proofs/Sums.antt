@@ -1,10 +1,7 @@
 -- Dot products, and combinations of rows.
-use Rattle.std.proofs.Common.{◌≡◌, ◌≢◌, ℕ, zero, suc, ◌<◌, List, [], ◌∷◌, length, get_or, take, drop, refl, sym, ap, arith}
-use Rattle.std.specs.Prelude.{ℤ, pos, ◌+ℤ◌, ◌*ℤ◌}
-use Rattle.std.proofs.lemmas.Int.{ints}
+use Rattle.crn_vec.proofs.Prelude.{◌≡◌, ◌≢◌, ℕ, zero, suc, ◌<◌, List, [], ◌∷◌, length, get_or, take, drop, refl, sym, ap, arith, ℤ, pos, ◌+ℤ◌, ◌*ℤ◌, ints, entry, dot, scale, column, AreOfLength}
 use lib.IntN.{*ℤ_comm, *ℤ-zero, zero-*ℤ}
 use Rattle.crn_vec.proofs.Ring.{distrib, distrib-right, assoc}
-use Rattle.crn_vec.specs.Vectors.{entry, dot, scale, column, AreOfLength}
 
 pub dot-comm : (xs ys : List ℤ) → dot xs ys ≡ dot ys xs
 dot-comm [] [] = refl

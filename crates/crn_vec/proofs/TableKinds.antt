@@ -1,19 +1,6 @@
 -- The kinds of a table's problem: at longer prefixes, and at mirrored ones.
-use Rattle.std.proofs.Common.{◌≡◌, ℕ, zero, suc, ◌+◌, ◌≤◌, ◌⊎◌, inl, inr, List, [], ◌∷◌, ◌++◌, length, map, drop, take, replicate, Bool, true, false, cond, refl, sym, ap, ap₂, subst, ◌∙◌, arith, get_or, ◌-◌, ◌<◌}
-use Rattle.std.specs.Prelude.{ℤ, neg_ℤ}
-use Rattle.std.specs.List.{AllZip}
-use Rattle.std.proofs.lemmas.Int.{ints}
-use Rattle.std.proofs.lemmas.Bool.{false≢true}
-use Rattle.std.proofs.lemmas.List.{get_or_append_left, get_or-append_right, get_or-map, get_or-replicate, length-map, length-replicate}
-use Rattle.crn_vec.specs.declared.signs.Sign.{Sign}
-use Rattle.crn_vec.specs.declared.signs.Sign.TheVariants.{Zero, Plus, Minus}
-use Rattle.crn_vec.specs.declared.signs.Kind.{Kind}
-use Rattle.crn_vec.specs.declared.signs.Kind.TheVariants.{Pos, Neg, NonNeg, Free, Zero as ZeroKind}
-use Rattle.crn_vec.specs.Systems.{HasKind, is_signed, one_if, signed_count, kind_at}
-use Rattle.crn_vec.specs.Problems.{opposite, mirror, all_zero}
+use Rattle.crn_vec.proofs.Prelude.{◌≡◌, ℕ, zero, suc, ◌+◌, ◌≤◌, ◌⊎◌, inl, inr, List, [], ◌∷◌, ◌++◌, length, map, drop, take, replicate, Bool, true, false, cond, refl, sym, ap, ap₂, subst, ◌∙◌, arith, get_or, ◌-◌, ◌<◌, ℤ, neg_ℤ, AllZip, ints, false≢true, get_or_append_left, get_or-append_right, get_or-map, get_or-replicate, length-map, length-replicate, Sign, Zero, Plus, Minus, Kind, Pos, Neg, NonNeg, Free, ZeroKind, HasKind, is_signed, one_if, signed_count, kind_at, opposite, mirror, all_zero, product, products, is_plus, is_minus, some_sign, kind_of_sum, column_kind, kind_of_sign, row_kinds, kinds_a_of, kinds_b_of, Mat}
 use Rattle.crn_vec.proofs.Mirrors.{length-mirror}
-use Rattle.crn_vec.specs.Concordance.{product, products, is_plus, is_minus, some_sign, kind_of_sum, column_kind, kind_of_sign, row_kinds, kinds_a_of, kinds_b_of}
-use Rattle.crn_vec.specs.Vectors.{Mat}
 
 -- ---- lists related place by place
 

@@ -1,22 +1,7 @@
 -- The problem of a table keeps what every sign problem keeps.
-use Rattle.std.proofs.Common.{◌≡◌, ℕ, zero, suc, ◌+◌, ◌≤◌, List, [], ◌∷◌, ◌++◌, length, get_or, map, take, replicate, Bool, true, false, ◌&&◌, refl, sym, ap, ap₂, ◌∙◌, arith, lit≤, eqb}
-use Rattle.std.specs.Prelude.{ℤ, neg_ℤ}
-use Rattle.std.specs.List.{AllZip}
-use Rattle.std.proofs.lemmas.Int.{ints}
-use Rattle.std.proofs.lemmas.Bool.{false≢true, eqb-true}
-use Rattle.std.proofs.lemmas.List.{length-append, length-replicate, take-map, append-nil}
-use Rattle.crn_vec.specs.declared.limits.TheConstants.{MAX_REACTIONS, MAX_SPECIES, MAX_SIGNED}
-use Rattle.crn_vec.specs.declared.signs.Sign.{Sign}
-use Rattle.crn_vec.specs.declared.signs.Sign.TheVariants.{Zero, Plus, Minus}
-use Rattle.crn_vec.specs.declared.signs.Kind.{Kind}
-use Rattle.crn_vec.specs.declared.signs.Kind.TheVariants.{Free, Zero as ZeroKind}
-use Rattle.crn_vec.specs.Vectors.{Mat, dot, entry}
-use Rattle.crn_vec.specs.Elementary.{InRowSpace}
-use Rattle.crn_vec.specs.Systems.{IsSolution}
+use Rattle.crn_vec.proofs.Prelude.{◌≡◌, ℕ, zero, suc, ◌+◌, ◌≤◌, List, [], ◌∷◌, ◌++◌, length, get_or, map, take, replicate, Bool, true, false, ◌&&◌, refl, sym, ap, ap₂, ◌∙◌, arith, lit≤, eqb, ℤ, neg_ℤ, AllZip, ints, false≢true, eqb-true, length-append, length-replicate, take-map, append-nil, MAX_REACTIONS, MAX_SPECIES, MAX_SIGNED, Sign, Zero, Plus, Minus, Kind, Free, ZeroKind, Mat, dot, entry, InRowSpace, IsSolution, mirror, all_zero, IsLawful, IsSteady, IsTable, concordance, column_kind, row_kinds, kinds_a_of, kinds_b_of}
 use Rattle.crn_vec.proofs.Ring.{mul-neg}
-use Rattle.crn_vec.specs.Problems.{mirror, all_zero, IsLawful, IsSteady}
 use Rattle.crn_vec.proofs.Mirrors.{length-mirror}
-use Rattle.crn_vec.specs.Concordance.{IsTable, concordance, column_kind, row_kinds, kinds_a_of, kinds_b_of}
 use Rattle.crn_vec.proofs.TableKinds.{zip_append, Refines, all_refined, refines_same, columns_longer, rows_longer, Mirrored, columns_opposite, rows_opposite, zeros_opposite, frees_opposite, all_opposite, length-rows, length-columns, count_at_most, count-append, count_none}
 
 pub dot-neg : (r v : List ℤ) → dot r (map neg_ℤ v) ≡ neg_ℤ (dot r v)

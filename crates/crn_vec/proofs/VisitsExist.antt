@@ -1,9 +1,5 @@
 -- There is a visit list.
-use Rattle.std.proofs.Common.{ℕ, zero, suc, ◌≤◌, List, [], ◌∷◌, ◌++◌, Bool, true, false, arith}
-use Rattle.crn_vec.specs.declared.signs.Sign.{Sign}
-use Rattle.crn_vec.specs.Problems.{Signed, IsFull, IsFeasible, children}
-use Rattle.crn_vec.specs.Visits.{Visits, over, fallen, ended, opened, root}
-use Rattle.crn_vec.specs.VisitList.{NoProblemLacksVisits}
+use Rattle.crn_vec.proofs.Prelude.{ℕ, zero, suc, ◌≤◌, List, [], ◌∷◌, ◌++◌, Bool, true, false, arith, Sign, Signed, IsFull, IsFeasible, children, Visits, over, fallen, ended, opened, root, NoProblemLacksVisits}
 use Rattle.crn_vec.proofs.Few.{AreShort, weights, short_children, short_append, grown, weight_some}
 
 full_or_not : (w : Signed) (p : List Sign) → (IsFull w p → ⊥) → (¬ (IsFull w p) → ⊥) → ⊥

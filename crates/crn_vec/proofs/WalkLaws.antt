@@ -1,8 +1,5 @@
 -- Walks are joined, reversed, and carried over to other steps.
-use Rattle.std.proofs.Common.{ℕ, List, [], ◌∷◌, refl, sym, subst, inl, inr}
-use Rattle.crn_vec.specs.Walks.{IsAlong, LeadsTo}
-use Rattle.crn_vec.specs.Linkage.{IsLinked, SameClass}
-use Rattle.crn_vec.specs.Strong.{ReactsTo, Reaches, SameStrong, IsTerminal, WeaklyReversibleByReactions}
+use Rattle.crn_vec.proofs.Prelude.{ℕ, List, [], ◌∷◌, refl, sym, subst, inl, inr, IsAlong, LeadsTo, IsLinked, SameClass, ReactsTo, Reaches, SameStrong, IsTerminal, WeaklyReversibleByReactions}
 
 along_then : (S : ℕ → ℕ → Type 0) (x y z : ℕ) (a b : List ℕ) → IsAlong S x a y → IsAlong S y b z → LeadsTo S x z
 along_then S x y z [] b p q = (b, subst (λ (v : ℕ). IsAlong S v b z) (sym p) q)

@@ -1,9 +1,7 @@
 -- Places that are skipped add nothing to a sum of products, and bounds of lists of numbers in which places are set.
-use Rattle.std.proofs.Common.{◌≡◌, ℕ, zero, suc, ◌+◌, ◌-◌, ◌<◌, ◌≤◌, ◌⊎◌, inl, inr, List, [], ◌∷◌, length, take, refl, sym, ap, ◌∙◌, arith}
-use Rattle.std.specs.Prelude.{ℤ, pos, ◌+ℤ◌, ◌*ℤ◌, replicate, slice_index, slice_set, unsigned_abs}
+use Rattle.crn_vec.proofs.Prelude.{◌≡◌, ℕ, zero, suc, ◌+◌, ◌-◌, ◌<◌, ◌≤◌, ◌⊎◌, inl, inr, List, [], ◌∷◌, length, take, refl, sym, ap, ◌∙◌, arith, ℤ, pos, ◌+ℤ◌, ◌*ℤ◌, slice_index, unsigned_abs, AreSkips, AreWithin, dot, entry}
+use Rattle.std.specs.Prelude.{replicate, slice_set}
 use lib.IntN.{*ℤ-zero, zero-*ℤ}
-use Rattle.crn_vec.specs.Skips.{AreSkips}
-use Rattle.crn_vec.specs.Vectors.{AreWithin, dot, entry}
 use Rattle.crn_vec.proofs.Entries.{dot_step}
 use Rattle.crn_vec.proofs.Ring.{plus_none, zero_times}
 

@@ -1,4 +1,4 @@
-use Rattle.std.proofs.Common.{length}
+use Rattle.crn_cert.proofs.Prelude.{length}
 use Rattle.crn_cert.proofs.share.+mark_after.Given as goal
 
 abbrev pub decreases-mark_after : goal.decreases-mark_after

@@ -1,5 +1,4 @@
-use Rattle.std.proofs.Common.{sym, subst, take_all, arith}
-use Rattle.crn_cert.specs.Inner.Numbered.{AreNumbered}
+use Rattle.crn_cert.proofs.Prelude.{sym, subst, take_all, arith, AreNumbered}
 use Rattle.crn_cert.proofs.ShareTables.{cuts_step}
 use Rattle.crn_cert.proofs.share.number_all.Goals as goal
 

@@ -1,7 +1,4 @@
-use Rattle.std.proofs.Common.{◌≤◌, length, take}
-use Rattle.crn_io.specs.declared.lines.TheConstants.{MAX_SHARED}
-use Rattle.crn_cert.specs.Shares.{all_cuts}
-use Rattle.crn_cert.specs.Inner.Numbered.{AreNumbered}
+use Rattle.crn_cert.proofs.Prelude.{◌≤◌, length, take, MAX_SHARED, all_cuts, AreNumbered}
 use Rattle.crn_cert.proofs.share.number_all.Given as goal
 
 -- the share of the cuts of the answers so far

@@ -1,4 +1,4 @@
-use Rattle.std.proofs.Common.{◌≡◌, map, take}
+use Rattle.crn_cert.proofs.Prelude.{◌≡◌, map, take}
 use Rattle.crn_cert.proofs.share.rows_of.Given as goal
 
 abbrev pub invariant-loop-list : goal.invariant-loop-list

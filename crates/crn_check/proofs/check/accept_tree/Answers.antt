@@ -1,9 +1,4 @@
-use Rattle.std.proofs.Common.{◌∙◌, ◌∷◌, [], ◌++◌, inl, inr, ap, subst, sym, arith}
-use Rattle.crn_check.specs.Facts.{asked}
-use Rattle.crn_check.specs.Check.{shown_by_tree}
-use Rattle.crn_cert.specs.Verdicts.{tight}
-use Rattle.crn_cert.specs.declared.answer.Verdict.{Verdict}
-use Rattle.crn_check.specs.Inner.Facts.{DoesFit}
+use Rattle.crn_check.proofs.Prelude.{◌∙◌, ◌∷◌, [], ◌++◌, inl, inr, ap, subst, sym, arith, asked, shown_by_tree, tight, Verdict, DoesFit}
 use Rattle.crn_check.proofs.Forms.{facts_add, shown_formed, shown_tight, shown_true}
 use Rattle.crn_check.proofs.Fits.{shown_fits}
 use Rattle.crn_check.proofs.check.accept_tree.Goals as goal

@@ -1,8 +1,4 @@
-use Rattle.std.proofs.lemmas.Result.{err_from_is_err_and}
-use Rattle.std.proofs.Common.{inl, inr, refl}
-use Rattle.crn_cert.specs.Questions.{Q12, Q13}
-use Rattle.crn_cert.proofs.CallerLemmas.{formed_answers_have_formed_verdicts}
-use Rattle.crn_check.specs.Check.{IsBuilt}
+use Rattle.crn_check.proofs.Prelude.{err_from_is_err_and, inl, inr, refl, Q12, Q13, formed_answers_have_formed_verdicts, IsBuilt}
 use Rattle.crn_check.proofs.Fits.{answer_fits}
 use Rattle.crn_check.proofs.Forms.{facts_push}
 use Rattle.crn_check.proofs.SignalRows.{lists_fit, rows_stop, rows_hold}

@@ -1,12 +1,4 @@
-use Rattle.std.proofs.Common.{◌≡◌, ◌≤◌, ◌<◌, ◌+◌, ◌*◌, ◌∙◌, ℕ, suc, inl, inr, length, refl, sym, ap₂, subst, arith, to_z, of_z}
-use Rattle.std.specs.Prelude.{ℤ, pos, ◌+ℤ◌, ◌*ℤ◌, unsigned_abs}
-use Rattle.std.specs.Int.{w128}
-use Rattle.std.proofs.lemmas.Int.{fits_signed_from_abs}
-use Rattle.std.proofs.lemmas.Grind.{get_or-set_at}
-use Rattle.std.proofs.lemmas.List.{get_or-set_other, length-set}
-use Rattle.crn_vec.specs.Vectors.{entry}
-use Rattle.crn_vec.specs.declared.limits.TheConstants.{MAX_AMOUNT, WIDE_SOLUTION}
-use Rattle.crn_vec.proofs.CallerLemmas.{held, lt_or, sum_within, within_at, zero_adds, within_more, within_set}
+use Rattle.crn_check.proofs.Prelude.{◌≡◌, ◌≤◌, ◌<◌, ◌+◌, ◌*◌, ◌∙◌, ℕ, suc, inl, inr, length, refl, sym, ap₂, subst, arith, to_z, of_z, ℤ, pos, ◌+ℤ◌, ◌*ℤ◌, unsigned_abs, w128, fits_signed_from_abs, get_or-set_at, get_or-set_other, length-set, entry, MAX_AMOUNT, WIDE_SOLUTION, held, lt_or, sum_within, within_at, zero_adds, within_more, within_set}
 use Rattle.crn_check.proofs.combs.add_multiple.Goals as goal
 
 pub places-init : goal.places-init

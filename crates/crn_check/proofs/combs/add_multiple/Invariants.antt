@@ -1,7 +1,4 @@
-use Rattle.std.proofs.Common.{◌≡◌, ◌≤◌, ◌<◌, ◌-◌, ◌*◌, ℕ, suc, length}
-use Rattle.std.specs.Prelude.{◌+ℤ◌, ◌*ℤ◌}
-use Rattle.crn_vec.specs.Vectors.{AreWithin, entry}
-use Rattle.crn_vec.specs.declared.limits.TheConstants.{MAX_AMOUNT, MAX_SPECIES, WIDE_SOLUTION}
+use Rattle.crn_check.proofs.Prelude.{◌≡◌, ◌≤◌, ◌<◌, ◌-◌, ◌*◌, ℕ, suc, length, ◌+ℤ◌, ◌*ℤ◌, AreWithin, entry, MAX_AMOUNT, MAX_SPECIES, WIDE_SOLUTION}
 use Rattle.crn_check.proofs.combs.add_multiple.Given as goal
 
 -- the sums at the places before this one are raised, and the others as before

@@ -1,8 +1,4 @@
-use Rattle.std.proofs.Common.{◌≡◌, ◌+◌, ◌<◌, ℕ, suc, [], length, get_or, refl, sym, subst, ◌∙◌, arith}
-use Rattle.std.proofs.lemmas.Bool.{false≢true}
-use Rattle.crn_vec.proofs.CallerLemmas.{all_at}
-use Rattle.crn_cert.specs.Ranges.{AreFree}
-use Rattle.crn_cert.specs.RankTests.{IsComb, vector_of, vectors_of}
+use Rattle.crn_check.proofs.Prelude.{◌≡◌, ◌+◌, ◌<◌, ℕ, suc, [], length, get_or, refl, sym, subst, ◌∙◌, arith, false≢true, all_at, AreFree, IsComb, vector_of, vectors_of}
 use Rattle.crn_check.proofs.Outside.{ArePassed, passed_none, passed_other, passed_in, passed_some, passed_out, passed_fails, passed_all}
 use Rattle.crn_check.proofs.combs.check_combs.Goals as goal
 use Rattle.crn_check.proofs.combs.check_combs.Goals.{then-has+then-not-is_in+else-not-is_comb, else-has, else-has-via-then-has+else-not-is_in, else-has-via-else-has}

@@ -1,4 +1,4 @@
-use Rattle.crn_cert.specs.RankTests.{vectors_of}
+use Rattle.crn_check.proofs.Prelude.{vectors_of}
 use Rattle.crn_check.proofs.Outside.{ArePassed}
 use Rattle.crn_check.proofs.combs.check_combs.Given as goal
 

@@ -1,10 +1,4 @@
-use Rattle.std.proofs.Common.{◌≡◌, ◌<◌, ◌*◌, ◌+◌, ◌∙◌, ℕ, List, suc, length, take, drop, ap, ap₂, sym, subst, arith, take_all}
-use Rattle.std.specs.Prelude.{ℤ, pos, ◌+ℤ◌, ◌*ℤ◌}
-use Rattle.std.proofs.lemmas.List.{get_or-drop, length-drop}
-use Rattle.crn_vec.specs.Vectors.{AreWithin, dot, column, entry}
-use Rattle.crn_vec.specs.declared.limits.TheConstants.{MAX_AMOUNT, WIDE_SOLUTION}
-use Rattle.crn_vec.proofs.CallerLemmas.{dot_step, entry-column, length-column, entry_of_zeros, nought_adds, within_more, zeros_within}
-use Rattle.crn_cert.specs.RankTests.{vector_of, vectors_of}
+use Rattle.crn_check.proofs.Prelude.{◌≡◌, ◌<◌, ◌*◌, ◌+◌, ◌∙◌, ℕ, List, suc, length, take, drop, ap, ap₂, sym, subst, arith, take_all, ℤ, pos, ◌+ℤ◌, ◌*ℤ◌, get_or-drop, length-drop, AreWithin, dot, column, entry, MAX_AMOUNT, WIDE_SOLUTION, dot_step, entry-column, length-column, entry_of_zeros, nought_adds, within_more, zeros_within, vector_of, vectors_of}
 use Rattle.crn_check.proofs.RankParts.{vector_at, length_vectors}
 use Rattle.crn_check.proofs.combs.combination.Goals.{then-not-is_nought, else-not-is_nought}
 use Rattle.crn_check.proofs.combs.combination.Goals as goal

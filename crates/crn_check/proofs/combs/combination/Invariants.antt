@@ -1,7 +1,4 @@
-use Rattle.std.proofs.Common.{◌≡◌, ◌<◌, ◌*◌, ℕ, length, take, drop}
-use Rattle.crn_vec.specs.Vectors.{AreWithin, dot, column, entry}
-use Rattle.crn_vec.specs.declared.limits.TheConstants.{MAX_AMOUNT, WIDE_SOLUTION}
-use Rattle.crn_cert.specs.RankTests.{vectors_of}
+use Rattle.crn_check.proofs.Prelude.{◌≡◌, ◌<◌, ◌*◌, ℕ, length, take, drop, AreWithin, dot, column, entry, MAX_AMOUNT, WIDE_SOLUTION, vectors_of}
 use Rattle.crn_check.proofs.combs.combination.Given as goal
 
 -- the sums over the members so far, and their bound

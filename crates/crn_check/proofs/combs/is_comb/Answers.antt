@@ -1,11 +1,4 @@
-use Rattle.std.proofs.Common.{◌≡◌, inl, inr, ◌∙◌, List, length, drop, ap, sym, arith}
-use Rattle.std.specs.Prelude.{ℤ, ◌*ℤ◌}
-use Rattle.std.proofs.lemmas.Int.{ints}
-use Rattle.std.proofs.Math.IntN.{*ℤ-zero}
-use Rattle.crn_vec.specs.Vectors.{entry}
-use Rattle.crn_vec.specs.declared.limits.TheConstants.{MAX_AMOUNT}
-use Rattle.crn_vec.proofs.CallerLemmas.{within_at, lt_or, past_end}
-use Rattle.crn_cert.specs.RankTests.{vector_of, vectors_of}
+use Rattle.crn_check.proofs.Prelude.{◌≡◌, inl, inr, ◌∙◌, List, length, drop, ap, sym, arith, ℤ, ◌*ℤ◌, ints, *ℤ-zero, entry, MAX_AMOUNT, within_at, lt_or, past_end, vector_of, vectors_of}
 use Rattle.crn_check.proofs.Decided.{granted}
 use Rattle.crn_check.proofs.Widths.{combination_past}
 use Rattle.crn_check.proofs.RankParts.{widths_of_base}

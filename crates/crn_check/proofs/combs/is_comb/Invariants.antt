@@ -1,7 +1,5 @@
-use Rattle.std.proofs.Common.{◌≡◌, ◌<◌, ◌*ℤ◌, ℕ, drop}
-use Rattle.crn_vec.specs.Vectors.{entry}
-use Rattle.crn_vec.specs.Rank.{combination_at}
-use Rattle.crn_cert.specs.RankTests.{vector_of, vectors_of}
+use Rattle.crn_check.proofs.Prelude.{◌≡◌, ◌<◌, ℕ, drop, entry, combination_at, vector_of, vectors_of}
+use Rattle.std.proofs.Common.{◌*ℤ◌}
 use Rattle.crn_check.proofs.combs.is_comb.Given as goal
 
 -- the entries so far are equal

@@ -1,9 +1,5 @@
-use Rattle.std.proofs.Common.{List, length, subst}
-use Rattle.std.specs.Prelude.{◌+◌, ◌-◌, ℤ, codes}
-use Rattle.crn_cert.specs.Valid.{linkage_count}
-use Rattle.crn_cert.proofs.CallerLemmas.{free_there}
-use Rattle.crn_check.specs.Check.{Judges}
-use Rattle.crn_check.specs.Inner.Tests.{vector_tests}
+use Rattle.crn_check.proofs.Prelude.{List, length, subst, ℤ, codes, linkage_count, free_there, Judges, vector_tests}
+use Rattle.std.specs.Prelude.{◌+◌, ◌-◌}
 use Rattle.crn_check.proofs.confluence.check_confluence.Goals as goal
 
 pub check_vector-requires-clause-ties : goal.check_vector-requires-clause-ties

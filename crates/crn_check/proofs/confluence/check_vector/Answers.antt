@@ -1,13 +1,4 @@
-use Rattle.std.proofs.Common.{◌≡◌, ◌-◌, ◌<◌, ◌∙◌, ℕ, List, length, ap, ap₂, sym, subst, arith}
-use Rattle.std.specs.Prelude.{Some}
-use Rattle.crn_cert.specs.declared.answer.Verdict.{Verdict}
-use Rattle.crn_cert.specs.Questions.{labels_of, count_of}
-use Rattle.crn_cert.specs.Faults.{BadVector}
-use Rattle.crn_cert.specs.Tests.{Test, test}
-use Rattle.crn_cert.specs.ConfluenceTests.{IsTie, least_from, others_than, tie_tests}
-use Rattle.crn_cert.specs.Valid.{linkage, linkage_count, IsNormal}
-use Rattle.crn_check.specs.Check.{Judges}
-use Rattle.crn_check.specs.Inner.Ordered.{IsSpared, ordered_tests, tied}
+use Rattle.crn_check.proofs.Prelude.{◌≡◌, ◌-◌, ◌<◌, ◌∙◌, ℕ, List, length, ap, ap₂, sym, subst, arith, Some, Verdict, labels_of, count_of, BadVector, Test, test, IsTie, least_from, others_than, tie_tests, linkage, linkage_count, IsNormal, Judges, IsSpared, ordered_tests, tied}
 use Rattle.crn_check.proofs.Forms.{linkage_from}
 use Rattle.crn_check.proofs.Judging.{judges_pass}
 use Rattle.crn_check.proofs.Leading.{nonzero_inside}

@@ -1,14 +1,4 @@
-use Rattle.std.proofs.Common.{◌≡◌, ◌∙◌, ℕ, List, length, ap, ap₂, sym, subst}
-use Rattle.std.specs.Prelude.{None}
-use Rattle.std.specs.List.{range_with_len}
-use Rattle.std.proofs.lemmas.List.FromFn.{length-range_with_len}
-use Rattle.crn_cert.specs.declared.answer.Verdict.{Verdict}
-use Rattle.crn_cert.specs.Questions.{labels_of, count_of}
-use Rattle.crn_cert.specs.Tests.{Test}
-use Rattle.crn_cert.specs.ConfluenceTests.{IsTie}
-use Rattle.crn_cert.specs.Valid.{linkage, linkage_count}
-use Rattle.crn_check.specs.Check.{Judges}
-use Rattle.crn_check.specs.Inner.Ordered.{IsSpared, ordered_tests, tied}
+use Rattle.crn_check.proofs.Prelude.{◌≡◌, ◌∙◌, ℕ, List, length, ap, ap₂, sym, subst, None, range_with_len, length-range_with_len, Verdict, labels_of, count_of, Test, IsTie, linkage, linkage_count, Judges, IsSpared, ordered_tests, tied}
 use Rattle.crn_check.proofs.Forms.{linkage_from}
 use Rattle.crn_check.proofs.SideMarks.{ties_ordered}
 use Rattle.crn_check.proofs.TieRows.{all_tied}

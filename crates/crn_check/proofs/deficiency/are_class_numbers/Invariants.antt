@@ -1,5 +1,4 @@
-use Rattle.std.proofs.Common.{◌↔◌, ◌+◌, drop}
-use Rattle.crn_cert.specs.Valid.{AreClassNumbers}
+use Rattle.crn_check.proofs.Prelude.{◌↔◌, ◌+◌, drop, AreClassNumbers}
 use Rattle.crn_check.proofs.deficiency.are_class_numbers.Given as goal
 
 -- all deficiencies are right if and only if those from here on are

@@ -1,9 +1,4 @@
-use Rattle.std.proofs.Common.{◌≡◌, ◌+◌, ◌<◌, ℕ, List, length, sym, subst, arith}
-use Rattle.std.proofs.lemmas.Result.{err_from_is_err_and}
-use Rattle.crn_cert.specs.Tests.{AllHold, FailsFirst}
-use Rattle.crn_cert.specs.RankTests.{rank_tests}
-use Rattle.crn_cert.specs.Parts.{IsRankProof}
-use Rattle.crn_check.specs.Inner.Bases.{members_of}
+use Rattle.crn_check.proofs.Prelude.{◌≡◌, ◌+◌, ◌<◌, ℕ, List, length, sym, subst, arith, err_from_is_err_and, AllHold, FailsFirst, rank_tests, IsRankProof, members_of}
 use Rattle.crn_check.proofs.BaseForms.{duals_few, combs_few}
 use Rattle.crn_check.proofs.ClassRanks.{ranks_formed, ranks_fail, ranks_next}
 use Rattle.crn_check.proofs.deficiency.check_classes.Goals as goal

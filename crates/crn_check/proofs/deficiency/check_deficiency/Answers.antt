@@ -1,8 +1,7 @@
-use Rattle.std.proofs.Common.{arith}
+use Rattle.crn_check.proofs.Prelude.{arith, classes_formed}
 use Rattle.crn_check.proofs.ClassRanks.{proofs_formed}
 use Rattle.crn_check.proofs.Forms.{linkage_labelled}
 use Rattle.crn_check.proofs.deficiency.check_deficiency.Goals as goal
-use Rattle.crn_cert.proofs.CallerLemmas.{classes_formed}
 
 pub check_classes-requires-clause-proofs : goal.check_classes-requires-clause-proofs
 check_classes-requires-clause-proofs c =

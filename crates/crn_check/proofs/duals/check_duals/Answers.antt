@@ -1,6 +1,4 @@
-use Rattle.std.proofs.Common.{◌≡◌, ◌+◌, [], length, get_or, refl, sym, subst, ◌∙◌, arith}
-use Rattle.std.proofs.lemmas.Bool.{false≢true}
-use Rattle.crn_cert.specs.RankTests.{IsDual, vectors_of}
+use Rattle.crn_check.proofs.Prelude.{◌≡◌, ◌+◌, [], length, get_or, refl, sym, subst, ◌∙◌, arith, false≢true, IsDual, vectors_of}
 use Rattle.crn_check.proofs.RankParts.{AreDuals, duals_none, duals_next, dual_fails, duals_all}
 use Rattle.crn_check.proofs.duals.check_duals.Goals as goal
 

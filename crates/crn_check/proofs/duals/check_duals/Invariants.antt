@@ -1,4 +1,4 @@
-use Rattle.crn_cert.specs.RankTests.{vectors_of}
+use Rattle.crn_check.proofs.Prelude.{vectors_of}
 use Rattle.crn_check.proofs.RankParts.{AreDuals}
 use Rattle.crn_check.proofs.duals.check_duals.Given as goal
 

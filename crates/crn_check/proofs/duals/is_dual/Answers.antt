@@ -1,15 +1,8 @@
-use Rattle.std.proofs.Common.{◌≡◌, ◌≢◌, ◌<◌, List, length, inr, sym, ap, subst, ◌∙◌, arith, of_z}
-use Rattle.std.specs.Prelude.{ℤ, pos}
-use Rattle.std.specs.Int.{w128}
-use Rattle.std.proofs.lemmas.Int.{ints}
-use Rattle.crn_vec.specs.Skips.{AreSkips}
-use Rattle.crn_vec.proofs.CallerLemmas.{refused}
-use Rattle.crn_cert.specs.RankTests.{vectors_of}
+use Rattle.crn_check.proofs.Prelude.{◌≡◌, ◌≢◌, ◌<◌, List, length, inr, sym, ap, subst, ◌∙◌, arith, of_z, ℤ, pos, w128, ints, AreSkips, refused, vectors_of, narrow_within}
 use Rattle.crn_check.proofs.Decided.{granted}
 use Rattle.crn_check.proofs.RankParts.{product_at, length_vectors, own_next, others_next}
 use Rattle.crn_check.proofs.duals.is_dual.Goals as goal
 use Rattle.crn_check.proofs.duals.is_dual.Goals.{else-i-j-via-then-i-j+else-product-eq0, else-i-j-via-else-i-j, else-i-j-2-via-then-i-j-2+else-product-ne0, else-i-j-2-via-else-i-j-2}
-use Rattle.crn_shape.proofs.CallerLemmas.{narrow_within}
 
 pub dot_past-product-requires-clause-a : goal.dot_past-product-requires-clause-a
 dot_past-product-requires-clause-a c = narrow_within c.args.dual.now c.requires.dual.each

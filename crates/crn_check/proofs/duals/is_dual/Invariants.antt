@@ -1,6 +1,5 @@
-use Rattle.std.proofs.Common.{◌≡◌, ◌≢◌, ◌<◌, ℕ, [], pos, get_or}
-use Rattle.crn_vec.specs.Vectors.{dot}
-use Rattle.crn_cert.specs.RankTests.{vectors_of}
+use Rattle.crn_check.proofs.Prelude.{◌≡◌, ◌≢◌, ◌<◌, ℕ, [], get_or, dot, vectors_of}
+use Rattle.std.proofs.Common.{pos}
 use Rattle.crn_check.proofs.duals.is_dual.Given as goal
 
 -- the products with the vectors so far are as they have to be

@@ -1,5 +1,4 @@
-use Rattle.std.proofs.Common.{sym, ◌∙◌}
-use Rattle.std.proofs.lemmas.Bool.{false≢true}
+use Rattle.crn_check.proofs.Prelude.{sym, ◌∙◌, false≢true}
 use Rattle.crn_check.proofs.Leaving.{exits_right, finals_hold, exits_leave}
 use Rattle.crn_check.proofs.exits.are_exits.Goals as goal
 

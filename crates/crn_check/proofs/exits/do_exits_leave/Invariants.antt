@@ -1,5 +1,4 @@
-use Rattle.std.proofs.Common.{◌≢◌, ◌+◌, ◌<◌, ℕ, get_or}
-use Rattle.crn_cert.specs.ClassTests.{GoesOut}
+use Rattle.crn_check.proofs.Prelude.{◌≢◌, ◌+◌, ◌<◌, ℕ, get_or, GoesOut}
 use Rattle.crn_check.proofs.exits.do_exits_leave.Given as goal
 
 -- each exit so far that is not 0 leaves its class

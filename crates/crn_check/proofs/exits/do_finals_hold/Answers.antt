@@ -1,9 +1,7 @@
-use Rattle.std.proofs.Common.{◌<◌, length, arith}
+use Rattle.crn_check.proofs.Prelude.{◌<◌, length, arith, goes_at, refused}
 use Rattle.crn_check.proofs.Counted.{label_from}
 use Rattle.crn_check.proofs.Leaving.{leaves_final}
 use Rattle.crn_check.proofs.exits.do_finals_hold.Goals as goal
-use Rattle.crn_cert.proofs.CallerLemmas.{goes_at}
-use Rattle.crn_vec.proofs.CallerLemmas.{refused}
 
 pub returns-then-exits-from-eq0 : goal.returns-then-exits-from-eq0
 returns-then-exits-from-eq0 c =

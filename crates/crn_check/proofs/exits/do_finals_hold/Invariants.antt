@@ -1,5 +1,4 @@
-use Rattle.std.proofs.Common.{◌≢◌, ◌<◌, ◌-◌, ℕ, get_or}
-use Rattle.crn_vec.specs.Strong.{IsReaction}
+use Rattle.crn_check.proofs.Prelude.{◌≢◌, ◌<◌, ◌-◌, ℕ, get_or, IsReaction}
 use Rattle.crn_check.proofs.exits.do_finals_hold.Given as goal
 
 -- each reaction so far that leaves its class leaves one whose exit is not 0

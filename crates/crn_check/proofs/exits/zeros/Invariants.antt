@@ -1,5 +1,4 @@
-use Rattle.std.proofs.Common.{◌≡◌, ◌≤◌, take}
-use Rattle.crn_cert.specs.ClassTests.{zeros_in}
+use Rattle.crn_check.proofs.Prelude.{◌≡◌, ◌≤◌, take, zeros_in}
 use Rattle.crn_check.proofs.exits.zeros.Given as goal
 
 abbrev pub invariant-loop-exit : goal.invariant-loop-exit

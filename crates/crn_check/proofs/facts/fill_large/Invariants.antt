@@ -1,4 +1,4 @@
-use Rattle.std.proofs.Common.{◌≡◌, ◌≤◌, ◌+◌, length, take}
+use Rattle.crn_check.proofs.Prelude.{◌≡◌, ◌≤◌, ◌+◌, length, take}
 use Rattle.crn_check.proofs.facts.fill_large.Given as goal
 
 -- the list holds the numbers so far, and has room for the others

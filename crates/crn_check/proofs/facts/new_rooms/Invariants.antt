@@ -1,6 +1,4 @@
-use Rattle.std.proofs.Common.{◌≡◌, length}
-use Rattle.std.specs.List.{AllByRecursion}
-use Rattle.crn_check.specs.Facts.{IsRoom}
+use Rattle.crn_check.proofs.Prelude.{◌≡◌, length, AllByRecursion, IsRoom}
 use Rattle.crn_check.proofs.facts.new_rooms.Given as goal
 
 -- there are so many rooms so far

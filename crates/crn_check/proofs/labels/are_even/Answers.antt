@@ -1,9 +1,7 @@
-use Rattle.std.proofs.Common.{◌≡◌, ◌<◌, length, arith}
+use Rattle.crn_check.proofs.Prelude.{◌≡◌, ◌<◌, length, arith, goes_at, refused}
 use Rattle.crn_check.proofs.Decided.{granted}
 use Rattle.crn_check.proofs.Counted.{place_between, between_place}
 use Rattle.crn_check.proofs.labels.are_even.Goals as goal
-use Rattle.crn_cert.proofs.CallerLemmas.{goes_at}
-use Rattle.crn_vec.proofs.CallerLemmas.{refused}
 
 pub returns-then-labels-reactant : goal.returns-then-labels-reactant
 returns-then-labels-reactant c =

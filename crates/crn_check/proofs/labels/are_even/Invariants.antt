@@ -1,5 +1,4 @@
-use Rattle.std.proofs.Common.{◌≡◌, ◌<◌, ℕ, get_or}
-use Rattle.crn_vec.specs.Strong.{IsReaction}
+use Rattle.crn_check.proofs.Prelude.{◌≡◌, ◌<◌, ℕ, get_or, IsReaction}
 use Rattle.crn_check.proofs.labels.are_even.Given as goal
 
 -- the complexes of each reaction so far have equal labels

@@ -1,7 +1,4 @@
-use Rattle.std.proofs.Common.{◌≡◌, ◌+◌, ℕ, length, get_or, sym, subst, arith}
-use Rattle.std.proofs.lemmas.Bool.{eq-eqb, eqb-true}
-use Rattle.crn_cert.specs.ClassTests.{AreNumbered}
-use Rattle.crn_vec.proofs.CallerLemmas.{refused}
+use Rattle.crn_check.proofs.Prelude.{◌≡◌, ◌+◌, ℕ, length, get_or, sym, subst, arith, eq-eqb, eqb-true, AreNumbered, refused}
 use Rattle.crn_check.proofs.Numbering.{IsNumberedTo, numbered_old, numbered_new, numbered_gap, numbered_all, one_count}
 use Rattle.crn_check.proofs.labels.are_numbered.Goals as goal
 use Rattle.crn_check.proofs.labels.are_numbered.Goals.{then-label-most+else-label-most-gt1, else-label-most}

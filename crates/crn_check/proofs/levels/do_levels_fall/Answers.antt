@@ -1,10 +1,7 @@
-use Rattle.std.proofs.Common.{◌≡◌, ◌<◌, length, get_or, refl, sym, ◌∙◌, arith}
-use Rattle.std.proofs.lemmas.Bool.{false≢true}
+use Rattle.crn_check.proofs.Prelude.{◌≡◌, ◌<◌, length, get_or, refl, sym, ◌∙◌, arith, false≢true, goes_at, refused}
 use Rattle.crn_check.proofs.Decided.{granted}
 use Rattle.crn_check.proofs.Counted.{place_between, between_place}
 use Rattle.crn_check.proofs.levels.do_levels_fall.Goals as goal
-use Rattle.crn_cert.proofs.CallerLemmas.{goes_at}
-use Rattle.crn_vec.proofs.CallerLemmas.{refused}
 
 pub returns-then-not-does_fall : goal.returns-then-not-does_fall
 returns-then-not-does_fall c =

@@ -1,6 +1,4 @@
-use Rattle.std.proofs.Common.{◌<◌, ℕ}
-use Rattle.crn_vec.specs.Strong.{IsReaction}
-use Rattle.crn_check.specs.Inner.Tests.{Falls}
+use Rattle.crn_check.proofs.Prelude.{◌<◌, ℕ, IsReaction, Falls}
 use Rattle.crn_check.proofs.levels.do_levels_fall.Given as goal
 
 -- each reaction so far stays in its class or falls

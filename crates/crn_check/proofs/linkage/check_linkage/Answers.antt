@@ -1,8 +1,4 @@
-use Rattle.std.proofs.Common.{◌≡◌, Result, List, ℕ, subst}
-use Rattle.crn_vec.specs.Network.{Net}
-use Rattle.crn_check.specs.declared.fault.CheckFault.{CheckFault}
-use Rattle.crn_check.specs.Check.{Judges}
-use Rattle.crn_check.specs.Inner.Tests.{link_tests}
+use Rattle.crn_check.proofs.Prelude.{◌≡◌, Result, List, ℕ, subst, Net, CheckFault, Judges, link_tests}
 use Rattle.crn_check.proofs.linkage.check_linkage.Goals as goal
 
 -- the tests over equal lists

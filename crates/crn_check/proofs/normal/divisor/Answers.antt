@@ -1,10 +1,4 @@
-use Rattle.std.proofs.Common.{◌≡◌, inl, inr, length, sym, subst, ap, ◌∙◌, arith, below_more}
-use Rattle.std.specs.Prelude.{pos, unsigned_abs}
-use Rattle.std.specs.Int.{◌∣◌}
-use Rattle.std.proofs.lemmas.Nat.Gcd.{dvd-zero, dvd_trans}
-use Rattle.crn_vec.specs.Vectors.{entry}
-use Rattle.crn_vec.proofs.CallerLemmas.{all_at, held, lt_or, past_end}
-use Rattle.crn_cert.specs.Ranges.{IsNarrow}
+use Rattle.crn_check.proofs.Prelude.{◌≡◌, inl, inr, length, sym, subst, ap, ◌∙◌, arith, below_more, pos, unsigned_abs, ◌∣◌, dvd-zero, dvd_trans, entry, all_at, held, lt_or, past_end, IsNarrow}
 use Rattle.crn_check.proofs.normal.divisor.Goals as goal
 
 pub loop-x-preserved : goal.loop-x-preserved

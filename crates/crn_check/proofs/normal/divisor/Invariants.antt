@@ -1,7 +1,4 @@
-use Rattle.std.proofs.Common.{ℕ, ◌<◌}
-use Rattle.std.specs.Prelude.{unsigned_abs}
-use Rattle.std.specs.Int.{◌∣◌}
-use Rattle.crn_vec.specs.Vectors.{entry}
+use Rattle.crn_check.proofs.Prelude.{ℕ, ◌<◌, unsigned_abs, ◌∣◌, entry}
 use Rattle.crn_check.proofs.normal.divisor.Given as goal
 
 -- the greatest common divisor of the numbers so far

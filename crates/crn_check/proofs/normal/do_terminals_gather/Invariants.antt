@@ -1,7 +1,5 @@
-use Rattle.std.proofs.Common.{◌≡◌, ◌<◌, ℕ, suc, pos, get_or}
-use Rattle.std.specs.Prelude.{◌≤ℤ◌}
-use Rattle.crn_vec.specs.Vectors.{dot}
-use Rattle.crn_vec.specs.Sums.{label_marks}
+use Rattle.crn_check.proofs.Prelude.{◌≡◌, ◌<◌, ℕ, suc, get_or, ◌≤ℤ◌, dot, label_marks}
+use Rattle.std.proofs.Common.{pos}
 use Rattle.crn_check.proofs.normal.do_terminals_gather.Given as goal
 
 -- the sums over the terminal classes so far are at least zero

@@ -1,5 +1,4 @@
-use Rattle.std.proofs.Common.{arith}
-use Rattle.std.proofs.lemmas.Grind.{common_steps}
+use Rattle.crn_check.proofs.Prelude.{arith, common_steps}
 use Rattle.crn_check.proofs.Leading.{inside_nonzero, nonzero_inside}
 use Rattle.crn_check.proofs.normal.is_nonzero.Goals as goal
 

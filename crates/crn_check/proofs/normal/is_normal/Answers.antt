@@ -1,6 +1,4 @@
-use Rattle.std.proofs.Common.{◌∙◌, ℕ, List, length, ap}
-use Rattle.crn_cert.specs.declared.answer.Verdict.{Verdict}
-use Rattle.crn_cert.specs.Questions.{labels_of}
+use Rattle.crn_check.proofs.Prelude.{◌∙◌, ℕ, List, length, ap, Verdict, labels_of}
 use Rattle.crn_check.proofs.Forms.{strong_labelled, linkage_labelled}
 use Rattle.crn_check.proofs.normal.is_normal.Goals as goal
 

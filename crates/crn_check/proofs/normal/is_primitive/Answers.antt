@@ -1,5 +1,4 @@
-use Rattle.std.proofs.Common.{arith}
-use Rattle.std.proofs.lemmas.Grind.{common_steps}
+use Rattle.crn_check.proofs.Prelude.{arith, common_steps}
 use Rattle.crn_check.proofs.Leading.{primitive_by, by_primitive}
 use Rattle.crn_check.proofs.normal.is_primitive.Goals as goal
 

@@ -1,10 +1,4 @@
-use Rattle.std.proofs.Common.{ℕ, sym, subst, arith}
-use Rattle.std.specs.Prelude.{pos, ◌≤ℤ◌}
-use Rattle.std.proofs.lemmas.Int.{ints}
-use Rattle.std.proofs.lemmas.Grind.{common_steps}
-use Rattle.crn_vec.specs.Vectors.{entry}
-use Rattle.crn_vec.proofs.CallerLemmas.{all_at, held}
-use Rattle.crn_cert.specs.Ranges.{IsNarrow}
+use Rattle.crn_check.proofs.Prelude.{ℕ, sym, subst, arith, pos, ◌≤ℤ◌, ints, common_steps, entry, all_at, held, IsNarrow}
 use Rattle.crn_check.proofs.Leading.{leads_by, leads_at}
 use Rattle.crn_check.proofs.normal.leads_positive.Goals as goal
 

@@ -1,5 +1,4 @@
-use Rattle.std.proofs.Common.{sym, ap, of_z, arith}
-use Rattle.std.specs.Int.{w128}
+use Rattle.crn_check.proofs.Prelude.{sym, ap, of_z, arith, w128}
 use Rattle.crn_check.proofs.Leading.{least_is, least_none}
 use Rattle.crn_check.proofs.normal.least.Goals as goal
 

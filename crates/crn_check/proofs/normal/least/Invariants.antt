@@ -1,5 +1,5 @@
-use Rattle.std.proofs.Common.{◌≡◌, ◌<◌, ℕ, pos}
-use Rattle.crn_vec.specs.Vectors.{entry}
+use Rattle.crn_check.proofs.Prelude.{◌≡◌, ◌<◌, ℕ, entry}
+use Rattle.std.proofs.Common.{pos}
 use Rattle.crn_check.proofs.normal.least.Given as goal
 
 -- the numbers so far are zero

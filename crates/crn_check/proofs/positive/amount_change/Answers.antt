@@ -1,10 +1,4 @@
-use Rattle.std.proofs.Common.{◌≡◌, ◌≤◌, ◌<◌, ◌*◌, ◌+◌, ◌∙◌, List, length, take, ap, sym, arith, to_z, take_all}
-use Rattle.std.specs.Prelude.{ℤ, ◌+ℤ◌, ◌*ℤ◌, unsigned_abs}
-use Rattle.std.specs.Int.{w128}
-use Rattle.crn_vec.specs.Vectors.{dot, column, entry}
-use Rattle.crn_vec.specs.Deficiency.{vectors}
-use Rattle.crn_vec.specs.declared.limits.TheConstants.{MAX_AMOUNT, WIDE_SOLUTION}
-use Rattle.crn_vec.proofs.CallerLemmas.{held, sum_within, dot_step, next_sum, within_at, entry-column, length-column, vectors_count, vector_at}
+use Rattle.crn_check.proofs.Prelude.{◌≡◌, ◌≤◌, ◌<◌, ◌*◌, ◌+◌, ◌∙◌, List, length, take, ap, sym, arith, to_z, take_all, ℤ, ◌+ℤ◌, ◌*ℤ◌, unsigned_abs, w128, dot, column, entry, vectors, MAX_AMOUNT, WIDE_SOLUTION, held, sum_within, dot_step, next_sum, within_at, entry-column, length-column, vectors_count, vector_at}
 use Rattle.crn_check.proofs.positive.amount_change.Goals as goal
 
 pub times-sum-requires-clause-y : goal.times-sum-requires-clause-y

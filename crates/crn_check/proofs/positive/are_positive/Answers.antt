@@ -1,6 +1,4 @@
-use Rattle.std.proofs.Common.{arith}
-use Rattle.std.specs.Prelude.{pos, ◌≤ℤ◌}
-use Rattle.crn_vec.proofs.CallerLemmas.{all_given}
+use Rattle.crn_check.proofs.Prelude.{arith, pos, ◌≤ℤ◌, all_given}
 use Rattle.crn_check.proofs.Decided.{granted}
 use Rattle.crn_check.proofs.positive.are_positive.Goals as goal
 

@@ -1,6 +1,5 @@
-use Rattle.std.proofs.Common.{◌<◌, ℕ, pos}
-use Rattle.std.specs.Prelude.{◌≤ℤ◌}
-use Rattle.crn_vec.specs.Vectors.{entry}
+use Rattle.crn_check.proofs.Prelude.{◌<◌, ℕ, ◌≤ℤ◌, entry}
+use Rattle.std.proofs.Common.{pos}
 use Rattle.crn_check.proofs.positive.are_positive.Given as goal
 
 abbrev pub invariant-loop-value : goal.invariant-loop-value

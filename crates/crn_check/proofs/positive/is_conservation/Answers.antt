@@ -1,8 +1,4 @@
-use Rattle.std.proofs.Common.{◌≡◌, ap, ◌∙◌, arith, of_z}
-use Rattle.std.specs.Prelude.{pos}
-use Rattle.std.specs.Int.{w128}
-use Rattle.crn_vec.specs.Vectors.{dot}
-use Rattle.crn_vec.proofs.CallerLemmas.{refused}
+use Rattle.crn_check.proofs.Prelude.{◌≡◌, ap, ◌∙◌, arith, of_z, pos, w128, dot, refused}
 use Rattle.crn_check.proofs.Decided.{granted}
 use Rattle.crn_check.proofs.Widths.{all_reactions, each_reaction}
 use Rattle.crn_check.proofs.positive.is_conservation.Goals as goal

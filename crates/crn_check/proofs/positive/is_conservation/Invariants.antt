@@ -1,6 +1,5 @@
-use Rattle.std.proofs.Common.{◌≡◌, ◌<◌, ℕ, pos, get_or}
-use Rattle.crn_vec.specs.Network.{reaction_vector}
-use Rattle.crn_vec.specs.Vectors.{dot}
+use Rattle.crn_check.proofs.Prelude.{◌≡◌, ◌<◌, ℕ, get_or, reaction_vector, dot}
+use Rattle.std.proofs.Common.{pos}
 use Rattle.crn_check.proofs.positive.is_conservation.Given as goal
 
 abbrev pub invariant-loop-r : goal.invariant-loop-r

@@ -1,6 +1,4 @@
-use Rattle.std.proofs.Common.{inl, inr, length, arith}
-use Rattle.crn_vec.specs.Deficiency.{vectors}
-use Rattle.crn_vec.proofs.CallerLemmas.{lt_or}
+use Rattle.crn_check.proofs.Prelude.{inl, inr, length, arith, vectors, lt_or}
 use Rattle.crn_check.proofs.Decided.{granted}
 use Rattle.crn_check.proofs.Widths.{combination_past, widths_of_all}
 use Rattle.crn_check.proofs.positive.is_dependence.Goals as goal

@@ -1,6 +1,5 @@
-use Rattle.std.proofs.Common.{◌≡◌, ◌<◌, ℕ, pos}
-use Rattle.crn_vec.specs.Rank.{combination_at}
-use Rattle.crn_vec.specs.Deficiency.{vectors}
+use Rattle.crn_check.proofs.Prelude.{◌≡◌, ◌<◌, ℕ, combination_at, vectors}
+use Rattle.std.proofs.Common.{pos}
 use Rattle.crn_check.proofs.positive.is_dependence.Given as goal
 
 abbrev pub invariant-loop-s : goal.invariant-loop-s

@@ -1,8 +1,4 @@
-use Rattle.std.proofs.Common.{◌≡◌, inl, inr, length, arith}
-use Rattle.std.proofs.lemmas.Bool.{cases_Bool}
-use Rattle.std.proofs.lemmas.Int.{ints}
-use Rattle.crn_vec.specs.Deficiency.{vectors}
-use Rattle.crn_vec.proofs.CallerLemmas.{lt_or}
+use Rattle.crn_check.proofs.Prelude.{◌≡◌, inl, inr, length, arith, cases_Bool, ints, vectors, lt_or}
 use Rattle.crn_check.proofs.Widths.{combination_past, widths_of_all}
 use Rattle.crn_check.proofs.positive.rules_out_conservation.Goals as goal
 

@@ -1,7 +1,5 @@
-use Rattle.std.proofs.Common.{◌≡◌, ◌≢◌, ◌<◌, ℕ, pos, false, true}
-use Rattle.std.specs.Prelude.{◌≤ℤ◌}
-use Rattle.crn_vec.specs.Rank.{combination_at}
-use Rattle.crn_vec.specs.Deficiency.{vectors}
+use Rattle.crn_check.proofs.Prelude.{◌≡◌, ◌≢◌, ◌<◌, ℕ, false, true, ◌≤ℤ◌, combination_at, vectors}
+use Rattle.std.proofs.Common.{pos}
 use Rattle.crn_check.proofs.positive.rules_out_conservation.Given as goal
 
 -- no species so far is increased, and the mark says whether one is decreased

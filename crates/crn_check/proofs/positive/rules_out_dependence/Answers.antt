@@ -1,10 +1,4 @@
-use Rattle.std.proofs.Common.{◌≡◌, inl, inr, length, get_or, ap, arith}
-use Rattle.std.specs.Prelude.{pos, ◌≤ℤ◌}
-use Rattle.std.proofs.lemmas.Bool.{cases_Bool}
-use Rattle.std.proofs.lemmas.Int.{ints}
-use Rattle.crn_vec.specs.Network.{reaction_vector}
-use Rattle.crn_vec.specs.Vectors.{dot}
-use Rattle.crn_vec.proofs.CallerLemmas.{refused}
+use Rattle.crn_check.proofs.Prelude.{◌≡◌, inl, inr, length, get_or, ap, arith, pos, ◌≤ℤ◌, cases_Bool, ints, reaction_vector, dot, refused}
 use Rattle.crn_check.proofs.Widths.{all_reactions, each_reaction, vector_in, place_of_vector}
 use Rattle.crn_check.proofs.positive.rules_out_dependence.Goals as goal
 

@@ -1,7 +1,5 @@
-use Rattle.std.proofs.Common.{◌≡◌, ◌<◌, ℕ, pos, negsuc, false, true, get_or}
-use Rattle.std.specs.Prelude.{◌≤ℤ◌}
-use Rattle.crn_vec.specs.Network.{reaction_vector}
-use Rattle.crn_vec.specs.Vectors.{dot}
+use Rattle.crn_check.proofs.Prelude.{◌≡◌, ◌<◌, ℕ, false, true, get_or, ◌≤ℤ◌, reaction_vector, dot}
+use Rattle.std.proofs.Common.{pos, negsuc}
 use Rattle.crn_check.proofs.positive.rules_out_dependence.Given as goal
 
 -- no reaction so far adds to the weight, and the mark says whether one takes from it

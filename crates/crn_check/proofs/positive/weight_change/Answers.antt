@@ -1,5 +1,5 @@
 use Rattle.crn_check.proofs.positive.weight_change.Goals as goal
-use Rattle.crn_shape.proofs.CallerLemmas.{narrow_within}
+use Rattle.crn_check.proofs.Prelude.{narrow_within}
 
 pub dot-requires-clause-a : goal.dot-requires-clause-a
 dot-requires-clause-a c = narrow_within c.args.weights.now c.requires.weights.each

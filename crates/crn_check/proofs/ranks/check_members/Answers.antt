@@ -1,7 +1,4 @@
-use Rattle.std.proofs.Common.{◌+◌, ℕ, List, length, ap, sym, subst, arith}
-use Rattle.std.proofs.lemmas.Result.{err_from_is_err_and}
-use Rattle.crn_cert.specs.RankTests.{dual_tests, comb_tests, outside, vectors_of}
-use Rattle.crn_check.specs.Inner.Bases.{IsBase, members_of}
+use Rattle.crn_check.proofs.Prelude.{◌+◌, ℕ, List, length, ap, sym, subst, arith, err_from_is_err_and, dual_tests, comb_tests, outside, vectors_of, IsBase, members_of}
 use Rattle.crn_check.proofs.BaseForms.{base_is, base_few, base_outside}
 use Rattle.crn_check.proofs.Judging.{judges_stop, judges_go}
 use Rattle.crn_check.proofs.ranks.check_members.Goals as goal

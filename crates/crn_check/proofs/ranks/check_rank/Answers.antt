@@ -1,8 +1,5 @@
-use Rattle.std.proofs.Common.{ℕ, length, sym, subst}
-use Rattle.std.specs.List.{range_with_len}
-use Rattle.crn_cert.specs.Parts.{IsRankProof}
+use Rattle.crn_check.proofs.Prelude.{ℕ, length, sym, subst, range_with_len, IsRankProof, rank_formed}
 use Rattle.crn_check.proofs.ranks.check_rank.Goals as goal
-use Rattle.crn_cert.proofs.CallerLemmas.{rank_formed}
 
 pub check_rank_proof-requires-clause-proof : goal.check_rank_proof-requires-clause-proof
 check_rank_proof-requires-clause-proof c =

@@ -1,7 +1,4 @@
-use Rattle.std.proofs.Common.{ℕ, List, length, sym, subst}
-use Rattle.crn_cert.specs.RankTests.{rank_tests}
-use Rattle.crn_cert.specs.Parts.{IsRankProof}
-use Rattle.crn_check.specs.Check.{Judges}
+use Rattle.crn_check.proofs.Prelude.{ℕ, List, length, sym, subst, rank_tests, IsRankProof, Judges}
 use Rattle.crn_check.proofs.BaseForms.{all_members}
 use Rattle.crn_check.proofs.ranks.check_rank_proof.Goals as goal
 

@@ -1,14 +1,5 @@
-use Rattle.std.proofs.Common.{◌≡◌, ◌∙◌, ℕ, List, length, ap, ap₂, sym, subst}
-use Rattle.crn_cert.specs.declared.answer.Verdict.{Verdict}
-use Rattle.crn_cert.specs.Questions.{labels_of, exits_of}
+use Rattle.crn_check.proofs.Prelude.{◌≡◌, ◌∙◌, ℕ, List, length, ap, ap₂, sym, subst, Verdict, labels_of, exits_of, Test, AreSideMarks, linkage, strong, exits, pair_places, sides_formed, pairs_to, Judges, ordered_tests}
 use Rattle.crn_cert.specs.Parts.{AreSides}
-use Rattle.crn_cert.specs.Tests.{Test}
-use Rattle.crn_cert.specs.ClassTests.{AreSideMarks}
-use Rattle.crn_cert.specs.Valid.{linkage, strong, exits, pair_places}
-use Rattle.crn_cert.proofs.CallerLemmas.{sides_formed}
-use Rattle.crn_pairs.specs.Pairs.{pairs_to}
-use Rattle.crn_check.specs.Check.{Judges}
-use Rattle.crn_check.specs.Inner.Ordered.{ordered_tests}
 use Rattle.crn_check.proofs.Forms.{linkage_labelled}
 use Rattle.crn_check.proofs.SideMarks.{sides_ordered}
 use Rattle.crn_check.proofs.regular.check_regular.Goals as goal

@@ -1,7 +1,4 @@
-use Rattle.std.proofs.Common.{◌≡◌, ◌∙◌, ap}
-use Rattle.crn_cert.specs.declared.answer.Verdict.{Verdict}
-use Rattle.crn_cert.specs.Questions.{labels_of, exits_of}
-use Rattle.crn_cert.specs.Valid.{strong, exits}
+use Rattle.crn_check.proofs.Prelude.{◌≡◌, ◌∙◌, ap, Verdict, labels_of, exits_of, strong, exits}
 use Rattle.crn_check.proofs.Forms.{strong_from}
 use Rattle.crn_check.proofs.regular.is_within_terminal.Goals as goal
 

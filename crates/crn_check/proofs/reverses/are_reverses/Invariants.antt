@@ -1,5 +1,4 @@
-use Rattle.std.proofs.Common.{◌<◌, ℕ, get_or}
-use Rattle.crn_cert.specs.ClassTests.{IsReverse}
+use Rattle.crn_check.proofs.Prelude.{◌<◌, ℕ, get_or, IsReverse}
 use Rattle.crn_check.proofs.reverses.are_reverses.Given as goal
 
 -- each reaction so far has the reverse that the list names

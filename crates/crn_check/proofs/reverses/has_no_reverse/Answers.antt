@@ -1,5 +1,4 @@
-use Rattle.std.proofs.Common.{◌≡◌, ◌+◌, length, arith}
-use Rattle.crn_vec.proofs.CallerLemmas.{refused}
+use Rattle.crn_check.proofs.Prelude.{◌≡◌, ◌+◌, length, arith, refused}
 use Rattle.crn_check.proofs.Decided.{granted}
 use Rattle.crn_check.proofs.Counted.{has_reverse, no_reverse}
 use Rattle.crn_check.proofs.reverses.has_no_reverse.Goals as goal

@@ -1,5 +1,4 @@
-use Rattle.std.proofs.Common.{◌+◌, ◌-◌, ◌<◌, ℕ}
-use Rattle.crn_cert.specs.ClassTests.{IsReverse}
+use Rattle.crn_check.proofs.Prelude.{◌+◌, ◌-◌, ◌<◌, ℕ, IsReverse}
 use Rattle.crn_check.proofs.reverses.has_no_reverse.Given as goal
 
 -- no reaction so far is the reverse of the named one

@@ -1,11 +1,7 @@
-use Rattle.std.proofs.Common.{◌≡◌, ◌<◌, inl, inr, length, sym, ◌∙◌, ap, arith, of_z}
-use Rattle.std.specs.Int.{w128}
-use Rattle.std.proofs.lemmas.Bool.{false≢true}
+use Rattle.crn_check.proofs.Prelude.{◌≡◌, ◌<◌, inl, inr, length, sym, ◌∙◌, ap, arith, of_z, w128, false≢true, goes_at, refused}
 use Rattle.crn_check.proofs.Counted.{place_between, between_place}
 use Rattle.crn_check.proofs.Decided.{granted}
 use Rattle.crn_check.proofs.sides.are_equal_but.Goals as goal
-use Rattle.crn_cert.proofs.CallerLemmas.{goes_at}
-use Rattle.crn_vec.proofs.CallerLemmas.{refused}
 
 pub returns-then-not-is_between : goal.returns-then-not-is_between
 returns-then-not-is_between c =

@@ -1,7 +1,4 @@
-use Rattle.std.proofs.Common.{◌≡◌, ◌<◌, ◌⊎◌, ℕ}
-use Rattle.crn_vec.specs.Vectors.{entry}
-use Rattle.crn_vec.specs.Strong.{IsReaction}
-use Rattle.crn_vec.specs.CutPairs.{IsBetween}
+use Rattle.crn_check.proofs.Prelude.{◌≡◌, ◌<◌, ◌⊎◌, ℕ, entry, IsReaction, IsBetween}
 use Rattle.crn_check.proofs.sides.are_equal_but.Given as goal
 
 -- each reaction so far joins complexes of equal marks, but for those between y and z

@@ -1,5 +1,5 @@
-use Rattle.std.proofs.Common.{◌≡◌, ◌≢◌, ◌<◌, ℕ, pos, get_or}
-use Rattle.crn_vec.specs.Vectors.{entry}
+use Rattle.crn_check.proofs.Prelude.{◌≡◌, ◌≢◌, ◌<◌, ℕ, get_or, entry}
+use Rattle.std.proofs.Common.{pos}
 use Rattle.crn_check.proofs.sides.are_zero_outside.Given as goal
 
 -- the marks so far are 0 outside the class

@@ -1,10 +1,5 @@
-use Rattle.std.proofs.Common.{◌≡◌, ◌+◌, ◌<◌, [], length, get_or, refl, sym, subst, ◌∙◌, ap, arith}
-use Rattle.std.specs.Prelude.{ℤ, List}
-use Rattle.std.proofs.lemmas.Bool.{false≢true}
-use Rattle.crn_vec.proofs.CallerLemmas.{all_at}
-use Rattle.crn_cert.specs.ClassTests.{AreSideMarks}
-use Rattle.crn_cert.specs.Ranges.{AreBits}
-use Rattle.crn_pairs.specs.Pairs.{is_pair}
+use Rattle.crn_check.proofs.Prelude.{◌≡◌, ◌+◌, ◌<◌, [], length, get_or, refl, sym, subst, ◌∙◌, ap, arith, ℤ, false≢true, all_at, AreSideMarks, AreBits, is_pair}
+use Rattle.std.specs.Prelude.{List}
 use Rattle.crn_check.proofs.InOrder.{AreDone, done_none, done_skip, done_some, done_next, done_fails, done_all}
 use Rattle.crn_check.proofs.sides.check_sides.Goals as goal
 use Rattle.crn_check.proofs.sides.check_sides.Goals.{then-is_pair+else-not-are_side_marks, else-is_pair}

@@ -1,6 +1,4 @@
-use Rattle.std.proofs.Common.{length}
-use Rattle.crn_cert.specs.ClassTests.{AreSideMarks}
-use Rattle.crn_pairs.specs.Pairs.{is_pair}
+use Rattle.crn_check.proofs.Prelude.{length, AreSideMarks, is_pair}
 use Rattle.crn_check.proofs.InOrder.{AreDone}
 use Rattle.crn_check.proofs.sides.check_sides.Given as goal
 

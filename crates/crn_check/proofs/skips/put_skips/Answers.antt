@@ -1,10 +1,4 @@
-use Rattle.std.proofs.Common.{◌≡◌, ◌<◌, ◌∙◌, ℕ, List, inl, inr, [], length, get_or, sym, subst, arith}
-use Rattle.std.specs.Prelude.{ℤ}
-use Rattle.std.proofs.lemmas.Grind.{get_or-set_at}
-use Rattle.std.proofs.lemmas.List.{get_or-set_other, length-set}
-use Rattle.crn_vec.proofs.CallerLemmas.{lt_or}
-use Rattle.crn_cert.specs.RankTests.{vector_of}
-use Rattle.crn_vec.specs.Skips.{AreSkips}
+use Rattle.crn_check.proofs.Prelude.{◌≡◌, ◌<◌, ◌∙◌, ℕ, List, inl, inr, [], length, get_or, sym, subst, arith, ℤ, get_or-set_at, get_or-set_other, length-set, lt_or, vector_of, AreSkips}
 use Rattle.crn_check.proofs.skips.put_skips.Goals as goal
 
 pub loop-j-preserved : goal.loop-j-preserved

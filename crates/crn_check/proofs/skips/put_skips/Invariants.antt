@@ -1,7 +1,4 @@
-use Rattle.std.proofs.Common.{◌≡◌, ◌<◌, ℕ, [], length, get_or}
-use Rattle.crn_vec.specs.declared.limits.TheConstants.{MAX_SPECIES}
-use Rattle.crn_cert.specs.RankTests.{vector_of}
-use Rattle.crn_vec.specs.Skips.{AreSkips}
+use Rattle.crn_check.proofs.Prelude.{◌≡◌, ◌<◌, ℕ, [], length, get_or, MAX_SPECIES, vector_of, AreSkips}
 use Rattle.crn_check.proofs.skips.put_skips.Given as goal
 
 -- the places of the members so far

@@ -1,7 +1,4 @@
-use Rattle.std.proofs.Common.{◌≡◌, ◌≤◌, ◌*◌, take}
-use Rattle.std.specs.Prelude.{unsigned_abs}
-use Rattle.crn_vec.specs.Vectors.{dot, column}
-use Rattle.crn_vec.specs.declared.limits.TheConstants.{MAX_AMOUNT, WIDE_SOLUTION}
+use Rattle.crn_check.proofs.Prelude.{◌≡◌, ◌≤◌, ◌*◌, take, unsigned_abs, dot, column, MAX_AMOUNT, WIDE_SOLUTION}
 use Rattle.crn_check.proofs.space.amount_in.Given as goal
 
 -- the sum over the complexes so far, and its bound

@@ -1,6 +1,5 @@
-use Rattle.std.proofs.Common.{◌≡◌, ◌≤◌, ℕ, pos}
-use Rattle.crn_vec.specs.Vectors.{dot}
-use Rattle.crn_vec.specs.Sums.{label_marks}
+use Rattle.crn_check.proofs.Prelude.{◌≡◌, ◌≤◌, ℕ, dot, label_marks}
+use Rattle.std.proofs.Common.{pos}
 use Rattle.crn_check.proofs.space.are_sums_zero.Given as goal
 
 -- the sums over the classes so far are zero

@@ -1,10 +1,4 @@
-use Rattle.std.proofs.Common.{◌≡◌, ◌≤◌, ◌*◌, ◌+◌, ◌<◌, ◌∙◌, length, take, ap, sym, arith, to_z, take_all}
-use Rattle.std.specs.Prelude.{ℤ, ◌+ℤ◌, ◌*ℤ◌, unsigned_abs}
-use Rattle.std.specs.Int.{w128}
-use Rattle.crn_vec.specs.Vectors.{dot, entry}
-use Rattle.crn_vec.specs.Sums.{label_marks}
-use Rattle.crn_vec.specs.declared.limits.TheConstants.{WIDE_SOLUTION}
-use Rattle.crn_vec.proofs.CallerLemmas.{held, sum_within, dot_step, next_sum, length-label_marks, label_mark}
+use Rattle.crn_check.proofs.Prelude.{◌≡◌, ◌≤◌, ◌*◌, ◌+◌, ◌<◌, ◌∙◌, length, take, ap, sym, arith, to_z, take_all, ℤ, ◌+ℤ◌, ◌*ℤ◌, unsigned_abs, w128, dot, entry, label_marks, WIDE_SOLUTION, held, sum_within, dot_step, next_sum, length-label_marks, label_mark}
 use Rattle.crn_check.proofs.space.class_sum.Goals as goal
 
 pub loop-c-preserved : goal.loop-c-preserved

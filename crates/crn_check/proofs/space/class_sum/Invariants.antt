@@ -1,8 +1,4 @@
-use Rattle.std.proofs.Common.{◌≡◌, ◌≤◌, ◌*◌, take}
-use Rattle.std.specs.Prelude.{unsigned_abs}
-use Rattle.crn_vec.specs.declared.limits.TheConstants.{WIDE_SOLUTION}
-use Rattle.crn_vec.specs.Vectors.{dot}
-use Rattle.crn_vec.specs.Sums.{label_marks}
+use Rattle.crn_check.proofs.Prelude.{◌≡◌, ◌≤◌, ◌*◌, take, unsigned_abs, WIDE_SOLUTION, dot, label_marks}
 use Rattle.crn_check.proofs.space.class_sum.Given as goal
 
 -- the sum over the complexes so far, and its bound

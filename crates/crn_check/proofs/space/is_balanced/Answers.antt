@@ -1,4 +1,4 @@
-use Rattle.std.proofs.Common.{arith}
+use Rattle.crn_check.proofs.Prelude.{arith}
 use Rattle.crn_check.proofs.Decided.{granted}
 use Rattle.crn_check.proofs.Spaces.{balanced_by}
 use Rattle.crn_check.proofs.space.is_balanced.Goals as goal

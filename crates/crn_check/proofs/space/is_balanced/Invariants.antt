@@ -1,5 +1,5 @@
-use Rattle.std.proofs.Common.{◌≡◌, ◌<◌, ℕ, pos}
-use Rattle.crn_vec.specs.Rank.{combination_at}
+use Rattle.crn_check.proofs.Prelude.{◌≡◌, ◌<◌, ℕ, combination_at}
+use Rattle.std.proofs.Common.{pos}
 use Rattle.crn_check.proofs.space.is_balanced.Given as goal
 
 -- the amounts of the species so far are zero

@@ -1,5 +1,4 @@
-use Rattle.std.proofs.lemmas.Result.{err_from_is_err_and}
-use Rattle.crn_check.specs.Inner.Tests.{strong_trees, exit_tests}
+use Rattle.crn_check.proofs.Prelude.{err_from_is_err_and, strong_trees, exit_tests}
 use Rattle.crn_check.proofs.Judging.{judges_stop, judges_go}
 use Rattle.crn_check.proofs.strong.check_strong.Goals as goal
 

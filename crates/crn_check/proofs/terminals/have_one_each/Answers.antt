@@ -1,8 +1,5 @@
-use Rattle.std.proofs.Common.{◌≡◌, ◌+◌, ◌∙◌, ℕ, suc, ap, subst, arith}
+use Rattle.crn_check.proofs.Prelude.{◌≡◌, ◌+◌, ◌∙◌, ℕ, suc, ap, subst, arith, Verdict, count_of, linkage_count, HaveOneBefore}
 use Rattle.std.specs.Prelude.{◌↔◌, IsTrue}
-use Rattle.crn_cert.specs.declared.answer.Verdict.{Verdict}
-use Rattle.crn_cert.specs.Questions.{count_of}
-use Rattle.crn_cert.specs.Valid.{linkage_count, HaveOneBefore}
 use Rattle.crn_check.proofs.terminals.have_one_each.Goals as goal
 
 pub returns : goal.returns

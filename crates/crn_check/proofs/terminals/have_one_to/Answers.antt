@@ -1,6 +1,4 @@
-use Rattle.std.proofs.Common.{◌≡◌, ◌+◌, ℕ, inl, inr, sym, subst, ◌∙◌, arith}
-use Rattle.crn_vec.proofs.CallerLemmas.{lt_or}
-use Rattle.crn_cert.specs.Valid.{terminals_in}
+use Rattle.crn_check.proofs.Prelude.{◌≡◌, ◌+◌, ℕ, inl, inr, sym, subst, ◌∙◌, arith, lt_or, terminals_in}
 use Rattle.crn_check.proofs.terminals.have_one_to.Goals as goal
 
 pub loop-k-preserved : goal.loop-k-preserved

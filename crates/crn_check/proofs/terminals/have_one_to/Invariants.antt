@@ -1,5 +1,4 @@
-use Rattle.std.proofs.Common.{◌+◌}
-use Rattle.crn_cert.specs.Valid.{HaveOneBefore}
+use Rattle.crn_check.proofs.Prelude.{◌+◌, HaveOneBefore}
 use Rattle.crn_check.proofs.terminals.have_one_to.Given as goal
 
 abbrev pub invariant-loop-k : goal.invariant-loop-k

@@ -1,6 +1,5 @@
-use Rattle.std.proofs.Common.{◌≡◌, ◌+◌, ◌-◌, ◌∙◌, ℕ, sym, subst, arith}
+use Rattle.crn_check.proofs.Prelude.{◌≡◌, ◌+◌, ◌-◌, ◌∙◌, ℕ, sym, subst, arith, HaveOneBefore}
 use Rattle.std.specs.Prelude.{◌↔◌, IsTrue}
-use Rattle.crn_cert.specs.Valid.{HaveOneBefore}
 use Rattle.crn_check.proofs.terminals.is_first_split.Goals as goal
 
 pub returns-then-count-ge2 : goal.returns-then-count-ge2

@@ -1,12 +1,4 @@
-use Rattle.std.proofs.Common.{◌≡◌, ◌≤◌, ◌<◌, ◌+◌, ◌==◌, ◌∙◌, ℕ, Bool, true, false, inl, inr, List, [], ◌∷◌, ◌++◌, length, get_or, sym, ap, arith}
-use Rattle.std.specs.Prelude.{◌||◌, slice_set}
-use Rattle.std.specs.List.{list_any, range_with_len}
-use Rattle.std.proofs.lemmas.Bool.{eqb-true, eq-eqb}
-use Rattle.std.proofs.lemmas.Grind.{get_or-set_at}
-use Rattle.std.proofs.lemmas.List.{get_or-set_other, get_or-replicate, length-set}
-use Rattle.crn_vec.proofs.CallerLemmas.{all_at, any_has, and_true, and_no, eq_or, in_range, range_more}
-use Rattle.crn_vec.specs.declared.limits.TheConstants.{MAX_COMPLEXES}
-use Rattle.crn_cert.specs.Valid.{is_in_both}
+use Rattle.crn_check.proofs.Prelude.{◌≡◌, ◌≤◌, ◌<◌, ◌+◌, ◌==◌, ◌∙◌, ℕ, Bool, true, false, inl, inr, List, [], ◌∷◌, ◌++◌, length, get_or, sym, ap, arith, ◌||◌, slice_set, list_any, range_with_len, eqb-true, eq-eqb, get_or-set_at, get_or-set_other, get_or-replicate, length-set, all_at, any_has, and_true, and_no, eq_or, in_range, range_more, MAX_COMPLEXES, is_in_both}
 use Rattle.crn_check.proofs.terminals.marks_in.Goals.{then-linkage-c, else-linkage-c}
 use Rattle.crn_check.proofs.terminals.marks_in.Goals as goal
 

@@ -1,7 +1,4 @@
-use Rattle.std.proofs.Common.{◌≡◌, ◌≤◌, ◌+◌, ℕ, false, length, get_or}
-use Rattle.std.specs.List.{list_any, range_with_len}
-use Rattle.crn_vec.specs.declared.limits.TheConstants.{MAX_COMPLEXES}
-use Rattle.crn_cert.specs.Valid.{is_in_both}
+use Rattle.crn_check.proofs.Prelude.{◌≡◌, ◌≤◌, ◌+◌, ℕ, false, length, get_or, list_any, range_with_len, MAX_COMPLEXES, is_in_both}
 use Rattle.crn_check.proofs.terminals.marks_in.Given as goal
 
 -- the marks of the complexes so far

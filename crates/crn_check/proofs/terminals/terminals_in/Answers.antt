@@ -1,12 +1,4 @@
-use Rattle.std.proofs.Common.{◌≡◌, ◌≤◌, ◌∙◌, ℕ, List, length, sym, ap, ap₂, subst, arith}
-use Rattle.std.specs.List.{AllByRecursion}
-use Rattle.crn_vec.specs.declared.limits.TheConstants.{MAX_COMPLEXES}
-use Rattle.crn_vec.specs.Network.{Net}
-use Rattle.crn_cert.specs.declared.answer.Verdict.{Verdict}
-use Rattle.crn_cert.specs.Questions.{Q2, on, count_of, exits_of, labels_of}
-use Rattle.crn_cert.specs.Valid.{linkage, strong, exits}
-use Rattle.crn_cert.specs.Valid.{terminals_of}
-use Rattle.crn_check.specs.Facts.{KeptFacts, AreFactsOf, HoldsOn}
+use Rattle.crn_check.proofs.Prelude.{◌≡◌, ◌≤◌, ◌∙◌, ℕ, List, length, sym, ap, ap₂, subst, arith, AllByRecursion, MAX_COMPLEXES, Net, Verdict, Q2, on, count_of, exits_of, labels_of, linkage, strong, exits, terminals_of, KeptFacts, AreFactsOf, HoldsOn}
 use Rattle.crn_check.proofs.Forms.{strong_labelled, strong_below, strong_classes, linkage_labelled}
 use Rattle.crn_check.proofs.ClassTerminals.{exits_counted}
 use Rattle.crn_check.proofs.terminals.terminals_in.Goals as goal

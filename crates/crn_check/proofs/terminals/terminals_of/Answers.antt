@@ -1,6 +1,4 @@
-use Rattle.std.proofs.Common.{◌+◌, ◌≤◌, ℕ, sym, ap, ◌∙◌, arith}
-use Rattle.crn_vec.specs.declared.limits.TheConstants.{MAX_COMPLEXES}
-use Rattle.crn_cert.proofs.CallerLemmas.{passes_at, fails_by_exit, fails_by_complexes, terminals_yes, terminals_no, terminals_few}
+use Rattle.crn_check.proofs.Prelude.{◌+◌, ◌≤◌, ℕ, sym, ap, ◌∙◌, arith, MAX_COMPLEXES, passes_at, fails_by_exit, fails_by_complexes, terminals_yes, terminals_no, terminals_few}
 use Rattle.crn_check.proofs.terminals.terminals_of.Goals as goal
 use Rattle.crn_check.proofs.terminals.terminals_of.Goals.{then-exit-m-eq0+then-marks-m, else-exit-m-eq0, else-exit-m-eq0-via-then-exit-m-eq0+else-marks-m, else-exit-m-eq0-via-else-exit-m-eq0}
 

@@ -1,5 +1,4 @@
-use Rattle.std.proofs.Common.{◌≡◌}
-use Rattle.crn_cert.specs.Valid.{terminals_of}
+use Rattle.crn_check.proofs.Prelude.{◌≡◌, terminals_of}
 use Rattle.crn_check.proofs.terminals.terminals_of.Given as goal
 
 abbrev pub invariant-loop-m : goal.invariant-loop-m

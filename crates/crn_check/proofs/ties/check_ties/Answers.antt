@@ -1,9 +1,4 @@
-use Rattle.std.proofs.Common.{◌≡◌, ◌+◌, ◌<◌, [], length, get_or, refl, sym, subst, ◌∙◌, arith}
-use Rattle.std.proofs.lemmas.Bool.{false≢true}
-use Rattle.crn_vec.proofs.CallerLemmas.{all_at}
-use Rattle.crn_cert.specs.ConfluenceTests.{IsTie}
-use Rattle.crn_cert.specs.Ranges.{AreFree}
-use Rattle.crn_check.specs.Inner.Ordered.{IsSpared, is_tied}
+use Rattle.crn_check.proofs.Prelude.{◌≡◌, ◌+◌, ◌<◌, [], length, get_or, refl, sym, subst, ◌∙◌, arith, false≢true, all_at, IsTie, AreFree, IsSpared, is_tied}
 use Rattle.crn_check.proofs.InOrder.{AreDone, done_none, done_skip, done_some, done_next, done_fails, done_all}
 use Rattle.crn_check.proofs.ties.check_ties.Goals as goal
 use Rattle.crn_check.proofs.ties.check_ties.Goals.{then-is_tied+else-not-is_tie, else-is_tied}

@@ -1,6 +1,4 @@
-use Rattle.std.proofs.Common.{length}
-use Rattle.crn_cert.specs.ConfluenceTests.{IsTie}
-use Rattle.crn_check.specs.Inner.Ordered.{IsSpared, is_tied}
+use Rattle.crn_check.proofs.Prelude.{length, IsTie, IsSpared, is_tied}
 use Rattle.crn_check.proofs.InOrder.{AreDone}
 use Rattle.crn_check.proofs.ties.check_ties.Given as goal
 

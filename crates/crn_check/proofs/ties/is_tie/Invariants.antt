@@ -1,6 +1,5 @@
-use Rattle.std.proofs.Common.{◌≡◌, ◌≢◌, ◌<◌, ◌⊎◌, ℕ, pos}
-use Rattle.crn_cert.specs.ConfluenceTests.{tie_at}
-use Rattle.crn_check.specs.Inner.Ordered.{IsSpared}
+use Rattle.crn_check.proofs.Prelude.{◌≡◌, ◌≢◌, ◌<◌, ◌⊎◌, ℕ, tie_at, IsSpared}
+use Rattle.std.proofs.Common.{pos}
 use Rattle.crn_check.proofs.ties.is_tie.Given as goal
 
 -- the products at the complexes so far are zero, but at c and at the one that is spared

@@ -1,11 +1,4 @@
-use Rattle.std.proofs.Common.{◌≡◌, ◌<◌, ◌-◌, ◌^◌, ◌∙◌, ℕ, List, [], length, get_or, take, drop, sym, subst, ap, ap₂, arith}
-use Rattle.std.specs.Prelude.{ℤ, ◌+ℤ◌, unsigned_abs}
-use Rattle.std.specs.Int.{w128}
-use Rattle.std.proofs.lemmas.Int.{fits_signed_from_abs}
-use Rattle.crn_vec.specs.Vectors.{AreWithin, dot, entry}
-use Rattle.crn_vec.specs.declared.limits.TheConstants.{MAX_AMOUNT, WIDE_SOLUTION}
-use Rattle.crn_vec.proofs.CallerLemmas.{held, sum_within, within_at, within_take, within_drop, amounts_within}
-use Rattle.crn_shape.proofs.CallerLemmas.{narrow_within, dot_within}
+use Rattle.crn_check.proofs.Prelude.{◌≡◌, ◌<◌, ◌-◌, ◌^◌, ◌∙◌, ℕ, List, [], length, get_or, take, drop, sym, subst, ap, ap₂, arith, ℤ, ◌+ℤ◌, unsigned_abs, w128, fits_signed_from_abs, AreWithin, dot, entry, MAX_AMOUNT, WIDE_SOLUTION, held, sum_within, within_at, within_take, within_drop, amounts_within, narrow_within, dot_within}
 use Rattle.crn_check.proofs.Counted.{label_from}
 use Rattle.crn_check.proofs.TieRows.{tie_parts}
 use Rattle.crn_check.proofs.ties.tie_at.Goals as goal

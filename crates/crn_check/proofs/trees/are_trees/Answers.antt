@@ -1,6 +1,4 @@
-use Rattle.std.proofs.Common.{◌≡◌, ◌+◌, ◌<◌, inl, inr, length, sym, subst, arith}
-use Rattle.std.proofs.lemmas.Bool.{cases_lt}
-use Rattle.crn_check.specs.Inner.Trees.{IsInTree}
+use Rattle.crn_check.proofs.Prelude.{◌≡◌, ◌+◌, ◌<◌, inl, inr, length, sym, subst, arith, cases_lt, IsInTree}
 use Rattle.crn_check.proofs.Numbering.{IsNumberedTo, first_new, numbered_old, numbered_next}
 use Rattle.crn_check.proofs.trees.are_trees.Goals as goal
 use Rattle.crn_check.proofs.trees.are_trees.Goals.{then-first, else-first}

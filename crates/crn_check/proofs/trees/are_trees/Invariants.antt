@@ -1,5 +1,4 @@
-use Rattle.std.proofs.Common.{◌<◌, ℕ}
-use Rattle.crn_check.specs.Inner.Trees.{IsInTree}
+use Rattle.crn_check.proofs.Prelude.{◌<◌, ℕ, IsInTree}
 use Rattle.crn_check.proofs.Numbering.{IsNumberedTo}
 use Rattle.crn_check.proofs.trees.are_trees.Given as goal
 

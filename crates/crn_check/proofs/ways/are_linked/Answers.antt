@@ -1,8 +1,4 @@
-use Rattle.std.proofs.Common.{◌≡◌, ◌<◌, length, sym, ◌∙◌, arith}
-use Rattle.std.proofs.lemmas.Bool.{false≢true}
-use Rattle.crn_vec.specs.CutPairs.{IsBetween}
-use Rattle.crn_vec.proofs.CallerLemmas.{refused}
-use Rattle.crn_cert.proofs.CallerLemmas.{goes_at}
+use Rattle.crn_check.proofs.Prelude.{◌≡◌, ◌<◌, length, sym, ◌∙◌, arith, false≢true, IsBetween, refused, goes_at}
 use Rattle.crn_check.proofs.Counted.{one_more}
 use Rattle.crn_check.proofs.Decided.{granted}
 use Rattle.crn_check.proofs.Rounds.{linked_by, links_by}

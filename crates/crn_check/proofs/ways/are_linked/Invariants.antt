@@ -1,6 +1,4 @@
-use Rattle.std.proofs.Common.{◌<◌, ℕ}
-use Rattle.crn_vec.specs.Strong.{IsReaction}
-use Rattle.crn_vec.specs.CutPairs.{IsBetween}
+use Rattle.crn_check.proofs.Prelude.{◌<◌, ℕ, IsReaction, IsBetween}
 use Rattle.crn_check.proofs.ways.are_linked.Given as goal
 
 -- no reaction so far joins the two complexes

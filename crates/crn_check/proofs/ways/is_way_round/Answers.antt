@@ -1,9 +1,6 @@
-use Rattle.std.proofs.Common.{◌≡◌, ◌<◌, ◌-◌, ◌==◌, false, length, get_or, arith}
-use Rattle.std.proofs.lemmas.Bool.{ne_eqb}
+use Rattle.crn_check.proofs.Prelude.{◌≡◌, ◌<◌, ◌-◌, ◌==◌, false, length, get_or, arith, ne_eqb, goes_at, refused}
 use Rattle.crn_check.proofs.Rounds.{round_by, round_first}
 use Rattle.crn_check.proofs.ways.is_way_round.Goals as goal
-use Rattle.crn_cert.proofs.CallerLemmas.{goes_at}
-use Rattle.crn_vec.proofs.CallerLemmas.{refused}
 
 pub returns-then-walk-y : goal.returns-then-walk-y
 returns-then-walk-y c =

@@ -1,7 +1,4 @@
-use Rattle.std.proofs.Common.{◌≡◌, ◌∙◌, ◌↔◌, sym, subst, arith}
-use Rattle.std.proofs.lemmas.Bool.{false≢true}
-use Rattle.std.proofs.lemmas.Grind.{common_steps}
-use Rattle.crn_vec.proofs.CallerLemmas.{refused}
+use Rattle.crn_check.proofs.Prelude.{◌≡◌, ◌∙◌, ◌↔◌, sym, subst, arith, false≢true, common_steps, refused}
 use Rattle.crn_check.proofs.Rounds.{Leads, leads_more, leads_less, leads_end}
 use Rattle.crn_check.proofs.ways.leads_round.Goals as goal
 

@@ -1,4 +1,4 @@
-use Rattle.std.proofs.Common.{◌↔◌}
+use Rattle.crn_check.proofs.Prelude.{◌↔◌}
 use Rattle.crn_check.proofs.Rounds.{Leads}
 use Rattle.crn_check.proofs.ways.leads_round.Given as goal
 

@@ -1,16 +1,6 @@
-use Rattle.std.specs.Option.{IfSome}
-use Rattle.crn_vec.specs.Concordance.{concordance}
-use Rattle.crn_vec.specs.NetSystems.{reaction_system}
-use Rattle.crn_vec.specs.Visits.{PassesBudget}
-use Rattle.crn_cert.specs.Questions.{Earlier, IsOpen, Q14, Q15}
-use Rattle.crn_cert.specs.Answered.{IsAnswer}
-use Rattle.crn_cert.specs.TreeSizes.{HasFewNodes}
-use Rattle.crn_conc.specs.declared.answer.Searched.{Searched}
-use Rattle.crn_conc.specs.Inner.Answers.{IsNameOf, IsNamed, IsStopAnswer}
-use Rattle.crn_conc.specs.Visits.{ListsTableVisits}
+use Rattle.crn_conc.proofs.Prelude.{IfSome, concordance, reaction_system, PassesBudget, Earlier, IsOpen, Q14, Q15, IsAnswer, HasFewNodes, Searched, IsNameOf, IsNamed, IsStopAnswer, ListsTableVisits, if_ok}
 use Rattle.crn_conc.proofs.Ended.{plain, strong, fits, rows_wide, end_by, stop_by, stop_names, stop_open, few_by, few_open, open_by, visits_by, stop_visits}
 use Rattle.crn_conc.proofs.answer.answer_by.Goals as goal
-use Rattle.crn_vec.proofs.CallerLemmas.{if_ok}
 
 pub invariant_of-problem : goal.invariant_of-problem
 invariant_of-problem c =

@@ -1,7 +1,4 @@
-use Rattle.std.proofs.Common.{refl, sym, subst}
-use Rattle.crn_cert.specs.Questions.{IsOpen}
-use Rattle.crn_cert.specs.declared.answer.Verdict.{Verdict}
-use Rattle.crn_conc.specs.Inner.Answers.{end_answer}
+use Rattle.crn_conc.proofs.Prelude.{refl, sym, subst, IsOpen, Verdict, end_answer}
 use Rattle.crn_conc.proofs.Ended.{plain, strong, fits, rows_wide, end_by, stop_by, stop_names, few_by, few_open, open_by}
 use Rattle.crn_conc.proofs.answer.verdict_by.Goals as goal
 

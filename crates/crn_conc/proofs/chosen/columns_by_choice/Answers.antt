@@ -1,5 +1,4 @@
-use Rattle.std.proofs.Common.{◌≡◌, ◌+◌, List, length, ap, ◌∙◌, arith}
-use Rattle.crn_conc.specs.declared.chosen.Chosen.{Chosen}
+use Rattle.crn_conc.proofs.Prelude.{◌≡◌, ◌+◌, List, length, ap, ◌∙◌, arith, Chosen}
 use Rattle.crn_conc.proofs.SumLaws.{one_more}
 use Rattle.crn_conc.proofs.chosen.columns_by_choice.Goals as goal
 

@@ -1,6 +1,4 @@
-use Rattle.std.proofs.Common.{List, drop, sym, ap, ◌∙◌, arith}
-use Rattle.crn_vec.specs.declared.signs.Sign.{Sign}
-use Rattle.crn_vec.specs.Problems.{all_zero}
+use Rattle.crn_conc.proofs.Prelude.{List, drop, sym, ap, ◌∙◌, arith, Sign, all_zero}
 use Rattle.crn_conc.proofs.SumLaws.{drop_none, signs_past}
 use Rattle.crn_conc.proofs.chosen.is_settled.Goals as goal
 

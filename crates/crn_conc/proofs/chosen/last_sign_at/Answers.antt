@@ -1,8 +1,4 @@
-use Rattle.std.proofs.Common.{◌≡◌, ◌-◌, ℕ, List, get_or, sym, ap, ◌∙◌, arith}
-use Rattle.std.proofs.lemmas.List.{get_or_past}
-use Rattle.crn_vec.specs.declared.signs.Sign.{Sign}
-use Rattle.crn_vec.specs.declared.signs.Sign.TheVariants.{Zero}
-use Rattle.crn_sign.specs.Options.{sign_at}
+use Rattle.crn_conc.proofs.Prelude.{◌≡◌, ◌-◌, ℕ, List, get_or, sym, ap, ◌∙◌, arith, get_or_past, Sign, Zero, sign_at}
 use Rattle.crn_conc.proofs.SumLaws.{no_sign, signs_past}
 use Rattle.crn_conc.proofs.chosen.last_sign_at.Goals as goal
 

@@ -1,10 +1,4 @@
-use Rattle.std.proofs.Common.{◌≡◌, ◌+◌, ◌++◌, ℕ, List, length, take, drop, sym, ap, subst, ◌∙◌, arith}
-use Rattle.crn_vec.specs.Problems.{all_zero}
-use Rattle.crn_vec.proofs.CallerLemmas.{written}
-use Rattle.crn_sign.specs.declared.bits.Bits.{Bits}
-use Rattle.crn_sign.specs.declared.problem.Asked.{Asked}
-use Rattle.crn_sign.specs.Options.{IsPut}
-use Rattle.crn_conc.specs.Inner.Columns.{signs_at}
+use Rattle.crn_conc.proofs.Prelude.{◌≡◌, ◌+◌, ◌++◌, ℕ, List, length, take, drop, sym, ap, subst, ◌∙◌, arith, all_zero, written, Bits, Asked, IsPut, signs_at}
 use Rattle.crn_conc.proofs.SumLaws.{IsFilling, filling_none, filling_step}
 use Rattle.crn_conc.proofs.chosen.settled_by.Goals as goal
 

@@ -1,7 +1,4 @@
-use Rattle.std.proofs.Common.{◌≡◌, drop, length}
-use Rattle.crn_vec.specs.Problems.{all_zero}
-use Rattle.crn_sign.specs.Options.{word_count}
-use Rattle.crn_conc.specs.Inner.Columns.{signs_at}
+use Rattle.crn_conc.proofs.Prelude.{◌≡◌, drop, length, all_zero, word_count, signs_at}
 use Rattle.crn_conc.proofs.SumLaws.{IsFilling}
 use Rattle.crn_conc.proofs.chosen.settled_by.Given as goal
 

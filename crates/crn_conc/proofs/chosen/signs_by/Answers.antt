@@ -1,9 +1,4 @@
-use Rattle.std.proofs.Common.{◌≡◌, ◌+◌, ◌++◌, ℕ, List, length, take, drop, sym, ap, subst, ◌∙◌, arith}
-use Rattle.crn_vec.specs.Concordance.{is_minus, is_plus}
-use Rattle.crn_vec.proofs.CallerLemmas.{written}
-use Rattle.crn_sign.specs.declared.bits.Bits.{Bits}
-use Rattle.crn_sign.specs.Options.{IsPut, sign_at}
-use Rattle.crn_conc.specs.Inner.Columns.{signs_at}
+use Rattle.crn_conc.proofs.Prelude.{◌≡◌, ◌+◌, ◌++◌, ℕ, List, length, take, drop, sym, ap, subst, ◌∙◌, arith, is_minus, is_plus, written, Bits, IsPut, sign_at, signs_at}
 use Rattle.crn_conc.proofs.SumLaws.{IsFilling, filling_none, filling_step}
 use Rattle.crn_conc.proofs.chosen.signs_by.Goals as goal
 

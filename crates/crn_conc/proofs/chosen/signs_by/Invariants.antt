@@ -1,7 +1,4 @@
-use Rattle.std.proofs.Common.{◌≡◌, ◌+◌, ℕ, length}
-use Rattle.crn_vec.specs.Concordance.{is_minus, is_plus}
-use Rattle.crn_sign.specs.Options.{sign_at, word_count}
-use Rattle.crn_conc.specs.Inner.Columns.{signs_at}
+use Rattle.crn_conc.proofs.Prelude.{◌≡◌, ◌+◌, ℕ, length, is_minus, is_plus, sign_at, word_count, signs_at}
 use Rattle.crn_conc.proofs.SumLaws.{IsFilling}
 use Rattle.crn_conc.proofs.chosen.signs_by.Given as goal
 

@@ -1,8 +1,4 @@
-use Rattle.std.proofs.Common.{refl, sym, subst}
-use Rattle.crn_cert.specs.Questions.{IsOpen}
-use Rattle.crn_cert.specs.declared.answer.Verdict.{Verdict}
-use Rattle.crn_sign.specs.declared.end.SearchEnd.TheVariants.{Spent}
-use Rattle.crn_conc.specs.Inner.Answers.{end_answer}
+use Rattle.crn_conc.proofs.Prelude.{refl, sym, subst, IsOpen, Verdict, Spent, end_answer}
 use Rattle.crn_conc.proofs.Ended.{plain, strong, spent_by}
 use Rattle.crn_conc.proofs.concordance_answer.concordance_verdicts.Goals as goal
 

@@ -1,8 +1,4 @@
-use Rattle.std.proofs.Common.{List, subst, sym}
-use Rattle.crn_vec.specs.declared.signs.Sign.{Sign}
-use Rattle.crn_vec.specs.Influence.{plain_table, strong_table}
-use Rattle.crn_cert.specs.declared.answer.Answer.{Answer}
-use Rattle.crn_conc.specs.Visits.{ListsTableVisits}
+use Rattle.crn_conc.proofs.Prelude.{List, subst, sym, Sign, plain_table, strong_table, Answer, ListsTableVisits}
 use Rattle.crn_conc.proofs.Ended.{plain, strong, spent_by}
 use Rattle.crn_conc.proofs.concordance_answer.decide_concordance.Goals as goal
 

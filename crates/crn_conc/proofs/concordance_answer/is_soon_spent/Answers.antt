@@ -1,5 +1,4 @@
-use Rattle.std.proofs.Common.{inl, inr, refl, arith}
-use Rattle.crn_vec.specs.Influence.{plain_table, strong_table}
+use Rattle.crn_conc.proofs.Prelude.{inl, inr, refl, arith, plain_table, strong_table}
 use Rattle.crn_conc.proofs.Ended.{soon_spent}
 use Rattle.crn_conc.proofs.concordance_answer.is_soon_spent.Goals as goal
 

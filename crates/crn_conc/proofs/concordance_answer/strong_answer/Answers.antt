@@ -1,9 +1,4 @@
-use Rattle.std.proofs.Common.{List, subst, sym}
-use Rattle.crn_vec.specs.declared.signs.Sign.{Sign}
-use Rattle.crn_vec.specs.Influence.{strong_table}
-use Rattle.crn_cert.specs.declared.answer.Answer.{Answer}
-use Rattle.crn_conc.specs.Visits.{ListsTableVisits}
-use Rattle.crn_conc.specs.Inner.Answers.{IsNamed}
+use Rattle.crn_conc.proofs.Prelude.{List, subst, sym, Sign, strong_table, Answer, ListsTableVisits, IsNamed}
 use Rattle.crn_conc.proofs.Ended.{named_by, strong}
 use Rattle.crn_conc.proofs.concordance_answer.strong_answer.Goals as goal
 

@@ -1,7 +1,4 @@
-use Rattle.std.proofs.Common.{refl, subst, sym}
-use Rattle.crn_cert.specs.TreeSizes.{HasFewNodes}
-use Rattle.crn_cert.specs.declared.answer.Answer.{Answer}
-use Rattle.crn_conc.specs.Inner.Answers.{IsNamed}
+use Rattle.crn_conc.proofs.Prelude.{refl, subst, sym, HasFewNodes, Answer, IsNamed}
 use Rattle.crn_conc.proofs.Ended.{named_by, strong}
 use Rattle.crn_conc.proofs.concordance_answer.strong_verdict.Goals as goal
 

@@ -1,4 +1,4 @@
-use Rattle.std.proofs.Common.{arith}
+use Rattle.crn_conc.proofs.Prelude.{arith}
 use Rattle.crn_conc.proofs.LastSigns.{last_more, last_of}
 use Rattle.crn_conc.proofs.influence.last_sign.Goals as goal
 

@@ -1,8 +1,4 @@
-use Rattle.std.proofs.Common.{map, ◌∙◌, arith}
-use Rattle.std.specs.Prelude.{pos}
-use Rattle.std.proofs.lemmas.List.{take_all, length-map}
-use Rattle.crn_vec.specs.Concordance.{sign}
-use Rattle.crn_vec.proofs.CallerLemmas.{map_more}
+use Rattle.crn_conc.proofs.Prelude.{map, ◌∙◌, arith, pos, take_all, length-map, sign, map_more}
 use Rattle.crn_conc.proofs.influence.signs_of.Goals as goal
 
 pub loop-s-preserved : goal.loop-s-preserved

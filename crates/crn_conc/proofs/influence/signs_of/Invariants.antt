@@ -1,5 +1,4 @@
-use Rattle.std.proofs.Common.{◌≡◌, map, take}
-use Rattle.crn_vec.specs.Concordance.{sign}
+use Rattle.crn_conc.proofs.Prelude.{◌≡◌, map, take, sign}
 use Rattle.crn_conc.proofs.influence.signs_of.Given as goal
 
 abbrev pub invariant-loop-s : goal.invariant-loop-s

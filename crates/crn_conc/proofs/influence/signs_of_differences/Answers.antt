@@ -1,9 +1,4 @@
-use Rattle.std.proofs.Common.{◌≡◌, length, map, refl, sym, ap, ◌∙◌, arith}
-use Rattle.std.specs.Prelude.{pos}
-use Rattle.std.proofs.lemmas.List.{take_all, length-map}
-use Rattle.crn_vec.specs.Network.{minus}
-use Rattle.crn_vec.specs.Concordance.{sign}
-use Rattle.crn_vec.proofs.CallerLemmas.{length-minus, map_more, entry-minus}
+use Rattle.crn_conc.proofs.Prelude.{◌≡◌, length, map, refl, sym, ap, ◌∙◌, arith, pos, take_all, length-map, minus, sign, length-minus, map_more, entry-minus}
 use Rattle.crn_conc.proofs.influence.signs_of_differences.Goals as goal
 
 pub loop-s-preserved : goal.loop-s-preserved

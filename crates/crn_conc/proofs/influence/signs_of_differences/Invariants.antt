@@ -1,6 +1,4 @@
-use Rattle.std.proofs.Common.{◌≡◌, map, take}
-use Rattle.crn_vec.specs.Network.{minus}
-use Rattle.crn_vec.specs.Concordance.{sign}
+use Rattle.crn_conc.proofs.Prelude.{◌≡◌, map, take, minus, sign}
 use Rattle.crn_conc.proofs.influence.signs_of_differences.Given as goal
 
 abbrev pub invariant-loop-s : goal.invariant-loop-s

@@ -1,10 +1,4 @@
-use Rattle.std.proofs.Common.{◌≡◌, ℕ, List, [], map, get_or, ap, ap₂, ◌∙◌, arith}
-use Rattle.std.specs.Prelude.{ℤ}
-use Rattle.std.proofs.lemmas.List.{take_all, length-map}
-use Rattle.crn_vec.specs.Network.{minus, sides_of}
-use Rattle.crn_vec.specs.Concordance.{sign}
-use Rattle.crn_vec.specs.Influence.{strong_table}
-use Rattle.crn_vec.proofs.CallerLemmas.{map_more}
+use Rattle.crn_conc.proofs.Prelude.{◌≡◌, ℕ, List, [], map, get_or, ap, ap₂, ◌∙◌, arith, ℤ, take_all, length-map, minus, sides_of, sign, strong_table, map_more}
 use Rattle.crn_conc.proofs.influence.strong_table.Goals as goal
 
 pub loop-r-preserved : goal.loop-r-preserved

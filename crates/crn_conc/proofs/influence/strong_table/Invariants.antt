@@ -1,5 +1,4 @@
-use Rattle.std.proofs.Common.{◌≡◌, take}
-use Rattle.crn_vec.specs.Influence.{strong_table}
+use Rattle.crn_conc.proofs.Prelude.{◌≡◌, take, strong_table}
 use Rattle.crn_conc.proofs.influence.strong_table.Given as goal
 
 abbrev pub invariant-loop-r : goal.invariant-loop-r

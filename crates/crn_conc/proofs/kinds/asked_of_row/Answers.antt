@@ -1,5 +1,4 @@
-use Rattle.std.proofs.Common.{sym, ◌∙◌, arith}
-use Rattle.crn_vec.proofs.CallerLemmas.{row_chosen, row_open}
+use Rattle.crn_conc.proofs.Prelude.{sym, ◌∙◌, arith, row_chosen, row_open}
 use Rattle.crn_conc.proofs.kinds.asked_of_row.Goals as goal
 
 pub returns-then-s-prefix : goal.returns-then-s-prefix

@@ -1,7 +1,4 @@
-use Rattle.std.specs.Prelude.{bit_or}
-use Rattle.std.proofs.Common.{sym, subst}
-use Rattle.crn_vec.specs.declared.signs.Sign.{Sign}
-use Rattle.crn_conc.specs.Inner.Columns.{IsExtended}
+use Rattle.crn_conc.proofs.Prelude.{bit_or, sym, subst, Sign, IsExtended}
 use Rattle.crn_conc.proofs.SumLaws.{extended_minus, extended_plus, extended_zero}
 use Rattle.crn_conc.proofs.kinds.extended.Goals as goal
 

@@ -1,6 +1,4 @@
-use Rattle.std.proofs.Common.{arith}
-use Rattle.crn_sign.specs.Options.{word_at}
-use Rattle.crn_conc.specs.Inner.Columns.{IsAskedOf}
+use Rattle.crn_conc.proofs.Prelude.{arith, word_at, IsAskedOf}
 use Rattle.crn_conc.proofs.SumLaws.{all_made, making_none, making_step}
 use Rattle.crn_conc.proofs.kinds.put_asked_of_sums.Goals as goal
 

@@ -1,5 +1,4 @@
-use Rattle.crn_sign.specs.Options.{word_at}
-use Rattle.crn_conc.specs.Inner.Columns.{IsExtended}
+use Rattle.crn_conc.proofs.Prelude.{word_at, IsExtended}
 use Rattle.crn_conc.proofs.SumLaws.{IsMaking}
 use Rattle.crn_conc.proofs.kinds.put_extended.Given as goal
 

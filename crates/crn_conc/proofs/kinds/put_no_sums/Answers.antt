@@ -1,5 +1,4 @@
-use Rattle.std.proofs.Common.{◌≡◌, refl, arith}
-use Rattle.crn_sign.specs.Options.{none}
+use Rattle.crn_conc.proofs.Prelude.{◌≡◌, refl, arith, none}
 use Rattle.crn_conc.proofs.SumLaws.{all_made, making_none, making_step}
 use Rattle.crn_conc.proofs.kinds.put_no_sums.Goals as goal
 

@@ -1,5 +1,4 @@
-use Rattle.std.proofs.Common.{◌≡◌}
-use Rattle.crn_sign.specs.Options.{none}
+use Rattle.crn_conc.proofs.Prelude.{◌≡◌, none}
 use Rattle.crn_conc.proofs.SumLaws.{IsMaking}
 use Rattle.crn_conc.proofs.kinds.put_no_sums.Given as goal
 

@@ -1,11 +1,4 @@
-use Rattle.std.proofs.Common.{◌≡◌, ◌++◌, ◌<◌, ℕ, List, length, take, ap, sym, ◌∙◌, arith}
-use Rattle.std.specs.Prelude.{ℤ, slice_index_or}
-use Rattle.std.specs.List.{flat_map, range_with_len}
-use Rattle.std.proofs.lemmas.List.{take_more, take_all}
-use Rattle.std.proofs.lemmas.List.FromFn.{length-range_with_len, get_or-range_with_len}
-use Rattle.crn_vec.specs.Vectors.{column}
-use Rattle.crn_vec.specs.Deficiency.{vectors}
-use Rattle.crn_vec.proofs.CallerLemmas.{flat_map_push}
+use Rattle.crn_conc.proofs.Prelude.{◌≡◌, ◌++◌, ◌<◌, ℕ, List, length, take, ap, sym, ◌∙◌, arith, ℤ, slice_index_or, flat_map, range_with_len, take_more, take_all, length-range_with_len, get_or-range_with_len, column, vectors, flat_map_push}
 use Rattle.crn_conc.proofs.system.entries_by_species.Goals as goal
 
 pub loop-s-preserved : goal.loop-s-preserved

@@ -1,8 +1,4 @@
-use Rattle.std.proofs.Common.{◌≡◌, length, take}
-use Rattle.std.specs.List.{flat_map, range_with_len}
-use Rattle.crn_vec.specs.Vectors.{AreWithin, column}
-use Rattle.crn_vec.specs.Deficiency.{vectors}
-use Rattle.crn_vec.specs.declared.limits.TheConstants.{MAX_AMOUNT}
+use Rattle.crn_conc.proofs.Prelude.{◌≡◌, length, take, flat_map, range_with_len, AreWithin, column, vectors, MAX_AMOUNT}
 use Rattle.crn_conc.proofs.system.entries_by_species.Given as goal
 
 abbrev pub invariant-loop-s : goal.invariant-loop-s

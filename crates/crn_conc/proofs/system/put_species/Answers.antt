@@ -1,11 +1,4 @@
-use Rattle.std.proofs.Common.{◌≡◌, ◌++◌, ◌<◌, List, [], ◌∷◌, length, take, ap, sym, subst, ◌∙◌, arith, to_z, of_z}
-use Rattle.std.specs.Prelude.{ℤ, pos}
-use Rattle.std.specs.Int.{w128}
-use Rattle.std.proofs.lemmas.List.{take_more, take_all, append_assoc}
-use Rattle.crn_vec.specs.Vectors.{AreWithin, column, entry}
-use Rattle.crn_vec.specs.Deficiency.{vectors}
-use Rattle.crn_vec.specs.declared.limits.TheConstants.{MAX_AMOUNT}
-use Rattle.crn_vec.proofs.CallerLemmas.{entry-column, within_at, held, within_append, vector_at, column_long}
+use Rattle.crn_conc.proofs.Prelude.{◌≡◌, ◌++◌, ◌<◌, List, [], ◌∷◌, length, take, ap, sym, subst, ◌∙◌, arith, to_z, of_z, ℤ, pos, w128, take_more, take_all, append_assoc, AreWithin, column, entry, vectors, MAX_AMOUNT, entry-column, within_at, held, within_append, vector_at, column_long}
 use Rattle.crn_conc.proofs.system.put_species.Goals as goal
 
 pub loop-r-preserved : goal.loop-r-preserved

@@ -1,7 +1,4 @@
-use Rattle.std.proofs.Common.{◌≡◌, ◌++◌, take}
-use Rattle.crn_vec.specs.Vectors.{AreWithin, column}
-use Rattle.crn_vec.specs.Deficiency.{vectors}
-use Rattle.crn_vec.specs.declared.limits.TheConstants.{MAX_AMOUNT}
+use Rattle.crn_conc.proofs.Prelude.{◌≡◌, ◌++◌, take, AreWithin, column, vectors, MAX_AMOUNT}
 use Rattle.crn_conc.proofs.system.put_species.Given as goal
 
 abbrev pub invariant-loop-r : goal.invariant-loop-r

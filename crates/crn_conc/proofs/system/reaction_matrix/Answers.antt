@@ -1,12 +1,4 @@
-use Rattle.std.proofs.Common.{◌≡◌, ◌*◌, ℕ, List, length, ap, ap₂, sym, ◌∙◌}
-use Rattle.std.specs.Prelude.{ℤ}
-use Rattle.std.specs.List.{range_with_len}
-use Rattle.std.proofs.lemmas.List.FromFn.{length-range_with_len}
-use Rattle.crn_vec.specs.Vectors.{Mat, column}
-use Rattle.crn_vec.specs.Matrices.{mat_of}
-use Rattle.crn_vec.specs.Deficiency.{vectors}
-use Rattle.crn_vec.specs.NetSystems.{reaction_system}
-use Rattle.crn_vec.proofs.CallerLemmas.{length-rows_after, rows_after, if_ok, column_long}
+use Rattle.crn_conc.proofs.Prelude.{◌≡◌, ◌*◌, ℕ, List, length, ap, ap₂, sym, ◌∙◌, ℤ, range_with_len, length-range_with_len, Mat, column, mat_of, vectors, reaction_system, length-rows_after, rows_after, if_ok, column_long}
 use Rattle.crn_conc.proofs.system.reaction_matrix.Goals as goal
 
 pub from_entries-requires-clause-count : goal.from_entries-requires-clause-count

@@ -1,6 +1,4 @@
-use Rattle.std.proofs.Common.{◌↔◌, subst}
-use Rattle.std.specs.Prelude.{IsTrue}
-use Rattle.crn_vec.specs.Lists.{IsIn}
+use Rattle.crn_ctext.proofs.Prelude.{◌↔◌, subst, IsTrue, IsIn}
 use Rattle.crn_ctext.proofs.LineRows.{asked}
 use Rattle.crn_ctext.proofs.kinds.has_known.Goals as goal
 

@@ -1,6 +1,4 @@
-use Rattle.std.proofs.Common.{◌↔◌, drop}
-use Rattle.crn_vec.specs.Lists.{IsIn}
-use Rattle.crn_ctext.specs.Inner.Rows.{words_of}
+use Rattle.crn_ctext.proofs.Prelude.{◌↔◌, drop, IsIn, words_of}
 use Rattle.crn_ctext.proofs.kinds.has_word.Given as goal
 
 abbrev pub invariant-loop-row : goal.invariant-loop-row

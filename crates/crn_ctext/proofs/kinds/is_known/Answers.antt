@@ -1,4 +1,4 @@
-use Rattle.std.proofs.Common.{refl}
+use Rattle.crn_ctext.proofs.Prelude.{refl}
 use Rattle.crn_ctext.proofs.kinds.is_known.Goals as goal
 
 pub has_known-requires-clause-table : goal.has_known-requires-clause-table

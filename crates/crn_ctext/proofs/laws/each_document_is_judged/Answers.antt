@@ -1,9 +1,4 @@
-use Rattle.std.proofs.Common.{inl, inr, arith}
-use Rattle.crn_io.specs.Lines.{beginning}
-use Rattle.crn_ctext.specs.Courses.{none_own}
-use Rattle.crn_ctext.specs.Blocks.{course}
-use Rattle.crn_ctext.specs.Meaning.{meaning, versions}
-use Rattle.crn_cert.specs.Built.{built}
+use Rattle.crn_ctext.proofs.Prelude.{inl, inr, arith, beginning, none_own, course, meaning, versions, built}
 use Rattle.crn_ctext.proofs.Courses.{each_is_judged, gives_or_fails, first_is_one}
 use Rattle.crn_ctext.proofs.DocumentsGood.{settled, read_documents_are_good, good_documents_are_read}
 use Rattle.crn_ctext.proofs.laws.each_document_is_judged.Goals as goal

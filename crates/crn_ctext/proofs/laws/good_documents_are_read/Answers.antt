@@ -1,8 +1,4 @@
-use Rattle.crn_io.specs.Lines.{beginning}
-use Rattle.crn_ctext.specs.Courses.{none_own}
-use Rattle.crn_ctext.specs.Blocks.{course}
-use Rattle.crn_ctext.specs.Meaning.{meaning, versions}
-use Rattle.crn_cert.specs.Built.{built}
+use Rattle.crn_ctext.proofs.Prelude.{beginning, none_own, course, meaning, versions, built}
 use Rattle.crn_ctext.proofs.Courses.{gives_one}
 use Rattle.crn_ctext.proofs.DocumentsGood as documents
 use Rattle.crn_ctext.proofs.laws.good_documents_are_read.Goals as goal

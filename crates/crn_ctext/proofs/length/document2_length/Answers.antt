@@ -1,6 +1,4 @@
-use Rattle.crn_cert.specs.Built.{built}
-use Rattle.crn_ctext.specs.Documents.{Share, document2}
-use Rattle.crn_ctext.specs.Linked.{records_of}
+use Rattle.crn_ctext.proofs.Prelude.{built, Share, document2, records_of}
 use Rattle.crn_ctext.proofs.Counted.{counted}
 use Rattle.crn_ctext.proofs.FewNodes.{document2_short}
 use Rattle.crn_ctext.proofs.length.document2_length.Goals as goal

@@ -1,5 +1,4 @@
-use Rattle.crn_ctext.specs.Documents.{document}
-use Rattle.crn_ctext.specs.Linked.{records_of}
+use Rattle.crn_ctext.proofs.Prelude.{document, records_of}
 use Rattle.crn_ctext.proofs.Counted.{counted}
 use Rattle.crn_ctext.proofs.FewNodes.{document_short}
 use Rattle.crn_ctext.proofs.length.document_length.Goals as goal

@@ -1,4 +1,4 @@
-use Rattle.std.proofs.Common.{length}
+use Rattle.crn_ctext.proofs.Prelude.{length}
 use Rattle.crn_ctext.proofs.part.+are_runs.Given as goal
 
 abbrev pub decreases-are_runs : goal.decreases-are_runs

@@ -1,5 +1,4 @@
-use Rattle.std.proofs.Common.{map}
-use Rattle.crn_ctext.specs.PartLines.{field_of}
+use Rattle.crn_ctext.proofs.Prelude.{map, field_of}
 use Rattle.crn_ctext.proofs.PartRuns.{run_fields, runs_misfit, runs_fit, runs_wide}
 use Rattle.crn_ctext.proofs.part.judge_runs.Goals as goal
 

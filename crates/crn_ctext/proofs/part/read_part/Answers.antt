@@ -1,4 +1,4 @@
-use Rattle.crn_ctext.specs.PartLines.{forms_in, texts_of}
+use Rattle.crn_ctext.proofs.Prelude.{forms_in, texts_of}
 use Rattle.crn_ctext.proofs.PartRuns.{kept_back, part_misfit, part_wide, part_unknown, part_order}
 use Rattle.crn_ctext.proofs.part.read_part.Goals as goal
 

@@ -1,9 +1,4 @@
-use Rattle.std.proofs.Common.{◌++◌, List, map, ap, sym, subst, ◌∙◌, arith}
-use Rattle.std.specs.Prelude.{ℤ}
-use Rattle.crn_ctext.specs.Inner.Line.{capped}
-use Rattle.crn_ctext.specs.Records.{Takes, AreOf}
-use Rattle.crn_ctext.specs.PartLines.{field_of}
-use Rattle.crn_ctext.specs.Inner.Tries.{FitFields}
+use Rattle.crn_ctext.proofs.Prelude.{◌++◌, List, map, ap, sym, subst, ◌∙◌, arith, ℤ, capped, Takes, AreOf, field_of, FitFields}
 use Rattle.crn_ctext.proofs.LineTries.{are_few, only_numbers}
 use Rattle.crn_ctext.proofs.part.read_runs.Goals as goal
 

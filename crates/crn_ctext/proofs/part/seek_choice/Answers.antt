@@ -1,12 +1,5 @@
-use Rattle.std.proofs.Common.{◌≡◌, ◌<◌, List, [], length, ap, sym, subst, ◌∙◌, inl, inr, arith}
-use Rattle.std.proofs.lemmas.List.{length-map}
-use Rattle.std.specs.Borrow.{Bor}
-use Rattle.std.specs.Prelude.{ℕ, slice_index_or}
-use Rattle.crn_vec.proofs.CallerLemmas.{all_at, at_in}
-use Rattle.crn_ctext.specs.Records.{Form}
-use Rattle.crn_ctext.specs.PartLines.{IsChoice, form_in, forms_in, texts_of}
-use Rattle.crn_ctext.specs.Inner.Tries.{IsTried}
-use Rattle.crn_ctext.specs.declared.part.Choice.{Choice}
+use Rattle.crn_ctext.proofs.Prelude.{◌≡◌, ◌<◌, List, [], length, ap, sym, subst, ◌∙◌, inl, inr, arith, length-map, Bor, slice_index_or, all_at, at_in, Form, IsChoice, form_in, forms_in, texts_of, IsTried, Choice}
+use Rattle.std.specs.Prelude.{ℕ}
 use Rattle.crn_ctext.specs.declared.record_try.Tried.TheVariants as tried
 use Rattle.crn_ctext.proofs.LineSought.{tried_next}
 use Rattle.crn_ctext.proofs.PartRuns.{word_plain, same_form, form_at, part_read}

@@ -1,6 +1,4 @@
-use Rattle.std.proofs.Common.{◌≡◌, [], take}
-use Rattle.crn_ctext.specs.PartLines.{forms_in, texts_of}
-use Rattle.crn_ctext.specs.Inner.Tries.{AreTried}
+use Rattle.crn_ctext.proofs.Prelude.{◌≡◌, [], take, forms_in, texts_of, AreTried}
 use Rattle.crn_ctext.proofs.part.seek_choice.Given as goal
 
 abbrev pub invariant-loop-choice : goal.invariant-loop-choice

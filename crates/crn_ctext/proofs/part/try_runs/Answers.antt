@@ -1,5 +1,4 @@
-use Rattle.crn_ctext.specs.PartLines.{field_of}
-use Rattle.std.proofs.Common.{map}
+use Rattle.crn_ctext.proofs.Prelude.{field_of, map}
 use Rattle.crn_ctext.proofs.PartRuns.{other_runs, tried_misfit, tried_wide, tried_fits}
 use Rattle.crn_ctext.proofs.part.try_runs.Goals as goal
 

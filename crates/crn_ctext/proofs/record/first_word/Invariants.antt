@@ -1,5 +1,4 @@
-use Rattle.std.proofs.Common.{take}
-use Rattle.crn_ctext.specs.Records.{IsWord}
+use Rattle.crn_ctext.proofs.Prelude.{take, IsWord}
 use Rattle.crn_ctext.proofs.record.first_word.Given as goal
 
 abbrev pub invariant-loop-i : goal.invariant-loop-i

@@ -1,8 +1,6 @@
-use Rattle.std.proofs.Common.{◌≡◌, true, false, sym, ap, subst, ◌∙◌}
-use Rattle.crn_ctext.specs.Expect.{misplaced, is_after, IsRefusedBy}
+use Rattle.crn_ctext.proofs.Prelude.{◌≡◌, true, false, sym, ap, subst, ◌∙◌, misplaced, is_after, IsRefusedBy, fault_number}
 use Rattle.crn_ctext.proofs.LineSought.{refused_unknown, refused_tree, refused_misplaced, no_node}
 use Rattle.crn_ctext.proofs.record.other_word.Goals as goal
-use Rattle.crn_cert.specs.Faults.{fault_number}
 
 pub returns-then-not-is_known : goal.returns-then-not-is_known
 returns-then-not-is_known c = refused_unknown c.args.expect.now c.args.line.now c.first_word-word.result.now c.requires.due c.first_word-word.ensures

@@ -1,4 +1,4 @@
-use Rattle.std.proofs.Common.{refl}
+use Rattle.crn_ctext.proofs.Prelude.{refl}
 use Rattle.crn_ctext.proofs.LineForms.{nth_due}
 use Rattle.crn_ctext.proofs.record_form.due_form.Goals as goal
 

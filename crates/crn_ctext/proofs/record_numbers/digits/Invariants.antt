@@ -1,5 +1,4 @@
-use Rattle.std.proofs.Common.{◌≡◌, ◌<◌, take}
-use Rattle.std.specs.Str.Parse.{AllDigits, digits_value}
+use Rattle.crn_ctext.proofs.Prelude.{◌≡◌, ◌<◌, take, AllDigits, digits_value}
 use Rattle.crn_ctext.proofs.record_numbers.digits.Given as goal
 
 abbrev pub invariant-loop-i : goal.invariant-loop-i

@@ -1,6 +1,4 @@
-use Rattle.std.proofs.Common.{◌≡◌, ◌≤◌, take, min, length}
-use Rattle.std.specs.Str.Parse.{AllDigits, digits_value}
-use Rattle.crn_vec.specs.declared.limits.TheConstants.{WIDE_SOLUTION}
+use Rattle.crn_ctext.proofs.Prelude.{◌≡◌, ◌≤◌, take, min, length, AllDigits, digits_value, WIDE_SOLUTION}
 use Rattle.crn_ctext.proofs.record_numbers.long_digits.Given as goal
 
 abbrev pub invariant-loop-i : goal.invariant-loop-i

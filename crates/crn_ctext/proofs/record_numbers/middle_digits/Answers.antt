@@ -1,4 +1,4 @@
-use Rattle.std.proofs.Common.{arith}
+use Rattle.crn_ctext.proofs.Prelude.{arith}
 use Rattle.crn_ctext.proofs.LineNumbers.{all_digits_more, digits_value_next}
 use Rattle.crn_ctext.proofs.record_numbers.middle_digits.Goals as goal
 

@@ -1,5 +1,4 @@
-use Rattle.std.proofs.Common.{◌≡◌, ◌≤◌, take, length}
-use Rattle.std.specs.Str.Parse.{AllDigits, digits_value}
+use Rattle.crn_ctext.proofs.Prelude.{◌≡◌, ◌≤◌, take, length, AllDigits, digits_value}
 use Rattle.crn_ctext.proofs.record_numbers.middle_digits.Given as goal
 
 abbrev pub invariant-loop-i : goal.invariant-loop-i

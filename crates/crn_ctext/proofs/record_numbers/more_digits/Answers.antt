@@ -1,5 +1,4 @@
-use Rattle.std.proofs.Common.{◌≡◌, ◌≤◌, ◌+◌, ◌*◌, length, take, drop, ap, subst, ◌∙◌, arith}
-use Rattle.std.specs.Str.Parse.{AllDigits, digits_value}
+use Rattle.crn_ctext.proofs.Prelude.{◌≡◌, ◌≤◌, ◌+◌, ◌*◌, length, take, drop, ap, subst, ◌∙◌, arith, AllDigits, digits_value}
 use Rattle.crn_ctext.proofs.DigitGroups.{group_digits, group_value, second_digits, second_value}
 use Rattle.crn_ctext.proofs.record_numbers.more_digits.Goals as goal
 

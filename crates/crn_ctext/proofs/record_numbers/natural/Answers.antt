@@ -1,4 +1,4 @@
-use Rattle.std.proofs.Common.{arith}
+use Rattle.crn_ctext.proofs.Prelude.{arith}
 use Rattle.crn_ctext.proofs.LineNumbers.{natural_is, none_by_end}
 use Rattle.crn_ctext.proofs.record_numbers.natural.Goals as goal
 

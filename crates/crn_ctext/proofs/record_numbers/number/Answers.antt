@@ -1,6 +1,4 @@
-use Rattle.std.proofs.Common.{subst, arith}
-use Rattle.std.proofs.lemmas.Bool.Decides.{nat_tests}
-use Rattle.crn_ctext.specs.Inner.Line.{HasNatural, HasNoNatural}
+use Rattle.crn_ctext.proofs.Prelude.{subst, arith, nat_tests, HasNatural, HasNoNatural}
 use Rattle.crn_ctext.proofs.LineNumbers.{zero_number, minus_none, plain_number, minus_number}
 use Rattle.crn_ctext.proofs.record_numbers.number.Goals as goal
 

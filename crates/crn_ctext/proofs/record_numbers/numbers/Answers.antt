@@ -1,6 +1,4 @@
-use Rattle.std.proofs.Common.{◌<◌, length, ap, subst, ◌∙◌, arith, drop}
-use Rattle.std.proofs.lemmas.Bool.Decides.{nat_tests}
-use Rattle.crn_ctext.specs.Inner.Line.{HasNumber, HasNoNumber}
+use Rattle.crn_ctext.proofs.Prelude.{◌<◌, length, ap, subst, ◌∙◌, arith, drop, nat_tests, HasNumber, HasNoNumber}
 use Rattle.crn_ctext.proofs.LineNumbers.{held}
 use Rattle.crn_ctext.proofs.LineCame.{came_fails, came_many, no_space_fails, no_number_fails, came_more, came_zero, came_all}
 use Rattle.crn_ctext.proofs.record_numbers.numbers.Goals as goal

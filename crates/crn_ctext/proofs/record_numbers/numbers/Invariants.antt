@@ -1,5 +1,5 @@
-use Rattle.std.proofs.Common.{◌≡◌, ◌≤◌, ◌+◌, ◌++◌, List, ℤ, map, length}
-use Rattle.crn_ctext.specs.Inner.Line.{Came, capped}
+use Rattle.crn_ctext.proofs.Prelude.{◌≡◌, ◌≤◌, ◌+◌, ◌++◌, List, map, length, Came, capped}
+use Rattle.std.proofs.Common.{ℤ}
 use Rattle.crn_ctext.proofs.record_numbers.numbers.Given as goal
 
 abbrev pub invariant-loop-left : goal.invariant-loop-left

@@ -1,5 +1,4 @@
-use Rattle.std.proofs.Common.{◌↔◌, drop}
-use Rattle.crn_ctext.specs.Records.{AreBetween}
+use Rattle.crn_ctext.proofs.Prelude.{◌↔◌, drop, AreBetween}
 use Rattle.crn_ctext.proofs.record_shape.are_between.Given as goal
 
 abbrev pub invariant-loop-number : goal.invariant-loop-number

@@ -1,4 +1,4 @@
-use Rattle.std.proofs.Common.{arith}
+use Rattle.crn_ctext.proofs.Prelude.{arith}
 use Rattle.crn_ctext.proofs.LineShapes.{chain, members_met, members_passed, rest_ascends}
 use Rattle.crn_ctext.proofs.record_shape.are_members.Goals as goal
 use Rattle.crn_ctext.proofs.record_shape.are_members.Goals.{then-is_at, else-is_at}

@@ -1,6 +1,4 @@
-use Rattle.std.proofs.Common.{◌≤◌, ◌↔◌, length, drop}
-use Rattle.crn_vec.specs.Lists.{IsAscending}
-use Rattle.crn_ctext.specs.Inner.Shapes.{AreMembers}
+use Rattle.crn_ctext.proofs.Prelude.{◌≤◌, ◌↔◌, length, drop, IsAscending, AreMembers}
 use Rattle.crn_ctext.proofs.record_shape.are_members.Given as goal
 
 abbrev pub invariant-loop-member : goal.invariant-loop-member

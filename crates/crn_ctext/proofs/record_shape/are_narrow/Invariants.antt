@@ -1,6 +1,4 @@
-use Rattle.std.proofs.Common.{◌↔◌, drop}
-use Rattle.std.specs.List.{AllByRecursion}
-use Rattle.crn_ctext.specs.Records.{IsNarrow}
+use Rattle.crn_ctext.proofs.Prelude.{◌↔◌, drop, AllByRecursion, IsNarrow}
 use Rattle.crn_ctext.proofs.record_shape.are_narrow.Given as goal
 
 abbrev pub invariant-loop-number : goal.invariant-loop-number

@@ -1,8 +1,5 @@
-use Rattle.std.proofs.Common.{◌+◌, ◌↔◌, drop, pos, get_or, subst, arith}
-use Rattle.std.specs.Prelude.{◌≤ℤ◌, ◌<ℤ◌}
-use Rattle.std.proofs.lemmas.List.{drop_more}
-use Rattle.std.proofs.lemmas.Int.{ints}
-use Rattle.crn_ctext.specs.Records.{AreRising}
+use Rattle.crn_ctext.proofs.Prelude.{◌+◌, ◌↔◌, drop, get_or, subst, arith, ◌≤ℤ◌, ◌<ℤ◌, drop_more, ints, AreRising}
+use Rattle.std.proofs.Common.{pos}
 use Rattle.crn_ctext.proofs.LineShapes.{RisesAbove, rises_low, rises_more, chain}
 use Rattle.crn_ctext.proofs.record_shape.are_rising.Goals as goal
 

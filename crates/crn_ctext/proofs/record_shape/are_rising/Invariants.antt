@@ -1,5 +1,5 @@
-use Rattle.std.proofs.Common.{◌≡◌, ◌↔◌, ℕ, pos, drop}
-use Rattle.crn_ctext.specs.Records.{AreRising}
+use Rattle.crn_ctext.proofs.Prelude.{◌≡◌, ◌↔◌, ℕ, drop, AreRising}
+use Rattle.std.proofs.Common.{pos}
 use Rattle.crn_ctext.proofs.LineShapes.{RisesAbove}
 use Rattle.crn_ctext.proofs.record_shape.are_rising.Given as goal
 

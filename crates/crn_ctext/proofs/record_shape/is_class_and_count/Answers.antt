@@ -1,6 +1,4 @@
-use Rattle.std.proofs.Common.{[], ◌∷◌}
-use Rattle.crn_vec.proofs.CallerLemmas.{refused}
-use Rattle.crn_ctext.specs.Kinds.{small}
+use Rattle.crn_ctext.proofs.Prelude.{[], ◌∷◌, refused, small}
 use Rattle.crn_ctext.proofs.LineShapes.{through, chain, alone}
 use Rattle.crn_ctext.proofs.record_shape.is_class_and_count.Goals as goal
 

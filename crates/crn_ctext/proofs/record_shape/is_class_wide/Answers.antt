@@ -1,6 +1,4 @@
-use Rattle.std.proofs.Common.{arith}
-use Rattle.std.proofs.lemmas.Bool.Decides.{nat_tests}
-use Rattle.crn_vec.proofs.CallerLemmas.{refused}
+use Rattle.crn_ctext.proofs.Prelude.{arith, nat_tests, refused}
 use Rattle.crn_ctext.proofs.LineShapes.{chain, class_wide, no_class_wide}
 use Rattle.crn_ctext.proofs.record_shape.is_class_wide.Goals as goal
 

@@ -1,6 +1,4 @@
-use Rattle.std.proofs.Common.{[], ◌∷◌}
-use Rattle.crn_vec.proofs.CallerLemmas.{refused}
-use Rattle.crn_ctext.specs.Records.{ClassWide}
+use Rattle.crn_ctext.proofs.Prelude.{[], ◌∷◌, refused, ClassWide}
 use Rattle.crn_ctext.proofs.LineShapes.{through, chain, alone}
 use Rattle.crn_ctext.proofs.record_shape.is_system_of_class.Goals as goal
 

@@ -1,7 +1,4 @@
-use Rattle.std.proofs.Common.{[], ◌∷◌}
-use Rattle.crn_vec.proofs.CallerLemmas.{refused}
-use Rattle.crn_ctext.specs.Records.{Rising}
-use Rattle.crn_ctext.specs.Kinds.{small, just}
+use Rattle.crn_ctext.proofs.Prelude.{[], ◌∷◌, refused, Rising, small, just}
 use Rattle.crn_ctext.proofs.LineShapes.{through}
 use Rattle.crn_ctext.proofs.record_shape.is_wide.Goals as goal
 

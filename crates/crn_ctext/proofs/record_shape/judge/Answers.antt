@@ -1,4 +1,4 @@
-use Rattle.std.proofs.Common.{sym, ◌∙◌}
+use Rattle.crn_ctext.proofs.Prelude.{sym, ◌∙◌}
 use Rattle.crn_ctext.proofs.LineCapped.{judged_misfit, judged_solid, judged_fits, judged_wide}
 use Rattle.crn_ctext.proofs.record_shape.judge.Goals as goal
 

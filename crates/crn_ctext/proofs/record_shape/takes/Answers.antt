@@ -1,4 +1,4 @@
-use Rattle.crn_ctext.specs.Records.{Members, CountAndPart}
+use Rattle.crn_ctext.proofs.Prelude.{Members, CountAndPart}
 use Rattle.crn_ctext.proofs.LineShapes.{through, alone}
 use Rattle.crn_ctext.proofs.record_shape.takes.Goals as goal
 

@@ -1,5 +1,4 @@
-use Rattle.std.proofs.Common.{sym, ◌∙◌, arith}
-use Rattle.std.proofs.lemmas.Bool.Decides.{nat_tests}
+use Rattle.crn_ctext.proofs.Prelude.{sym, ◌∙◌, arith, nat_tests}
 use Rattle.crn_ctext.proofs.LineTries.{other_first, is_after, empty_tail, space_tail}
 use Rattle.crn_ctext.proofs.record_try.after.Goals as goal
 

@@ -1,8 +1,4 @@
-use Rattle.std.proofs.Common.{◌++◌, ap, subst, ◌∙◌, arith}
-use Rattle.crn_ctext.specs.Records.{Takes, AreOf}
-use Rattle.crn_ctext.specs.Inner.Forms.{tag}
-use Rattle.crn_ctext.specs.Inner.Shapes.{fields_of}
-use Rattle.crn_ctext.specs.Inner.Tries.{FitFields}
+use Rattle.crn_ctext.proofs.Prelude.{◌++◌, ap, subst, ◌∙◌, arith, Takes, AreOf, tag, fields_of, FitFields}
 use Rattle.crn_ctext.proofs.LineTries.{are_few, only_numbers}
 use Rattle.crn_ctext.proofs.record_try.read_fit.Goals as goal
 

@@ -1,4 +1,4 @@
-use Rattle.crn_ctext.specs.Inner.Shapes.{fields_of}
+use Rattle.crn_ctext.proofs.Prelude.{fields_of}
 use Rattle.crn_ctext.proofs.LineTries.{fit_after, misfit_after}
 use Rattle.crn_ctext.proofs.record_try.read_words.Goals as goal
 

@@ -1,7 +1,4 @@
-use Rattle.std.proofs.Common.{◌≡◌, [], length, ap, inl, inr, arith}
-use Rattle.std.specs.Prelude.{slice_index_or}
-use Rattle.crn_ctext.specs.Expect.{forms_of}
-use Rattle.crn_ctext.specs.Inner.Forms.{no_form}
+use Rattle.crn_ctext.proofs.Prelude.{◌≡◌, [], length, ap, inl, inr, arith, slice_index_or, forms_of, no_form}
 use Rattle.crn_ctext.proofs.LineSought.{forms_few, tried_next, read_as, nth_in}
 use Rattle.crn_ctext.proofs.record_try.seek.Goals as goal
 

@@ -1,6 +1,4 @@
-use Rattle.std.proofs.Common.{◌≡◌, ◌≤◌, ◌-◌, [], length, take}
-use Rattle.crn_ctext.specs.Expect.{forms_of}
-use Rattle.crn_ctext.specs.Inner.Tries.{AreTried}
+use Rattle.crn_ctext.proofs.Prelude.{◌≡◌, ◌≤◌, ◌-◌, [], length, take, forms_of, AreTried}
 use Rattle.crn_ctext.proofs.record_try.seek.Given as goal
 
 abbrev pub invariant-loop-form : goal.invariant-loop-form

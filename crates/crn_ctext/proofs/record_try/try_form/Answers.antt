@@ -1,4 +1,4 @@
-use Rattle.std.proofs.Common.{◌++◌, ap, ◌∙◌}
+use Rattle.crn_ctext.proofs.Prelude.{◌++◌, ap, ◌∙◌}
 use Rattle.crn_ctext.proofs.LineTries.{kind_word, other_word, tried_misfit, tried_wide, tried_fits}
 use Rattle.crn_ctext.proofs.record_try.try_form.Goals as goal
 

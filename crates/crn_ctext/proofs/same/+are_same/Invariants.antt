@@ -1,4 +1,4 @@
-use Rattle.std.proofs.Common.{length}
+use Rattle.crn_ctext.proofs.Prelude.{length}
 use Rattle.crn_ctext.proofs.same.+are_same.Given as goal
 
 abbrev pub decreases-are_same : goal.decreases-are_same

@@ -1,8 +1,4 @@
-use Rattle.std.proofs.Common.{◌≡◌, ◌∙◌, sym, ap, rules, arith}
-use Rattle.std.specs.Int.{w64, from_le_bytes, to_le_bytes}
-use Rattle.std.proofs.lemmas.Nat.{le_bytes_8}
-use Rattle.std.proofs.lemmas.Bool.{eqb-true}
-use Rattle.std.proofs.lemmas.Bool.Decides.{nat_tests}
+use Rattle.crn_ctext.proofs.Prelude.{◌≡◌, ◌∙◌, sym, ap, rules, arith, w64, from_le_bytes, to_le_bytes, le_bytes_8, eqb-true, nat_tests}
 use Rattle.crn_ctext.proofs.same.same_eights.Goals as goal
 
 pub returns : goal.returns

@@ -1,5 +1,4 @@
-use Rattle.std.proofs.lemmas.Result.{err_from_is_err_and}
-use Rattle.crn_io.proofs.CallerLemmas.{Wrote-all, Wrote-prefix}
+use Rattle.crn_ctext.proofs.Prelude.{err_from_is_err_and, Wrote-all, Wrote-prefix}
 use Rattle.crn_ctext.proofs.Pieces.{wrote_as}
 use Rattle.crn_ctext.proofs.WrittenAnswers.{alone_lines}
 use Rattle.crn_ctext.proofs.write.put_alone.Goals as goal

@@ -1,9 +1,5 @@
-use Rattle.std.proofs.lemmas.Result.{err_from_is_err_and}
-use Rattle.crn_io.proofs.CallerLemmas.{WroteAll-then, WrotePrefix-then, WrotePrefix-more, Wrote-prefix}
+use Rattle.crn_ctext.proofs.Prelude.{err_from_is_err_and, WroteAll-then, WrotePrefix-then, WrotePrefix-more, Wrote-prefix, question_at, shapes_with, verdict_records, later_records, proof_records, proof_nodes, record_lines, written}
 use Rattle.crn_ctext.proofs.Pieces.{ends_with, wrote_as}
-use Rattle.crn_ctext.specs.Inner.Written.{question_at, shapes_with}
-use Rattle.crn_ctext.specs.Answers.{verdict_records, later_records, proof_records, proof_nodes}
-use Rattle.crn_ctext.specs.Documents.{record_lines, written}
 use Rattle.crn_ctext.proofs.WrittenBlocks.{answer_lines, answer_leaves}
 use Rattle.crn_ctext.proofs.write.put_answer.Goals as goal
 

@@ -1,8 +1,4 @@
-use Rattle.std.proofs.Common.{◌∙◌, refl, arith}
-use Rattle.std.proofs.lemmas.Result.{err_from_is_err_and}
-use Rattle.crn_io.proofs.CallerLemmas.{WroteAll-none, WroteAll-step, Wrote-all}
-use Rattle.crn_cert.specs.Built.{built}
-use Rattle.crn_ctext.specs.Inner.Written.{question_at}
+use Rattle.crn_ctext.proofs.Prelude.{◌∙◌, refl, arith, err_from_is_err_and, WroteAll-none, WroteAll-step, Wrote-all, built, question_at}
 use Rattle.crn_ctext.proofs.Pieces.{stops_later, wrote_as}
 use Rattle.crn_ctext.proofs.WrittenBlocks.{at_question, one_more, leaves_more, one_of, all_done}
 use Rattle.crn_ctext.proofs.write.put_answers.Goals as goal

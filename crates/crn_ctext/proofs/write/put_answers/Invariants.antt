@@ -1,8 +1,4 @@
-use Rattle.std.proofs.Common.{◌≡◌, take}
-use Rattle.crn_cert.specs.Built.{built}
-use Rattle.crn_io.specs.Write.{WroteAll}
-use Rattle.crn_ctext.specs.Documents.{record_lines, written}
-use Rattle.crn_ctext.specs.Inner.Written.{blocks, leaves_after}
+use Rattle.crn_ctext.proofs.Prelude.{◌≡◌, take, built, WroteAll, record_lines, written, blocks, leaves_after}
 use Rattle.crn_ctext.proofs.write.put_answers.Given as goal
 
 abbrev pub invariant-loop-k : goal.invariant-loop-k

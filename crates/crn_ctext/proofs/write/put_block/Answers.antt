@@ -1,6 +1,5 @@
-use Rattle.std.proofs.lemmas.Result.{err_from_is_err_and}
+use Rattle.crn_ctext.proofs.Prelude.{err_from_is_err_and, question_at}
 use Rattle.crn_ctext.proofs.Pieces.{stops_first, ends_with}
-use Rattle.crn_ctext.specs.Inner.Written.{question_at}
 use Rattle.crn_ctext.proofs.WrittenBlocks.{block_lines, block_leaves}
 use Rattle.crn_ctext.proofs.write.put_block.Goals as goal
 

@@ -1,5 +1,4 @@
-use Rattle.std.proofs.Common.{◌∙◌}
-use Rattle.std.proofs.lemmas.Result.{err_from_is_err_and}
+use Rattle.crn_ctext.proofs.Prelude.{◌∙◌, err_from_is_err_and}
 use Rattle.crn_ctext.proofs.Pieces.{stops_first, ends_with}
 use Rattle.crn_ctext.proofs.WrittenLines.{table_lines}
 use Rattle.crn_ctext.proofs.write.put_table.Goals as goal

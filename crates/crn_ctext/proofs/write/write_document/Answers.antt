@@ -1,10 +1,6 @@
-use Rattle.std.proofs.Common.{take, [], arith, codes, false}
-use Rattle.std.proofs.lemmas.Result.{err_from_is_err_and}
-use Rattle.crn_io.proofs.CallerLemmas.{WroteAll-then, WrotePrefix-then, WrotePrefix-more, Wrote-prefix}
+use Rattle.crn_ctext.proofs.Prelude.{take, [], arith, false, err_from_is_err_and, WroteAll-then, WrotePrefix-then, WrotePrefix-more, Wrote-prefix, built, record_lines, written, blocks}
+use Rattle.std.proofs.Common.{codes}
 use Rattle.crn_ctext.proofs.Pieces.{ends_with, wrote_as}
-use Rattle.crn_cert.specs.Built.{built}
-use Rattle.crn_ctext.specs.Documents.{record_lines, written}
-use Rattle.crn_ctext.specs.Inner.Written.{blocks}
 use Rattle.crn_ctext.proofs.WrittenAnswers.{as_many, document_lines}
 use Rattle.crn_ctext.proofs.write.write_document.Goals as goal
 

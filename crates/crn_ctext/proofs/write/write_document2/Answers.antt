@@ -1,10 +1,6 @@
-use Rattle.std.proofs.Common.{take, [], arith, codes, true}
-use Rattle.std.proofs.lemmas.Result.{err_from_is_err_and}
-use Rattle.crn_io.proofs.CallerLemmas.{WroteAll-then, WrotePrefix-then, WrotePrefix-more, Wrote-prefix}
+use Rattle.crn_ctext.proofs.Prelude.{take, [], arith, true, err_from_is_err_and, WroteAll-then, WrotePrefix-then, WrotePrefix-more, Wrote-prefix, built, Share, record_lines, table_records, written, blocks}
+use Rattle.std.proofs.Common.{codes}
 use Rattle.crn_ctext.proofs.Pieces.{ends_with, wrote_as}
-use Rattle.crn_cert.specs.Built.{built}
-use Rattle.crn_ctext.specs.Documents.{Share, record_lines, table_records, written}
-use Rattle.crn_ctext.specs.Inner.Written.{blocks}
 use Rattle.crn_ctext.proofs.WrittenAnswers.{as_many, document2_lines}
 use Rattle.crn_ctext.proofs.write.write_document2.Goals as goal
 

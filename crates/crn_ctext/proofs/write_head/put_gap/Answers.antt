@@ -1,4 +1,4 @@
-use Rattle.std.proofs.lemmas.Result.{err_from_is_err_and}
+use Rattle.crn_ctext.proofs.Prelude.{err_from_is_err_and}
 use Rattle.crn_ctext.proofs.Pieces.{stops_first, ends_with}
 use Rattle.crn_ctext.proofs.WrittenLines.{wide_numbers}
 use Rattle.crn_ctext.proofs.write_head.put_gap.Goals as goal

@@ -1,9 +1,7 @@
-use Rattle.std.proofs.Common.{◌∙◌, ◌+◌, List, ℕ, take, length, ap, ap₂, sym, arith}
-use Rattle.std.proofs.lemmas.List.{length-set}
+use Rattle.crn_ctext.proofs.Prelude.{◌∙◌, ◌+◌, List, ℕ, take, length, ap, ap₂, sym, arith, length-set, pairs_no}
 use Rattle.crn_ctext.proofs.PairsWritten.{listed_more}
 use Rattle.crn_ctext.proofs.write_pairs.list_pairs.Goals.{then-is_pair, else-is_pair}
 use Rattle.crn_ctext.proofs.write_pairs.list_pairs.Goals as goal
-use Rattle.crn_pairs.proofs.CallerLemmas.{pairs_no}
 
 pub loop-r-preserved : goal.loop-r-preserved
 loop-r-preserved c =

@@ -1,6 +1,4 @@
-use Rattle.std.proofs.Common.{◌≡◌, ◌≤◌, take, length}
-use Rattle.crn_vec.specs.declared.limits.TheConstants.{MAX_REACTIONS}
-use Rattle.crn_pairs.specs.Pairs.{pairs_to}
+use Rattle.crn_ctext.proofs.Prelude.{◌≡◌, ◌≤◌, take, length, MAX_REACTIONS, pairs_to}
 use Rattle.crn_ctext.proofs.write_pairs.list_pairs.Given as goal
 
 abbrev pub invariant-loop-r : goal.invariant-loop-r

@@ -1,7 +1,5 @@
-use Rattle.std.proofs.Common.{arith, pos, take_all}
-use Rattle.std.proofs.lemmas.Result.{err_from_is_err_and}
-use Rattle.crn_io.proofs.CallerLemmas.{WroteAll-step, WrotePrefix-step, Wrote-all, Wrote-prefix, flat_map_step, flat_map_whole}
-use Rattle.crn_ctext.specs.Records.{number_text}
+use Rattle.crn_ctext.proofs.Prelude.{arith, take_all, err_from_is_err_and, WroteAll-step, WrotePrefix-step, Wrote-all, Wrote-prefix, flat_map_step, flat_map_whole, number_text}
+use Rattle.std.proofs.Common.{pos}
 use Rattle.crn_ctext.proofs.write_record.put_ints.Goals as goal
 
 pub loop-number-preserved : goal.loop-number-preserved

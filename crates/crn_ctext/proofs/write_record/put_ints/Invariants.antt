@@ -1,6 +1,4 @@
-use Rattle.std.proofs.Common.{take}
-use Rattle.crn_io.specs.Write.{WroteAll}
-use Rattle.crn_ctext.specs.Records.{numbers_text}
+use Rattle.crn_ctext.proofs.Prelude.{take, WroteAll, numbers_text}
 use Rattle.crn_ctext.proofs.write_record.put_ints.Given as goal
 
 abbrev pub invariant-loop-number : goal.invariant-loop-number

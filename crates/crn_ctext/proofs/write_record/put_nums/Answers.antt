@@ -1,6 +1,4 @@
-use Rattle.std.proofs.Common.{arith, take_all}
-use Rattle.std.proofs.lemmas.Result.{err_from_is_err_and}
-use Rattle.crn_io.proofs.CallerLemmas.{WroteAll-step, WrotePrefix-step, Wrote-all, Wrote-prefix}
+use Rattle.crn_ctext.proofs.Prelude.{arith, take_all, err_from_is_err_and, WroteAll-step, WrotePrefix-step, Wrote-all, Wrote-prefix}
 use Rattle.crn_ctext.proofs.WrittenLines.{naturals_step, naturals_whole}
 use Rattle.crn_ctext.proofs.write_record.put_nums.Goals as goal
 

@@ -1,6 +1,5 @@
-use Rattle.std.proofs.Common.{take, map, pos}
-use Rattle.crn_io.specs.Write.{WroteAll}
-use Rattle.crn_ctext.specs.Records.{numbers_text}
+use Rattle.crn_ctext.proofs.Prelude.{take, map, WroteAll, numbers_text}
+use Rattle.std.proofs.Common.{pos}
 use Rattle.crn_ctext.proofs.write_record.put_nums.Given as goal
 
 abbrev pub invariant-loop-number : goal.invariant-loop-number

@@ -1,5 +1,4 @@
-use Rattle.std.proofs.lemmas.Result.{err_from_is_err_and}
-use Rattle.crn_io.proofs.CallerLemmas.{WroteAll-then, WrotePrefix-then, WrotePrefix-more, Wrote-prefix}
+use Rattle.crn_ctext.proofs.Prelude.{err_from_is_err_and, WroteAll-then, WrotePrefix-then, WrotePrefix-more, Wrote-prefix}
 use Rattle.crn_ctext.proofs.Pieces.{ends_with, wrote_as}
 use Rattle.crn_ctext.proofs.WrittenLines.{one_number}
 use Rattle.crn_ctext.proofs.write_record.put_one.Goals as goal

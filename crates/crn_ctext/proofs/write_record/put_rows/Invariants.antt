@@ -1,7 +1,4 @@
-use Rattle.std.proofs.Common.{take}
-use Rattle.std.specs.List.{flat_map}
-use Rattle.crn_io.specs.Write.{WroteAll}
-use Rattle.crn_ctext.specs.Records.{line}
+use Rattle.crn_ctext.proofs.Prelude.{take, flat_map, WroteAll, line}
 use Rattle.crn_ctext.proofs.write_record.put_rows.Given as goal
 
 abbrev pub invariant-loop-i : goal.invariant-loop-i

@@ -1,4 +1,5 @@
-use Rattle.std.proofs.Common.{pos, map, codes}
+use Rattle.crn_ctext.proofs.Prelude.{map}
+use Rattle.std.proofs.Common.{pos, codes}
 use Rattle.crn_ctext.proofs.Pieces.{wrote_as}
 use Rattle.crn_ctext.proofs.WrittenLines.{line_of_word}
 use Rattle.crn_ctext.proofs.write_rows.put_exits.Goals as goal

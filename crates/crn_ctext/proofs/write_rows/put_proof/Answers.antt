@@ -1,5 +1,5 @@
-use Rattle.std.proofs.Common.{pos, map, codes}
-use Rattle.std.proofs.lemmas.Result.{err_from_is_err_and}
+use Rattle.crn_ctext.proofs.Prelude.{map, err_from_is_err_and}
+use Rattle.std.proofs.Common.{pos, codes}
 use Rattle.crn_ctext.proofs.Pieces.{stops_first, ends_with, wrote_as}
 use Rattle.crn_ctext.proofs.WrittenLines.{line_of_word, lines_two, lines_of_rows}
 use Rattle.crn_ctext.proofs.write_rows.put_proof.Goals as goal

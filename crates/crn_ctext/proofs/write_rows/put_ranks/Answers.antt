@@ -1,11 +1,5 @@
-use Rattle.std.proofs.Common.{arith, take_all}
-use Rattle.std.proofs.lemmas.Result.{err_from_is_err_and}
-use Rattle.crn_io.proofs.CallerLemmas.{WroteAll-step, WrotePrefix-step, Wrote-all, Wrote-prefix}
+use Rattle.crn_ctext.proofs.Prelude.{arith, take_all, err_from_is_err_and, WroteAll-step, WrotePrefix-step, Wrote-all, Wrote-prefix, flat_map_step, flat_map_whole, RankProof, rank_records, record_lines}
 use Rattle.crn_ctext.proofs.Pieces.{wrote_as}
-use Rattle.crn_io.proofs.CallerLemmas.{flat_map_step, flat_map_whole}
-use Rattle.crn_cert.specs.declared.answer.RankProof.{RankProof}
-use Rattle.crn_ctext.specs.Answers.{rank_records}
-use Rattle.crn_ctext.specs.Documents.{record_lines}
 use Rattle.crn_ctext.proofs.WrittenLines.{lines_of_all, element_at}
 use Rattle.crn_ctext.proofs.write_rows.put_ranks.Goals as goal
 

@@ -1,9 +1,4 @@
-use Rattle.std.proofs.Common.{take}
-use Rattle.std.specs.List.{flat_map}
-use Rattle.crn_io.specs.Write.{WroteAll}
-use Rattle.crn_cert.specs.declared.answer.RankProof.{RankProof}
-use Rattle.crn_ctext.specs.Answers.{rank_records}
-use Rattle.crn_ctext.specs.Documents.{record_lines}
+use Rattle.crn_ctext.proofs.Prelude.{take, flat_map, WroteAll, RankProof, rank_records, record_lines}
 use Rattle.crn_ctext.proofs.write_rows.put_ranks.Given as goal
 
 abbrev pub invariant-loop-i : goal.invariant-loop-i

@@ -1,9 +1,6 @@
-use Rattle.std.proofs.Common.{pos, map, codes}
-use Rattle.std.proofs.lemmas.Result.{err_from_is_err_and}
-use Rattle.crn_io.proofs.CallerLemmas.{WroteAll-then, WrotePrefix-then, WrotePrefix-more, Wrote-prefix}
+use Rattle.crn_ctext.proofs.Prelude.{map, err_from_is_err_and, WroteAll-then, WrotePrefix-then, WrotePrefix-more, Wrote-prefix, numbers_text, pair_at}
+use Rattle.std.proofs.Common.{pos, codes}
 use Rattle.crn_ctext.proofs.Pieces.{ends_with, wrote_as}
-use Rattle.crn_ctext.specs.Records.{numbers_text}
-use Rattle.crn_ctext.specs.Inner.Written.{pair_at}
 use Rattle.crn_ctext.proofs.WrittenLines.{side_line}
 use Rattle.crn_ctext.proofs.write_rows.put_side.Goals as goal
 

@@ -1,9 +1,5 @@
-use Rattle.std.proofs.Common.{◌∙◌, arith, take_all, ap, List}
-use Rattle.std.proofs.lemmas.Result.{err_from_is_err_and}
-use Rattle.crn_io.proofs.CallerLemmas.{WroteAll-step, Wrote-all}
+use Rattle.crn_ctext.proofs.Prelude.{◌∙◌, arith, take_all, ap, List, err_from_is_err_and, WroteAll-step, Wrote-all, Record, record_lines}
 use Rattle.crn_ctext.proofs.Pieces.{stops_later}
-use Rattle.crn_ctext.specs.Records.{Record}
-use Rattle.crn_ctext.specs.Documents.{record_lines}
 use Rattle.crn_ctext.proofs.WrittenLines.{sides_step, sides_whole, lines_append, lines_append3, sides_of_none}
 use Rattle.crn_ctext.proofs.write_rows.put_sides.Goals as goal
 

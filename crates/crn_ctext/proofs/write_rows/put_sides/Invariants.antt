@@ -1,7 +1,4 @@
-use Rattle.std.proofs.Common.{take}
-use Rattle.crn_io.specs.Write.{WroteAll}
-use Rattle.crn_ctext.specs.Answers.{side_records}
-use Rattle.crn_ctext.specs.Documents.{record_lines}
+use Rattle.crn_ctext.proofs.Prelude.{take, WroteAll, side_records, record_lines}
 use Rattle.crn_ctext.proofs.write_rows.put_sides.Given as goal
 
 abbrev pub invariant-loop-i : goal.invariant-loop-i

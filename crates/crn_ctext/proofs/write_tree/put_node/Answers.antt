@@ -1,5 +1,4 @@
-use Rattle.std.proofs.lemmas.Result.{err_from_is_err_and}
-use Rattle.crn_io.proofs.CallerLemmas.{Wrote-all, Wrote-prefix}
+use Rattle.crn_ctext.proofs.Prelude.{err_from_is_err_and, Wrote-all, Wrote-prefix}
 use Rattle.crn_ctext.proofs.Pieces.{wrote_as}
 use Rattle.crn_ctext.proofs.WrittenLeaves.{cuta_line, cutb_line}
 use Rattle.crn_ctext.proofs.write_tree.put_node.Goals as goal

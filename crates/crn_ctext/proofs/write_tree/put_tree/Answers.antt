@@ -1,9 +1,4 @@
-use Rattle.std.proofs.Common.{◌∙◌, refl, sym, ap, List, arith}
-use Rattle.std.proofs.lemmas.Result.{err_from_is_err_and}
-use Rattle.crn_io.proofs.CallerLemmas.{WroteAll-none, WroteAll-step, Wrote-all}
-use Rattle.crn_ctext.specs.Records.{Record}
-use Rattle.crn_ctext.specs.Documents.{record_lines, written}
-use Rattle.crn_ctext.specs.Inner.Written.{leaves_after}
+use Rattle.crn_ctext.proofs.Prelude.{◌∙◌, refl, sym, ap, List, arith, err_from_is_err_and, WroteAll-none, WroteAll-step, Wrote-all, Record, record_lines, written, leaves_after}
 use Rattle.crn_ctext.proofs.Pieces.{stops_later, wrote_as}
 use Rattle.crn_ctext.proofs.NodesWritten.{one_more, leaves_more, one_of, all_done}
 use Rattle.crn_ctext.proofs.write_tree.put_tree.Goals as goal

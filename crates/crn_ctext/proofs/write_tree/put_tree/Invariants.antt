@@ -1,7 +1,4 @@
-use Rattle.std.proofs.Common.{◌≡◌, take}
-use Rattle.crn_io.specs.Write.{WroteAll}
-use Rattle.crn_ctext.specs.Documents.{record_lines, written}
-use Rattle.crn_ctext.specs.Inner.Written.{leaves_after}
+use Rattle.crn_ctext.proofs.Prelude.{◌≡◌, take, WroteAll, record_lines, written, leaves_after}
 use Rattle.crn_ctext.proofs.NodesWritten.{node_records}
 use Rattle.crn_ctext.proofs.write_tree.put_tree.Given as goal
 

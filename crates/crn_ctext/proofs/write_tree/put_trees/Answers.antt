@@ -1,8 +1,4 @@
-use Rattle.std.proofs.Common.{◌∙◌, sym, ap, List, ℕ, ◌++◌}
-use Rattle.std.proofs.lemmas.Result.{err_from_is_err_and}
-use Rattle.crn_io.proofs.CallerLemmas.{WrotePrefix-more, Wrote-prefix}
-use Rattle.crn_ctext.specs.Answers.{nodes}
-use Rattle.crn_ctext.specs.Documents.{record_lines, written}
+use Rattle.crn_ctext.proofs.Prelude.{◌∙◌, sym, ap, List, ℕ, ◌++◌, err_from_is_err_and, WrotePrefix-more, Wrote-prefix, nodes, record_lines, written}
 use Rattle.crn_ctext.proofs.Pieces.{ends_with, wrote_as}
 use Rattle.crn_ctext.proofs.WrittenLeaves.{written_lines, leaves_append}
 use Rattle.crn_ctext.proofs.write_tree.put_trees.Goals as goal

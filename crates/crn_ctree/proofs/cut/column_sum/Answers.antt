@@ -1,11 +1,4 @@
-use Rattle.std.proofs.Common.{length, sym, ap, subst, ◌∙◌, arith}
-use Rattle.std.specs.Int.{w128}
-use Rattle.std.proofs.lemmas.Int.{to_z-of_z}
-use Rattle.crn_vec.specs.Vectors.{column, dot}
-use Rattle.crn_cert.specs.Ranges.{AreFree}
-use Rattle.crn_ctree.specs.Inner.Kinds.{matrix_by}
-use Rattle.crn_ctree.specs.Inner.Skips.{FitSkips}
-use Rattle.crn_ctree.specs.declared.cut.System.{System}
+use Rattle.crn_ctree.proofs.Prelude.{length, sym, ap, subst, ◌∙◌, arith, w128, to_z-of_z, column, dot, AreFree, matrix_by, FitSkips, System}
 use Rattle.crn_ctree.proofs.CutLaws.{free_by}
 use Rattle.crn_ctree.proofs.cut.column_sum.Goals as goal
 

@@ -1,6 +1,4 @@
-use Rattle.std.proofs.Common.{◌+◌, ℕ, sym, ap, ◌∙◌}
-use Rattle.crn_ctree.specs.Inner.Kinds.{matrix_by}
-use Rattle.crn_ctree.specs.declared.cut.System.{System}
+use Rattle.crn_ctree.proofs.Prelude.{◌+◌, ℕ, sym, ap, ◌∙◌, matrix_by, System}
 use Rattle.crn_ctree.proofs.cut.columns.Goals as goal
 
 pub returns-in-Reactions-clause-count : goal.returns-in-Reactions-clause-count

@@ -1,8 +1,4 @@
-use Rattle.std.proofs.Common.{sym, ◌∙◌, arith}
-use Rattle.std.proofs.lemmas.List.{length-set}
-use Rattle.crn_vec.specs.Vectors.{entry}
-use Rattle.crn_vec.proofs.CallerLemmas.{sign_is}
-use Rattle.crn_ctree.specs.Inner.Kinds.{matrix_by, weights_of}
+use Rattle.crn_ctree.proofs.Prelude.{sym, ◌∙◌, arith, length-set, entry, sign_is, matrix_by, weights_of}
 use Rattle.crn_ctree.proofs.CutLaws.{weights_long}
 use Rattle.crn_ctree.proofs.SignalLaws.{signs_more, all_signs}
 use Rattle.crn_ctree.proofs.cut.put_weights.Goals as goal

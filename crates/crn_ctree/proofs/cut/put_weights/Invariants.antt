@@ -1,9 +1,4 @@
-use Rattle.std.proofs.Common.{◌≡◌, ℕ, ◌<◌, length, get_or}
-use Rattle.crn_vec.specs.declared.signs.Sign.TheVariants.{Zero}
-use Rattle.crn_vec.specs.Concordance.{sign}
-use Rattle.crn_vec.specs.Elementary.{width}
-use Rattle.crn_vec.specs.Vectors.{entry}
-use Rattle.crn_ctree.specs.Inner.Kinds.{matrix_by, weights_of}
+use Rattle.crn_ctree.proofs.Prelude.{◌≡◌, ℕ, ◌<◌, length, get_or, Zero, sign, width, entry, matrix_by, weights_of}
 use Rattle.crn_ctree.proofs.cut.put_weights.Given as goal
 
 abbrev pub invariant-loop-k : goal.invariant-loop-k

@@ -1,8 +1,4 @@
-use Rattle.std.proofs.Common.{ap, ◌∙◌, inl}
-use Rattle.std.specs.Int.{w128}
-use Rattle.std.proofs.lemmas.Int.{to_z-of_z}
-use Rattle.crn_vec.specs.Vectors.{dot}
-use Rattle.crn_shape.proofs.CallerLemmas.{narrow_within}
+use Rattle.crn_ctree.proofs.Prelude.{ap, ◌∙◌, inl, w128, to_z-of_z, dot, narrow_within}
 use Rattle.crn_ctree.proofs.CutLaws.{reaction_column}
 use Rattle.crn_ctree.proofs.cut.reaction_sum.Goals as goal
 

@@ -1,7 +1,4 @@
-use Rattle.std.proofs.Common.{length, sym, ap, ◌∙◌}
-use Rattle.crn_vec.proofs.CallerLemmas.{rows_count}
-use Rattle.crn_ctree.specs.Inner.Kinds.{matrix_by}
-use Rattle.crn_ctree.specs.declared.cut.System.{System}
+use Rattle.crn_ctree.proofs.Prelude.{length, sym, ap, ◌∙◌, rows_count, matrix_by, System}
 use Rattle.crn_ctree.proofs.cut.rows.Goals as goal
 
 pub returns-in-Reactions-clause-count : goal.returns-in-Reactions-clause-count

@@ -1,11 +1,4 @@
-use Rattle.std.proofs.Common.{◌≡◌, ◌+◌, length, refl, sym, ap, subst, ◌∙◌, arith}
-use Rattle.std.specs.Prelude.{IsTrue}
-use Rattle.std.proofs.lemmas.Bool.{false≢true}
-use Rattle.crn_vec.specs.Elementary.{width}
-use Rattle.crn_vec.specs.Systems.{MayWeigh, kind_at}
-use Rattle.crn_vec.specs.Vectors.{HasSign, Mat, entry}
-use Rattle.crn_cert.specs.Ranges.{AreFree}
-use Rattle.crn_ctree.specs.Inner.Kinds.{kinds_of, matrix_of, weights_of}
+use Rattle.crn_ctree.proofs.Prelude.{◌≡◌, ◌+◌, length, refl, sym, ap, subst, ◌∙◌, arith, IsTrue, false≢true, width, MayWeigh, kind_at, HasSign, Mat, entry, AreFree, kinds_of, matrix_of, weights_of}
 use Rattle.crn_ctree.proofs.CutLaws.{CountsTo, may_next, counts_more, counts_here, counts_last, cut_from, cut_weighs, cut_counts}
 use Rattle.crn_ctree.proofs.cut.rules_out.Goals.{then-counts_at, else-counts_at}
 use Rattle.crn_ctree.proofs.cut.rules_out.Goals as goal

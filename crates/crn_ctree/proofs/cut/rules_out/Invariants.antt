@@ -1,5 +1,4 @@
-use Rattle.std.specs.Prelude.{◌↔◌, IsTrue}
-use Rattle.crn_ctree.specs.Inner.Kinds.{kinds_of, matrix_of, weights_of}
+use Rattle.crn_ctree.proofs.Prelude.{◌↔◌, IsTrue, kinds_of, matrix_of, weights_of}
 use Rattle.crn_ctree.proofs.CutLaws.{MayWeighTo, CountsTo}
 use Rattle.crn_ctree.proofs.cut.rules_out.Given as goal
 

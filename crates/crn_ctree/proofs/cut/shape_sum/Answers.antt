@@ -1,12 +1,4 @@
-use Rattle.std.proofs.Common.{◌≡◌, ◌≤◌, ◌<◌, ◌*◌, ◌+◌, ◌∙◌, length, take, get_or, ap, sym, arith, to_z, of_z, take_all}
-use Rattle.std.specs.Prelude.{ℤ, pos, ◌+ℤ◌, ◌*ℤ◌, unsigned_abs}
-use Rattle.std.specs.Int.{w128}
-use Rattle.std.proofs.Math.IntN.{*ℤ_comm}
-use Rattle.crn_vec.specs.Vectors.{dot, column, entry}
-use Rattle.crn_vec.specs.Signals.{shelf_matrix}
-use Rattle.crn_vec.specs.declared.limits.TheConstants.{MAX_AMOUNT, WIDE_SOLUTION}
-use Rattle.crn_vec.proofs.CallerLemmas.{held, sum_within, dot_step, next_sum, dot-comm, all_at, entry-column, length-column}
-use Rattle.crn_cert.specs.Ranges.{IsNarrow}
+use Rattle.crn_ctree.proofs.Prelude.{◌≡◌, ◌≤◌, ◌<◌, ◌*◌, ◌+◌, ◌∙◌, length, take, get_or, ap, sym, arith, to_z, of_z, take_all, ℤ, pos, ◌+ℤ◌, ◌*ℤ◌, unsigned_abs, w128, *ℤ_comm, dot, column, entry, shelf_matrix, MAX_AMOUNT, WIDE_SOLUTION, held, sum_within, dot_step, next_sum, dot-comm, all_at, entry-column, length-column, IsNarrow}
 use Rattle.crn_ctree.proofs.cut.shape_sum.Goals as goal
 
 pub times-sum-requires-clause-x : goal.times-sum-requires-clause-x

@@ -1,8 +1,4 @@
-use Rattle.std.proofs.Common.{◌≡◌, ◌≤◌, ◌*◌, take}
-use Rattle.std.specs.Prelude.{unsigned_abs}
-use Rattle.crn_vec.specs.Vectors.{dot, column}
-use Rattle.crn_vec.specs.Signals.{shelf_matrix}
-use Rattle.crn_vec.specs.declared.limits.TheConstants.{MAX_AMOUNT, WIDE_SOLUTION}
+use Rattle.crn_ctree.proofs.Prelude.{◌≡◌, ◌≤◌, ◌*◌, take, unsigned_abs, dot, column, shelf_matrix, MAX_AMOUNT, WIDE_SOLUTION}
 use Rattle.crn_ctree.proofs.cut.shape_sum.Given as goal
 
 abbrev pub invariant-loop-row : goal.invariant-loop-row

@@ -1,7 +1,4 @@
-use Rattle.std.proofs.Common.{length, ap, arith}
-use Rattle.crn_vec.proofs.CallerLemmas.{rows_count}
-use Rattle.crn_ctree.specs.Inner.Kinds.{matrix_by}
-use Rattle.crn_ctree.specs.declared.cut.System.{System}
+use Rattle.crn_ctree.proofs.Prelude.{length, ap, arith, rows_count, matrix_by, System}
 use Rattle.crn_ctree.proofs.cut.skips_by.Goals as goal
 
 pub skips_of-requires : goal.skips_of-requires

@@ -1,9 +1,4 @@
-use Rattle.std.proofs.Common.{length, sym, ap, ◌∙◌}
-use Rattle.crn_shape.proofs.CallerLemmas.{shelf_kinds_long}
-use Rattle.crn_ctree.specs.Problem.{problem_of}
-use Rattle.crn_ctree.specs.Inner.Kinds.{kinds_of, matrix_of}
-use Rattle.crn_ctree.specs.declared.problem.Problem.{Problem}
-use Rattle.crn_ctree.specs.declared.cut.Part.{Part}
+use Rattle.crn_ctree.proofs.Prelude.{length, sym, ap, ◌∙◌, shelf_kinds_long, problem_of, kinds_of, matrix_of, Problem, Part}
 use Rattle.crn_ctree.proofs.CutLaws.{table_system, part_system_b, table_kinds, kinds_b}
 use Rattle.crn_ctree.proofs.cut.system_of.Goals as goal
 

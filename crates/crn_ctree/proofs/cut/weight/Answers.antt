@@ -1,11 +1,4 @@
-use Rattle.std.proofs.Common.{◌≡◌, ◌≤◌, ◌<◌, ◌-◌, ◌∙◌, length, get_or, ap, arith, subst, to_z, of_z}
-use Rattle.std.specs.Prelude.{pos}
-use Rattle.std.specs.Int.{w128}
-use Rattle.std.proofs.lemmas.Int.{to_z-of_z}
-use Rattle.crn_vec.specs.Vectors.{HasSign, column, dot, entry}
-use Rattle.crn_vec.proofs.CallerLemmas.{all_at, held}
-use Rattle.crn_cert.specs.Ranges.{IsNarrow}
-use Rattle.crn_ctree.specs.Inner.Kinds.{matrix_by}
+use Rattle.crn_ctree.proofs.Prelude.{◌≡◌, ◌≤◌, ◌<◌, ◌-◌, ◌∙◌, length, get_or, ap, arith, subst, to_z, of_z, pos, w128, to_z-of_z, HasSign, column, dot, entry, all_at, held, IsNarrow, matrix_by}
 use Rattle.crn_ctree.proofs.CutLaws.{weight_left, weight_right}
 use Rattle.crn_ctree.proofs.cut.weight.Goals as goal
 

@@ -1,4 +1,4 @@
-use Rattle.std.proofs.Common.{length}
+use Rattle.crn_ctree.proofs.Prelude.{length}
 use Rattle.crn_ctree.proofs.kinds.+kind_from.Given as goal
 
 abbrev pub decreases-kind_from : goal.decreases-kind_from

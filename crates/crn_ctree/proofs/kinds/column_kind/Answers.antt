@@ -1,7 +1,5 @@
-use Rattle.crn_ctree.specs.Problem.{table_of}
+use Rattle.crn_ctree.proofs.Prelude.{table_of, ap, ◌∙◌, sym, get_or, [], column_kind}
 use Rattle.crn_ctree.proofs.KindLaws.{strong_column}
-use Rattle.std.proofs.Common.{ap, ◌∙◌, sym, get_or, []}
-use Rattle.crn_vec.specs.Concordance.{column_kind}
 use Rattle.crn_ctree.proofs.kinds.column_kind.Goals as goal
 
 pub returns-in-Strong : goal.returns-in-Strong

@@ -1,11 +1,4 @@
-use Rattle.std.proofs.Common.{List, sym, ap, ◌∙◌, arith}
-use Rattle.crn_vec.specs.declared.signs.Kind.{Kind}
-use Rattle.crn_vec.specs.Elementary.{width}
-use Rattle.crn_vec.specs.Systems.{kind_at}
-use Rattle.crn_vec.specs.Vectors.{Mat}
-use Rattle.crn_vec.proofs.CallerLemmas.{rows_count}
-use Rattle.crn_ctree.specs.Inner.Kinds.{kinds_of, matrix_of}
-use Rattle.crn_ctree.specs.declared.cut.Part.{Part}
+use Rattle.crn_ctree.proofs.Prelude.{List, sym, ap, ◌∙◌, arith, Kind, width, kind_at, Mat, rows_count, kinds_of, matrix_of, Part}
 use Rattle.crn_ctree.proofs.KindLaws.{part_b_is}
 use Rattle.crn_ctree.proofs.kinds.kind.Goals as goal
 

@@ -1,11 +1,4 @@
-use Rattle.std.proofs.Common.{◌≡◌, ◌+◌, length, sym, ap, ◌∙◌, arith}
-use Rattle.crn_vec.specs.Elementary.{width}
-use Rattle.crn_vec.specs.Systems.{kind_at}
-use Rattle.crn_vec.specs.Network.{Net}
-use Rattle.crn_vec.specs.NetSystems.{reaction_system}
-use Rattle.crn_vec.proofs.CallerLemmas.{rows_count}
-use Rattle.crn_ctree.specs.Problem.{problem_of}
-use Rattle.crn_ctree.specs.declared.problem.Problem.{Problem}
+use Rattle.crn_ctree.proofs.Prelude.{◌≡◌, ◌+◌, length, sym, ap, ◌∙◌, arith, width, kind_at, Net, reaction_system, rows_count, problem_of, Problem}
 use Rattle.crn_ctree.proofs.kinds.kind_a.Goals as goal
 
 -- the coordinates of system 2

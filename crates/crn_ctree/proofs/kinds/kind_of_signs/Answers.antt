@@ -1,8 +1,4 @@
-use Rattle.std.proofs.Common.{◌≡◌, ◌≤◌, ◌-◌, ◌∙◌, length, ap, arith, sym}
-use Rattle.crn_vec.specs.NetSystems.{reaction_system}
-use Rattle.crn_vec.specs.Systems.{kind_at}
-use Rattle.crn_vec.specs.Concordance.{row_kinds}
-use Rattle.crn_vec.proofs.CallerLemmas.{rows_count, row_in_b}
+use Rattle.crn_ctree.proofs.Prelude.{◌≡◌, ◌≤◌, ◌-◌, ◌∙◌, length, ap, arith, sym, reaction_system, kind_at, row_kinds, rows_count, row_in_b}
 use Rattle.crn_ctree.proofs.kinds.kind_of_signs.Goals as goal
 
 pub returns-else-k-reactions : goal.returns-else-k-reactions

@@ -1,7 +1,4 @@
-use Rattle.std.proofs.Common.{◌≤◌, length, arith, sym}
-use Rattle.crn_vec.specs.NetSystems.{reaction_system}
-use Rattle.crn_vec.proofs.CallerLemmas.{rows_count, row_in_a}
-use Rattle.crn_ctree.specs.Problem.{table_of}
+use Rattle.crn_ctree.proofs.Prelude.{◌≤◌, length, arith, sym, reaction_system, rows_count, row_in_a, table_of}
 use Rattle.crn_ctree.proofs.KindLaws.{table_long}
 use Rattle.crn_ctree.proofs.kinds.kind_of_table.Goals as goal
 

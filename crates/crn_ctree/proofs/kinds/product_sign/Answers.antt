@@ -1,6 +1,4 @@
-use Rattle.std.proofs.Common.{ap, ◌∙◌}
-use Rattle.crn_vec.specs.Concordance.{product}
-use Rattle.crn_vec.proofs.CallerLemmas.{sign_is, product_is}
+use Rattle.crn_ctree.proofs.Prelude.{ap, ◌∙◌, product, sign_is, product_is}
 use Rattle.crn_ctree.proofs.kinds.product_sign.Goals as goal
 
 pub returns : goal.returns

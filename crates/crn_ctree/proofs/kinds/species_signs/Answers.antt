@@ -1,9 +1,4 @@
-use Rattle.std.proofs.Common.{List, sym, ap, ◌∙◌}
-use Rattle.crn_vec.specs.declared.signs.Sign.{Sign}
-use Rattle.crn_vec.specs.Concordance.{kinds_b_of}
-use Rattle.crn_vec.specs.NetSystems.{reaction_system}
-use Rattle.crn_ctree.specs.Problem.{problem_of}
-use Rattle.crn_ctree.specs.declared.problem.Problem.{Problem}
+use Rattle.crn_ctree.proofs.Prelude.{List, sym, ap, ◌∙◌, Sign, kinds_b_of, reaction_system, problem_of, Problem}
 use Rattle.crn_ctree.proofs.kinds.species_signs.Goals as goal
 
 pub returns-in-Concordance : goal.returns-in-Concordance

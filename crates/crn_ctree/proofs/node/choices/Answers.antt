@@ -1,7 +1,4 @@
-use Rattle.std.proofs.Common.{sym, ap, ◌∙◌}
-use Rattle.crn_vec.proofs.CallerLemmas.{rows_count}
-use Rattle.crn_ctree.specs.Problem.{problem_of}
-use Rattle.crn_ctree.specs.declared.problem.Problem.{Problem}
+use Rattle.crn_ctree.proofs.Prelude.{sym, ap, ◌∙◌, rows_count, problem_of, Problem}
 use Rattle.crn_ctree.proofs.node.choices.Goals as goal
 
 pub returns-in-Concordance : goal.returns-in-Concordance

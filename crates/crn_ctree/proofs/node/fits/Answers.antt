@@ -1,8 +1,4 @@
-use Rattle.std.proofs.Common.{subst}
-use Rattle.crn_cert.specs.Nodes.{AreNumbersFor}
-use Rattle.crn_ctree.specs.Gives.{said_by}
-use Rattle.crn_ctree.specs.Problem.{problem_of}
-use Rattle.crn_ctree.specs.declared.node.Node.{Node}
+use Rattle.crn_ctree.proofs.Prelude.{subst, AreNumbersFor, said_by, problem_of, Node}
 use Rattle.crn_ctree.proofs.NodeTests.{by_node}
 use Rattle.crn_ctree.proofs.node.fits.Goals as goal
 

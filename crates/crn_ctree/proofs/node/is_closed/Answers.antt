@@ -1,7 +1,4 @@
-use Rattle.std.proofs.Common.{sym, subst, ◌∙◌}
-use Rattle.std.specs.Prelude.{◌↔◌, IsTrue}
-use Rattle.crn_ctree.specs.Problem.{problem_of}
-use Rattle.crn_ctree.specs.declared.problem.Problem.{Problem}
+use Rattle.crn_ctree.proofs.Prelude.{sym, subst, ◌∙◌, ◌↔◌, IsTrue, problem_of, Problem}
 use Rattle.crn_ctree.proofs.NodeTests.{flat_fits}
 use Rattle.crn_ctree.proofs.node.is_closed.Goals as goal
 

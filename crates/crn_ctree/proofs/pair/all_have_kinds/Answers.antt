@@ -1,11 +1,4 @@
-use Rattle.std.proofs.Common.{◌∙◌, [], refl, sym, subst, arith}
-use Rattle.std.specs.Prelude.{pos}
-use Rattle.std.proofs.lemmas.Bool.{false≢true}
-use Rattle.crn_vec.specs.Concordance.{column_kind}
-use Rattle.crn_vec.specs.Systems.{HasKind}
-use Rattle.crn_vec.specs.Vectors.{entry}
-use Rattle.crn_vec.proofs.CallerLemmas.{zip_from, zip_at}
-use Rattle.crn_ctree.specs.Problem.{table_of}
+use Rattle.crn_ctree.proofs.Prelude.{◌∙◌, [], refl, sym, subst, arith, pos, false≢true, column_kind, HasKind, entry, zip_from, zip_at, table_of}
 use Rattle.crn_ctree.proofs.KindLaws.{table_long}
 use Rattle.crn_ctree.proofs.pair.all_have_kinds.Goals as goal
 

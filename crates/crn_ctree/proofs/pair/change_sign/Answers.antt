@@ -1,7 +1,4 @@
-use Rattle.std.proofs.Common.{ap, subst, ◌∙◌}
-use Rattle.crn_vec.specs.Vectors.{HasSign}
-use Rattle.crn_vec.specs.Concordance.{sign}
-use Rattle.crn_vec.proofs.CallerLemmas.{held, sign_is}
+use Rattle.crn_ctree.proofs.Prelude.{ap, subst, ◌∙◌, HasSign, sign, held, sign_is}
 use Rattle.crn_ctree.proofs.pair.change_sign.Goals as goal
 
 pub returns : goal.returns

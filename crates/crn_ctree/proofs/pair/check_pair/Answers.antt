@@ -1,8 +1,4 @@
-use Rattle.std.proofs.Common.{ap, subst, sym, ◌∙◌}
-use Rattle.std.proofs.lemmas.Bool.{false≢true}
-use Rattle.crn_vec.specs.Problems.{all_zero}
-use Rattle.crn_ctree.specs.Inner.Pairs.{AreOfColumns}
-use Rattle.crn_ctree.specs.Problem.{table_of}
+use Rattle.crn_ctree.proofs.Prelude.{ap, subst, sym, ◌∙◌, false≢true, all_zero, AreOfColumns, table_of}
 use Rattle.crn_ctree.proofs.PairLaws.{shown, balanced_zero, some_change, all_of_kinds}
 use Rattle.crn_ctree.proofs.pair.check_pair.Goals as goal
 

@@ -1,4 +1,4 @@
-use Rattle.std.proofs.Common.{arith}
+use Rattle.crn_ctree.proofs.Prelude.{arith}
 use Rattle.crn_ctree.proofs.PairLaws.{signs_are}
 use Rattle.crn_ctree.proofs.pair.put_signs.Goals as goal
 

@@ -1,13 +1,4 @@
-use Rattle.std.proofs.Common.{◌≡◌, ◌≤◌, ◌<◌, ◌*◌, ◌+◌, ◌∙◌, length, take, get_or, ap, sym, arith, to_z, take_all}
-use Rattle.std.specs.Prelude.{ℤ, pos, ◌+ℤ◌, ◌*ℤ◌, unsigned_abs}
-use Rattle.std.specs.Int.{w128}
-use Rattle.std.proofs.Math.IntN.{*ℤ_comm}
-use Rattle.crn_vec.specs.Vectors.{dot, column, entry}
-use Rattle.crn_vec.specs.Deficiency.{vectors}
-use Rattle.crn_vec.specs.declared.limits.TheConstants.{MAX_AMOUNT, WIDE_SOLUTION}
-use Rattle.crn_vec.proofs.CallerLemmas.{held, sum_within, dot_step, next_sum, within_at, all_at, column_long}
-use Rattle.crn_cert.proofs.CallerLemmas.{vector_entry}
-use Rattle.crn_cert.specs.Ranges.{IsNarrow}
+use Rattle.crn_ctree.proofs.Prelude.{◌≡◌, ◌≤◌, ◌<◌, ◌*◌, ◌+◌, ◌∙◌, length, take, get_or, ap, sym, arith, to_z, take_all, ℤ, pos, ◌+ℤ◌, ◌*ℤ◌, unsigned_abs, w128, *ℤ_comm, dot, column, entry, vectors, MAX_AMOUNT, WIDE_SOLUTION, held, sum_within, dot_step, next_sum, within_at, all_at, column_long, vector_entry, IsNarrow}
 use Rattle.crn_ctree.proofs.PairLaws.{image_entry}
 use Rattle.crn_ctree.proofs.pair.sum_at.Goals as goal
 

@@ -1,8 +1,4 @@
-use Rattle.std.proofs.Common.{◌≡◌, ◌≤◌, ◌*◌, take}
-use Rattle.std.specs.Prelude.{unsigned_abs}
-use Rattle.crn_vec.specs.Vectors.{dot, column}
-use Rattle.crn_vec.specs.Deficiency.{vectors}
-use Rattle.crn_vec.specs.declared.limits.TheConstants.{MAX_AMOUNT, WIDE_SOLUTION}
+use Rattle.crn_ctree.proofs.Prelude.{◌≡◌, ◌≤◌, ◌*◌, take, unsigned_abs, dot, column, vectors, MAX_AMOUNT, WIDE_SOLUTION}
 use Rattle.crn_ctree.proofs.pair.sum_at.Given as goal
 
 abbrev pub invariant-loop-r : goal.invariant-loop-r

@@ -1,6 +1,4 @@
-use Rattle.std.proofs.Common.{[], sym, ◌∙◌, ap, arith}
-use Rattle.crn_vec.specs.Problems.{all_zero}
-use Rattle.crn_ctree.specs.Paths.{due_after}
+use Rattle.crn_ctree.proofs.Prelude.{[], sym, ◌∙◌, ap, arith, all_zero, due_after}
 use Rattle.crn_ctree.proofs.PathLaws.{zero_on, plus_on, plus_up, minus_up}
 use Rattle.crn_ctree.proofs.path.lead_on.Goals as goal
 

@@ -1,5 +1,4 @@
-use Rattle.std.proofs.Common.{◌≡◌, ◌≤◌, [], vec_len, vec_capacity}
-use Rattle.crn_ctree.specs.Paths.{due_after}
+use Rattle.crn_ctree.proofs.Prelude.{◌≡◌, ◌≤◌, [], vec_len, vec_capacity, due_after}
 use Rattle.crn_ctree.proofs.path.lead_on.Given as goal
 
 abbrev pub invariant-loop-option : goal.invariant-loop-option

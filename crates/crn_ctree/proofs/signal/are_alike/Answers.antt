@@ -1,9 +1,4 @@
-use Rattle.std.proofs.Common.{◌∙◌, refl, sym, arith}
-use Rattle.std.proofs.lemmas.Bool.{false≢true}
-use Rattle.crn_vec.specs.Concordance.{image}
-use Rattle.crn_vec.specs.NetSystems.{reaction_system}
-use Rattle.crn_vec.specs.Vectors.{entry}
-use Rattle.crn_vec.proofs.CallerLemmas.{sign_is}
+use Rattle.crn_ctree.proofs.Prelude.{◌∙◌, refl, sym, arith, false≢true, image, reaction_system, entry, sign_is}
 use Rattle.crn_ctree.proofs.PairLaws.{image_long}
 use Rattle.crn_ctree.proofs.SignalLaws.{alike_from, alike_at, next_alike}
 use Rattle.crn_ctree.proofs.signal.are_alike.Goals as goal

@@ -1,12 +1,4 @@
-use Rattle.std.proofs.Common.{◌∙◌, [], get_or, refl, sym, arith}
-use Rattle.std.specs.Prelude.{◌-ℤ◌, None}
-use Rattle.std.specs.Int.{w128}
-use Rattle.std.proofs.lemmas.Int.{to_z-of_z}
-use Rattle.std.proofs.lemmas.Bool.{false≢true}
-use Rattle.crn_vec.specs.Signals.{complex_at, top_kind}
-use Rattle.crn_vec.specs.Systems.{HasKind}
-use Rattle.crn_vec.specs.Vectors.{dot}
-use Rattle.crn_vec.proofs.CallerLemmas.{zip_from, zip_at}
+use Rattle.crn_ctree.proofs.Prelude.{◌∙◌, [], get_or, refl, sym, arith, ◌-ℤ◌, None, w128, to_z-of_z, false≢true, complex_at, top_kind, HasKind, dot, zip_from, zip_at}
 use Rattle.crn_ctree.proofs.SignalLaws.{has_both, kind_next}
 use Rattle.crn_ctree.proofs.signal.are_on_shelves.Goals as goal
 

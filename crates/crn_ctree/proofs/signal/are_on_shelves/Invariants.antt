@@ -1,8 +1,4 @@
-use Rattle.std.proofs.Common.{ℕ, ◌<◌, get_or}
-use Rattle.std.specs.Prelude.{◌-ℤ◌, None}
-use Rattle.crn_vec.specs.Signals.{complex_at, top_kind}
-use Rattle.crn_vec.specs.Systems.{HasKind}
-use Rattle.crn_vec.specs.Vectors.{dot}
+use Rattle.crn_ctree.proofs.Prelude.{ℕ, ◌<◌, get_or, ◌-ℤ◌, None, complex_at, top_kind, HasKind, dot}
 use Rattle.crn_ctree.proofs.signal.are_on_shelves.Given as goal
 
 abbrev pub invariant-loop-c : goal.invariant-loop-c

@@ -1,11 +1,4 @@
-use Rattle.std.proofs.Common.{◌∙◌, get_or, refl, sym, arith}
-use Rattle.std.specs.Int.{w128}
-use Rattle.std.proofs.lemmas.Int.{to_z-of_z}
-use Rattle.std.proofs.lemmas.Bool.{false≢true}
-use Rattle.crn_vec.specs.Signals.{pair_kind}
-use Rattle.crn_vec.specs.Systems.{HasKind}
-use Rattle.crn_vec.proofs.CallerLemmas.{all_at, all_given}
-use Rattle.crn_shape.specs.Shapes.{no_pair}
+use Rattle.crn_ctree.proofs.Prelude.{◌∙◌, get_or, refl, sym, arith, w128, to_z-of_z, false≢true, pair_kind, HasKind, all_at, all_given, no_pair}
 use Rattle.crn_ctree.proofs.SignalLaws.{change, has_both, kind_next}
 use Rattle.crn_ctree.proofs.signal.are_right_rises.Goals as goal
 

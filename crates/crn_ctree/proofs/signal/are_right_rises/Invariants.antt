@@ -1,7 +1,4 @@
-use Rattle.std.proofs.Common.{ℕ, ◌<◌, get_or}
-use Rattle.crn_vec.specs.Signals.{pair_kind}
-use Rattle.crn_vec.specs.Systems.{HasKind}
-use Rattle.crn_shape.specs.Shapes.{no_pair}
+use Rattle.crn_ctree.proofs.Prelude.{ℕ, ◌<◌, get_or, pair_kind, HasKind, no_pair}
 use Rattle.crn_ctree.proofs.SignalLaws.{change}
 use Rattle.crn_ctree.proofs.signal.are_right_rises.Given as goal
 

@@ -1,9 +1,4 @@
-use Rattle.std.proofs.Common.{List, sym, subst, ◌∙◌, arith}
-use Rattle.std.specs.Prelude.{ℤ}
-use Rattle.std.proofs.lemmas.Bool.{false≢true}
-use Rattle.crn_vec.specs.declared.signs.Sign.{Sign}
-use Rattle.crn_vec.proofs.CallerLemmas.{held}
-use Rattle.crn_ctree.specs.Inner.Signals.{AreOnShelves, AreRightRises}
+use Rattle.crn_ctree.proofs.Prelude.{List, sym, subst, ◌∙◌, arith, ℤ, false≢true, Sign, held, AreOnShelves, AreRightRises}
 use Rattle.crn_ctree.proofs.SignalLaws.{signal_is, signal_lies, signal_rises}
 use Rattle.crn_ctree.proofs.signal.check_signal.Goals as goal
 

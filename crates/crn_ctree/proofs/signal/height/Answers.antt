@@ -1,10 +1,4 @@
-use Rattle.std.proofs.Common.{◌≡◌, ◌<◌, ◌^◌, ◌∙◌, ap, arith, to_z, of_z}
-use Rattle.std.specs.Prelude.{ℤ, ◌-ℤ◌, unsigned_abs}
-use Rattle.std.specs.Int.{w128}
-use Rattle.std.proofs.lemmas.Int.{to_z-of_z}
-use Rattle.crn_vec.specs.Vectors.{dot}
-use Rattle.crn_vec.proofs.CallerLemmas.{dot-comm}
-use Rattle.crn_shape.proofs.CallerLemmas.{narrow_within}
+use Rattle.crn_ctree.proofs.Prelude.{◌≡◌, ◌<◌, ◌^◌, ◌∙◌, ap, arith, to_z, of_z, ℤ, ◌-ℤ◌, unsigned_abs, w128, to_z-of_z, dot, dot-comm, narrow_within}
 use Rattle.crn_ctree.proofs.SignalLaws.{dot_small}
 use Rattle.crn_ctree.proofs.signal.height.Goals as goal
 

@@ -1,5 +1,4 @@
-use Rattle.std.proofs.Common.{arith}
-use Rattle.std.proofs.lemmas.Bool.{false≢true}
+use Rattle.crn_ctree.proofs.Prelude.{arith, false≢true}
 use Rattle.crn_ctree.proofs.SignalLaws.{none_some}
 use Rattle.crn_ctree.proofs.signal.is_some.Goals as goal
 

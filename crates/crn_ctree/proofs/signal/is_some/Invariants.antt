@@ -1,6 +1,4 @@
-use Rattle.std.proofs.Common.{◌≡◌, ℕ, ◌<◌}
-use Rattle.std.specs.Prelude.{pos}
-use Rattle.crn_vec.specs.Vectors.{entry}
+use Rattle.crn_ctree.proofs.Prelude.{◌≡◌, ℕ, ◌<◌, pos, entry}
 use Rattle.crn_ctree.proofs.signal.is_some.Given as goal
 
 abbrev pub invariant-loop-k : goal.invariant-loop-k

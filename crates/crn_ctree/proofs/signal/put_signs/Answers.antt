@@ -1,7 +1,4 @@
-use Rattle.std.proofs.Common.{◌∙◌, arith}
-use Rattle.std.proofs.lemmas.List.{length-set}
-use Rattle.crn_vec.specs.Vectors.{entry}
-use Rattle.crn_vec.proofs.CallerLemmas.{sign_is}
+use Rattle.crn_ctree.proofs.Prelude.{◌∙◌, arith, length-set, entry, sign_is}
 use Rattle.crn_ctree.proofs.SignalLaws.{signs_more, all_signs}
 use Rattle.crn_ctree.proofs.signal.put_signs.Goals as goal
 

@@ -1,7 +1,4 @@
-use Rattle.std.proofs.Common.{◌≡◌, ℕ, ◌<◌, length, get_or}
-use Rattle.crn_vec.specs.declared.signs.Sign.TheVariants.{Zero}
-use Rattle.crn_vec.specs.Concordance.{sign}
-use Rattle.crn_vec.specs.Vectors.{entry}
+use Rattle.crn_ctree.proofs.Prelude.{◌≡◌, ℕ, ◌<◌, length, get_or, Zero, sign, entry}
 use Rattle.crn_ctree.proofs.signal.put_signs.Given as goal
 
 abbrev pub invariant-loop-k : goal.invariant-loop-k

@@ -1,11 +1,4 @@
-use Rattle.std.proofs.Common.{◌≤◌, ◌∙◌, get_or, length, ap, arith}
-use Rattle.std.specs.Int.{w128}
-use Rattle.std.proofs.lemmas.Int.{to_z-of_z}
-use Rattle.crn_vec.specs.Network.{minus}
-use Rattle.crn_vec.specs.Vectors.{dot}
-use Rattle.crn_vec.specs.Signals.{complex_at}
-use Rattle.crn_shape.proofs.CallerLemmas.{narrow_within}
-use Rattle.crn_shape.specs.Shapes.{no_pair}
+use Rattle.crn_ctree.proofs.Prelude.{◌≤◌, ◌∙◌, get_or, length, ap, arith, w128, to_z-of_z, minus, dot, complex_at, narrow_within, no_pair}
 use Rattle.crn_ctree.proofs.SignalLaws.{dot-minus}
 use Rattle.crn_ctree.proofs.signal.rise.Goals as goal
 

@@ -1,4 +1,4 @@
-use Rattle.std.proofs.Common.{length}
+use Rattle.crn_ctree.proofs.Prelude.{length}
 use Rattle.crn_ctree.proofs.spots.+push_spots.Given as goal
 
 abbrev pub decreases-push_spots : goal.decreases-push_spots

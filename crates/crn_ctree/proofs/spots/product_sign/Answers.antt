@@ -1,4 +1,4 @@
-use Rattle.crn_vec.proofs.CallerLemmas.{product_is}
+use Rattle.crn_ctree.proofs.Prelude.{product_is}
 use Rattle.crn_ctree.proofs.spots.product_sign.Goals as goal
 
 pub returns : goal.returns

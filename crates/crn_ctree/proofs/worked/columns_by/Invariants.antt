@@ -1,6 +1,4 @@
-use Rattle.std.proofs.Common.{◌≡◌, ℕ, take, map}
-use Rattle.crn_vec.specs.Concordance.{sign}
-use Rattle.crn_ctree.specs.Inner.Spots.{column_numbers, spots_from}
+use Rattle.crn_ctree.proofs.Prelude.{◌≡◌, ℕ, take, map, sign, column_numbers, spots_from}
 use Rattle.crn_ctree.proofs.worked.columns_by.Given as goal
 
 abbrev pub invariant-loop-r : goal.invariant-loop-r

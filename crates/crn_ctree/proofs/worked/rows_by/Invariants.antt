@@ -1,6 +1,4 @@
-use Rattle.std.proofs.Common.{◌≡◌, take}
-use Rattle.crn_ctree.specs.Inner.Kinds.{matrix_by}
-use Rattle.crn_ctree.specs.Inner.Spots.{rows_by}
+use Rattle.crn_ctree.proofs.Prelude.{◌≡◌, take, matrix_by, rows_by}
 use Rattle.crn_ctree.proofs.worked.rows_by.Given as goal
 
 abbrev pub invariant-loop-i : goal.invariant-loop-i

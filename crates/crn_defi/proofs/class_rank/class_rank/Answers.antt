@@ -1,7 +1,5 @@
-use Rattle.std.proofs.Common.{List, ℕ, refl, sym, subst, ◌∙◌}
-use Rattle.crn_vec.specs.Elementary.{NamesWide}
+use Rattle.crn_defi.proofs.Prelude.{List, ℕ, refl, sym, subst, ◌∙◌, NamesWide, AreMembers, IsWideStop, member_matrix}
 use Rattle.crn_farkas.specs.declared.fault.Stop.TheVariants.{Wide}
-use Rattle.crn_rank.specs.Rank.{AreMembers, IsWideStop, member_matrix}
 use Rattle.crn_defi.proofs.ClassRanks.{class_members_are, class_wide}
 use Rattle.crn_defi.proofs.class_rank.class_rank.Goals as goal
 

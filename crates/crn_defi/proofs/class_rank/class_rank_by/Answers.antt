@@ -1,4 +1,4 @@
-use Rattle.std.proofs.Common.{length, ap, arith}
+use Rattle.crn_defi.proofs.Prelude.{length, ap, arith}
 use Rattle.crn_defi.proofs.ClassRanks.{proof_leaves, class_short}
 use Rattle.crn_defi.proofs.class_rank.class_rank_by.Goals as goal
 

@@ -1,7 +1,4 @@
-use Rattle.std.proofs.Common.{◌≤◌, ◌==◌, length, take, arith}
-use Rattle.std.proofs.lemmas.List.{length-take}
-use Rattle.crn_vec.specs.Deficiency.{class_members}
-use Rattle.crn_vec.proofs.CallerLemmas.{filter_few}
+use Rattle.crn_defi.proofs.Prelude.{◌≤◌, ◌==◌, length, take, arith, length-take, class_members, filter_few}
 use Rattle.crn_defi.proofs.classes.complexes_of.Goals as goal
 
 pub overflow_add-count : goal.overflow_add-count

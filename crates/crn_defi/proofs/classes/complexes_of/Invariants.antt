@@ -1,5 +1,4 @@
-use Rattle.std.proofs.Common.{◌≡◌, length, take}
-use Rattle.crn_vec.specs.Deficiency.{class_members}
+use Rattle.crn_defi.proofs.Prelude.{◌≡◌, length, take, class_members}
 use Rattle.crn_defi.proofs.classes.complexes_of.Given as goal
 
 abbrev pub invariant-loop-own : goal.invariant-loop-own

@@ -1,4 +1,4 @@
-use Rattle.std.proofs.Common.{◌+◌, ◌∷◌, ◌++◌, [], List, ℕ, ap, sym, ◌∙◌}
+use Rattle.crn_defi.proofs.Prelude.{◌+◌, ◌∷◌, ◌++◌, [], List, ℕ, ap, sym, ◌∙◌}
 use Rattle.crn_defi.proofs.Places.{before_yes, before_no}
 use Rattle.crn_defi.proofs.classes.reactions_of.Goals as goal
 use Rattle.crn_defi.proofs.classes.reactions_of.Goals.{then-label-reactant+in_ok-push, else-label-reactant}

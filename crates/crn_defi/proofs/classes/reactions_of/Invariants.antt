@@ -1,6 +1,4 @@
-use Rattle.std.proofs.Common.{◌≡◌, ◌-◌, ◌==◌}
-use Rattle.std.specs.Prelude.{filter, slice_index, slice_index_or}
-use Rattle.std.specs.List.{range_with_len}
+use Rattle.crn_defi.proofs.Prelude.{◌≡◌, ◌-◌, ◌==◌, filter, slice_index, slice_index_or, range_with_len}
 use Rattle.crn_defi.proofs.classes.reactions_of.Given as goal
 
 abbrev pub invariant-loop-r : goal.invariant-loop-r

@@ -1,7 +1,4 @@
-use Rattle.std.proofs.Common.{◌≡◌, ◌+◌, ◌∷◌, ◌++◌, [], List, length, ℕ, ap, sym, subst, arith}
-use Rattle.std.proofs.lemmas.List.{length-append}
-use Rattle.crn_cert.specs.declared.answer.RankProof.{RankProof}
-use Rattle.crn_defi.specs.Inner.ClassRanks.{IsClass, IsClassRank, AreClassRanks}
+use Rattle.crn_defi.proofs.Prelude.{◌≡◌, ◌+◌, ◌∷◌, ◌++◌, [], List, length, ℕ, ap, sym, subst, arith, length-append, RankProof, IsClass, IsClassRank, AreClassRanks}
 use Rattle.crn_defi.proofs.ClassRanks.{ranks_push}
 use Rattle.crn_defi.proofs.DeficiencyAnswers.{class_at}
 use Rattle.crn_defi.proofs.deficiency.class_ranks.Goals as goal

@@ -1,5 +1,4 @@
-use Rattle.std.proofs.Common.{◌≡◌, length}
-use Rattle.crn_defi.specs.Inner.ClassRanks.{AreClassRanks}
+use Rattle.crn_defi.proofs.Prelude.{◌≡◌, length, AreClassRanks}
 use Rattle.crn_defi.proofs.deficiency.class_ranks.Given as goal
 
 abbrev pub invariant-loop-k : goal.invariant-loop-k

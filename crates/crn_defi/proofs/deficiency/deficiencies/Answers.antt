@@ -1,6 +1,5 @@
-use Rattle.std.proofs.Common.{subst}
+use Rattle.crn_defi.proofs.Prelude.{subst, IsStop}
 use Rattle.crn_defi.specs.declared.class_rank.ClassStop.TheVariants.{Wide}
-use Rattle.crn_defi.specs.Inner.ClassRanks.{IsStop}
 use Rattle.crn_defi.proofs.DeficiencyAnswers.{deficiencies_given, deficiencies_wide}
 use Rattle.crn_defi.proofs.deficiency.deficiencies.Goals as goal
 

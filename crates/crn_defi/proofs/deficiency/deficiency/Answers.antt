@@ -1,4 +1,4 @@
-use Rattle.std.proofs.Common.{arith}
+use Rattle.crn_defi.proofs.Prelude.{arith}
 use Rattle.crn_defi.proofs.Counted.{rank_leaves}
 use Rattle.crn_defi.proofs.deficiency.deficiency.Goals as goal
 

@@ -1,4 +1,4 @@
-use Rattle.std.proofs.Common.{ℕ, ◌<◌, ◌≤◌, get_or}
+use Rattle.crn_defi.proofs.Prelude.{ℕ, ◌<◌, ◌≤◌, get_or}
 use Rattle.crn_defi.proofs.one.first_large.Given as goal
 
 abbrev pub invariant-loop-k : goal.invariant-loop-k

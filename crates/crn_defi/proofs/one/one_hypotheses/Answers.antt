@@ -1,6 +1,4 @@
-use Rattle.std.proofs.Common.{ℕ, List, length, ap, sym, subst, arith}
-use Rattle.crn_defi.specs.Inner.Terminals.{AreClassNumbers, HaveOneUpTo, IsFirstWithMore}
-use Rattle.crn_space.proofs.CallerLemmas.{labels_few}
+use Rattle.crn_defi.proofs.Prelude.{ℕ, List, length, ap, sym, subst, arith, AreClassNumbers, HaveOneUpTo, IsFirstWithMore, labels_few}
 use Rattle.crn_defi.proofs.TerminalCounts.{Known, class_numbers}
 use Rattle.crn_defi.proofs.OneAnswers.{split_given, after_given, few_or_open}
 use Rattle.crn_defi.proofs.one.one_hypotheses.Goals as goal

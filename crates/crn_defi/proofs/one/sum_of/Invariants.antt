@@ -1,5 +1,4 @@
-use Rattle.std.proofs.Common.{◌≡◌, ◌≤◌, take}
-use Rattle.std.specs.Prelude.{sum}
+use Rattle.crn_defi.proofs.Prelude.{◌≡◌, ◌≤◌, take, sum}
 use Rattle.crn_defi.proofs.one.sum_of.Given as goal
 
 abbrev pub invariant-loop-deficiency : goal.invariant-loop-deficiency

@@ -1,6 +1,4 @@
-use Rattle.std.proofs.Common.{ℕ, List, length, ap, sym, subst, arith}
-use Rattle.crn_defi.specs.Inner.Terminals.{AreClassNumbers}
-use Rattle.crn_space.proofs.CallerLemmas.{labels_few}
+use Rattle.crn_defi.proofs.Prelude.{ℕ, List, length, ap, sym, subst, arith, AreClassNumbers, labels_few}
 use Rattle.crn_defi.proofs.TerminalCounts.{Known, class_numbers}
 use Rattle.crn_defi.proofs.Splits.{Finds, split_of, number_of, tests_of}
 use Rattle.crn_defi.proofs.split.first_split.Goals as goal

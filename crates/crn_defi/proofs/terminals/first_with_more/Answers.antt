@@ -1,6 +1,4 @@
-use Rattle.std.proofs.Common.{◌≡◌, ◌+◌, ℕ, inl, inr, length, sym, subst, ◌∙◌, arith}
-use Rattle.crn_vec.proofs.CallerLemmas.{lt_or}
-use Rattle.crn_cert.specs.Valid.{terminals_of}
+use Rattle.crn_defi.proofs.Prelude.{◌≡◌, ◌+◌, ℕ, inl, inr, length, sym, subst, ◌∙◌, arith, lt_or, terminals_of}
 use Rattle.crn_defi.proofs.terminals.first_with_more.Goals as goal
 
 pub loop-k-preserved : goal.loop-k-preserved

@@ -1,5 +1,4 @@
-use Rattle.std.proofs.Common.{length}
-use Rattle.crn_defi.specs.Inner.Terminals.{HaveOneUpTo}
+use Rattle.crn_defi.proofs.Prelude.{length, HaveOneUpTo}
 use Rattle.crn_defi.proofs.terminals.first_with_more.Given as goal
 
 abbrev pub invariant-loop-k : goal.invariant-loop-k

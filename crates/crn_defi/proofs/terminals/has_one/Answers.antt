@@ -1,5 +1,4 @@
-use Rattle.std.proofs.Common.{◌≡◌, ◌≢◌, ◌+◌, ◌==◌, ℕ, true, not, sym, ap, subst, ◌∙◌}
-use Rattle.std.proofs.lemmas.Bool.{eq-eqb, false≢true}
+use Rattle.crn_defi.proofs.Prelude.{◌≡◌, ◌≢◌, ◌+◌, ◌==◌, ℕ, true, not, sym, ap, subst, ◌∙◌, eq-eqb, false≢true}
 use Rattle.crn_defi.proofs.OneTerminal.{IsOnly, none_yet, passed_over, one_more, counts_one}
 use Rattle.crn_defi.proofs.terminals.has_one.Goals as goal
 use Rattle.crn_defi.proofs.terminals.has_one.Goals.{then-here-ne0+else-own-ne0, else-own-ne0-via-then-own-ne0+else-own-here, else-own-ne0-via-else-own-ne0, else-here-ne0}

@@ -1,10 +1,6 @@
-use Rattle.std.proofs.Common.{◌≡◌, ◌==◌, Bool, false, length, get_or, sym, ap, ◌∙◌, arith}
-use Rattle.std.specs.List.{list_any, range_with_len}
-use Rattle.std.proofs.lemmas.Bool.{eqb-true, eq-eqb}
-use Rattle.crn_cert.specs.Valid.{is_in_both}
+use Rattle.crn_defi.proofs.Prelude.{◌≡◌, ◌==◌, Bool, false, length, get_or, sym, ap, ◌∙◌, arith, list_any, range_with_len, eqb-true, eq-eqb, is_in_both, in_range, range_more, and_true, any_has, any_push, and_no}
 use Rattle.crn_defi.proofs.terminals.have_both.Goals as goal
 use Rattle.crn_defi.proofs.terminals.have_both.Goals.{else-strong-c-via-then-strong-c+else-linkage-c, else-strong-c-via-else-strong-c}
-use Rattle.crn_vec.proofs.CallerLemmas.{in_range, range_more, and_true, any_has, any_push, and_no}
 
 pub returns-then-linkage-c : goal.returns-then-linkage-c
 returns-then-linkage-c c =

@@ -1,6 +1,4 @@
-use Rattle.std.proofs.Common.{◌≡◌, false}
-use Rattle.std.specs.List.{list_any, range_with_len}
-use Rattle.crn_cert.specs.Valid.{is_in_both}
+use Rattle.crn_defi.proofs.Prelude.{◌≡◌, false, list_any, range_with_len, is_in_both}
 use Rattle.crn_defi.proofs.terminals.have_both.Given as goal
 
 abbrev pub invariant-loop-c : goal.invariant-loop-c

@@ -1,5 +1,4 @@
-use Rattle.std.proofs.Common.{◌+◌, ℕ, sym, ap, ◌∙◌, arith}
-use Rattle.crn_cert.proofs.CallerLemmas.{passes_at, fails_by_exit, fails_by_complexes, terminals_yes, terminals_no, terminals_few}
+use Rattle.crn_defi.proofs.Prelude.{◌+◌, ℕ, sym, ap, ◌∙◌, arith, passes_at, fails_by_exit, fails_by_complexes, terminals_yes, terminals_no, terminals_few}
 use Rattle.crn_defi.proofs.terminals.terminals_of.Goals as goal
 use Rattle.crn_defi.proofs.terminals.terminals_of.Goals.{then-exit-m-eq0+then-have_both, else-exit-m-eq0, else-exit-m-eq0-via-then-exit-m-eq0+else-have_both, else-exit-m-eq0-via-else-exit-m-eq0}
 

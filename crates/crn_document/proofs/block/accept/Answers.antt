@@ -1,25 +1,8 @@
-use Rattle.std.proofs.Common.{◌∙◌, map, refl, sym, subst, List, ◌+◌, arith}
-use Rattle.std.proofs.lemmas.Result.{err_from_is_err_and}
-use Rattle.crn_check.specs.Facts.{asked}
-use Rattle.crn_check.proofs.CallerLemmas.{answer_treeless}
-use Rattle.crn_document.specs.declared.parts.Part.{Part}
+use Rattle.crn_document.proofs.Prelude.{◌∙◌, map, refl, sym, subst, List, ◌+◌, arith, err_from_is_err_and, asked, answer_treeless, Part, FitAnswer, tests_course, step_exits, stops_here, tests_give, tests_fail, ◌≡◌, ◌++◌, ◌∷◌, [], ap, Result, OnOk, IsSome, Verdict, Question, vector_given, AllHold, FailsFirst, tests_of, Judges, AreFactsOf, KeptFacts, tight, CheckFault}
 use Rattle.crn_reading.specs.declared.fault.CheckStop.TheVariants as stop
-use Rattle.crn_document.specs.Inner.Answers.{FitAnswer}
-use Rattle.crn_document.specs.Inner.Blocks.{tests_course}
 use Rattle.crn_document.proofs.Heads.{said_facts}
-use Rattle.crn_reading.proofs.CallerLemmas.{step_exits, stops_here, tests_give, tests_fail}
 use Rattle.crn_document.proofs.Blocks.{answer_formed, answer_heads, answer_part, answer_tight, block_fails, block_learns, block_fits, said_answer, shown_first, so_far_next}
 use Rattle.crn_document.proofs.Kept.{sides_after, sides_shown, vector_after}
-use Rattle.std.proofs.Common.{◌≡◌, ◌++◌, ◌∷◌, [], ap, Result, OnOk}
-use Rattle.std.specs.Option.{IsSome}
-use Rattle.crn_cert.specs.declared.answer.Verdict.{Verdict}
-use Rattle.crn_cert.specs.Questions.{Question, vector_given}
-use Rattle.crn_cert.specs.Tests.{AllHold, FailsFirst}
-use Rattle.crn_cert.specs.Valid.{tests_of}
-use Rattle.crn_check.specs.Check.{Judges}
-use Rattle.crn_check.specs.Facts.{AreFactsOf, KeptFacts}
-use Rattle.crn_cert.specs.Verdicts.{tight}
-use Rattle.crn_check.specs.declared.fault.CheckFault.{CheckFault}
 use Rattle.crn_document.proofs.block.accept.Goals as goal
 
 pub answer_of-requires-clause-small : goal.answer_of-requires-clause-small

@@ -1,12 +1,6 @@
-use Rattle.std.proofs.Common.{map, refl}
-use Rattle.std.proofs.lemmas.Result.{err_from_is_err_and}
-use Rattle.crn_cert.specs.declared.answer.Verdict.{Verdict}
-use Rattle.crn_cert.specs.Questions.{Question}
-use Rattle.crn_check.specs.Check.{shown_by_tree}
-use Rattle.crn_check.specs.Facts.{asked}
+use Rattle.crn_document.proofs.Prelude.{map, refl, err_from_is_err_and, Verdict, Question, shown_by_tree, asked, step_exits}
 use Rattle.crn_document.proofs.Kept.{sides_after_trees}
 use Rattle.crn_document.proofs.Blocks.{so_far_next}
-use Rattle.crn_reading.proofs.CallerLemmas.{step_exits}
 use Rattle.crn_document.proofs.block.accept_shown.Goals as goal
 
 pub accept_tree-requires-clause-later : goal.accept_tree-requires-clause-later

@@ -1,20 +1,6 @@
-use Rattle.std.proofs.Common.{◌≡◌, ◌+◌, ◌-◌, ◌∙◌, List, [], refl, sym, subst, ap, arith, ℕ}
-use Rattle.std.specs.Prelude.{ℤ}
-use Rattle.crn_cert.specs.declared.answer.Verdict.{Verdict}
-use Rattle.crn_cert.specs.Formed.{HeadMayBe}
-use Rattle.crn_cert.specs.Tests.{AllHold, FailsFirst}
-use Rattle.crn_cert.specs.Valid.{head_tests}
-use Rattle.crn_ctext.specs.Blocks.{claims}
-use Rattle.crn_ctext.specs.Course.{◌>>=◌}
+use Rattle.crn_document.proofs.Prelude.{◌≡◌, ◌+◌, ◌-◌, ◌∙◌, List, [], refl, sym, subst, ap, arith, ℕ, ℤ, Verdict, HeadMayBe, AllHold, FailsFirst, head_tests, claims, ◌>>=◌, fails_before, asked, AreSmall, IsHead, IsAfter, after_at, head_course, rows_course, StepIs, step_then_is, tests_give, tests_fail}
 use Rattle.crn_ctext.specs.Course as course
-use Rattle.crn_ctext.proofs.CallerLemmas.{fails_before}
-use Rattle.crn_check.specs.Facts.{asked}
-use Rattle.crn_document.specs.Inner.Answer.{AreSmall}
-use Rattle.crn_document.specs.Inner.Heads.{IsHead}
-use Rattle.crn_document.specs.Inner.Blocks.{IsAfter, after_at, head_course, rows_course}
-use Rattle.crn_reading.specs.Steps.{StepIs}
 use Rattle.crn_document.proofs.Heads.{said_facts}
-use Rattle.crn_reading.proofs.CallerLemmas.{step_then_is, tests_give, tests_fail}
 use Rattle.crn_document.proofs.Blocks.{claims_fail, claims_hold, head_course_by, said_verdict}
 use Rattle.crn_document.proofs.block.after_head.Goals as goal
 

@@ -1,10 +1,4 @@
-use Rattle.std.proofs.Common.{ℕ, subst, sym}
-use Rattle.std.specs.Prelude.{ℤ}
-use Rattle.crn_vec.specs.NetSignals.{IsShapeOf}
-use Rattle.crn_cert.specs.declared.answer.Verdict.{Verdict}
-use Rattle.crn_cert.specs.Valid.{OfVector}
-use Rattle.crn_check.specs.Check.{HoldsNeeds, IsShapeFor}
-use Rattle.crn_check.specs.Facts.{HoldsNoneFrom}
+use Rattle.crn_document.proofs.Prelude.{ℕ, subst, sym, ℤ, IsShapeOf, Verdict, OfVector, HoldsNeeds, IsShapeFor, HoldsNoneFrom}
 use Rattle.crn_document.proofs.Kept.{no_signal_held, signal_known, turn_held}
 use Rattle.crn_document.proofs.block.check_records.Goals as goal
 

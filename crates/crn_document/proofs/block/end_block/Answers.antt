@@ -1,15 +1,6 @@
-use Rattle.std.proofs.Common.{◌≡◌, ◌++◌, ◌∷◌, ◌∙◌, [], Ok, Err, Bool, List, ℕ, refl, sym, subst, ap, arith}
-use Rattle.std.proofs.lemmas.Result.{err_from_is_err_and}
-use Rattle.crn_check.specs.Check.{shown_by_tree, tree_place}
-use Rattle.crn_ctext.specs.Blocks.{Problem, has_tree}
-use Rattle.crn_ctext.specs.Meaning.{meaning, problems_by}
-use Rattle.crn_check.specs.Facts.{asked}
-use Rattle.crn_document.specs.Inner.Blocks.{IsAfter, after_at, end_course, tests_course}
-use Rattle.crn_document.specs.Inner.Heads.{known_of}
-use Rattle.crn_reading.specs.Steps.{StepIs}
+use Rattle.crn_document.proofs.Prelude.{◌≡◌, ◌++◌, ◌∷◌, ◌∙◌, [], Ok, Err, Bool, List, ℕ, refl, sym, subst, ap, arith, err_from_is_err_and, shown_by_tree, tree_place, Problem, has_tree, meaning, problems_by, asked, IsAfter, after_at, end_course, tests_course, known_of, StepIs, step_exits, stop_first, tests_give}
 use Rattle.crn_document.proofs.Heads.{said_facts}
 use Rattle.crn_document.proofs.Blocks.{vector_shown, block_length, block_then, block_shown, trees_due}
-use Rattle.crn_reading.proofs.CallerLemmas.{step_exits, stop_first, tests_give}
 use Rattle.crn_document.proofs.TreesBelow.{no_tree_below, tree_below, trees_none}
 use Rattle.crn_document.proofs.block.end_block.Goals as goal
 

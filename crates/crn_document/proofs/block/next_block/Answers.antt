@@ -1,11 +1,4 @@
-use Rattle.std.proofs.Common.{◌≡◌, ◌+◌, sym, subst, ℕ}
-use Rattle.std.proofs.lemmas.Result.{err_from_is_err_and}
-use Rattle.crn_ctext.specs.Blocks.{asks}
-use Rattle.crn_check.specs.Facts.{asked}
-use Rattle.crn_document.specs.Inner.Heads.{head_forms}
-use Rattle.crn_document.specs.Inner.Blocks.{IsAfter, after_at, head_course}
-use Rattle.crn_reading.specs.Steps.{StepIs}
-use Rattle.crn_reading.proofs.CallerLemmas.{step_exits, step_then_is, stop_first}
+use Rattle.crn_document.proofs.Prelude.{◌≡◌, ◌+◌, sym, subst, ℕ, err_from_is_err_and, asks, asked, head_forms, IsAfter, after_at, head_course, StepIs, step_exits, step_then_is, stop_first}
 use Rattle.crn_document.proofs.block.next_block.Goals as goal
 
 pub after_head-requires-clause-head : goal.after_head-requires-clause-head

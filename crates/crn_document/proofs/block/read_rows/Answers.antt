@@ -1,26 +1,9 @@
-use Rattle.std.proofs.Common.{ℕ, ◌≡◌, ◌≤◌, ◌-◌, ◌∙◌, List, length, map, ap, refl, sym, subst, arith}
+use Rattle.crn_document.proofs.Prelude.{ℕ, ◌≡◌, ◌≤◌, ◌-◌, ◌∙◌, List, length, map, ap, refl, sym, subst, arith, AllByRecursion, err_from_is_err_and, length-map, Form, AfterBlocks, asks_all, Known, StepGives, Q2, on, terminal_of, exits, linkage, strong, MAX_COMPLEXES, asked, Row, IsAfter, after_at, end_course, forms_below, parts_after, parts_below, MayBeRow, row_form, StepIs, StopIs, step_exits, step_then_is, stop_first, stops_here}
 use Rattle.std.specs.Prelude.{false}
-use Rattle.std.specs.List.{AllByRecursion}
-use Rattle.std.proofs.lemmas.Result.{err_from_is_err_and}
-use Rattle.std.proofs.lemmas.List.{length-map}
-use Rattle.crn_ctext.specs.Records.{Form}
-use Rattle.crn_ctext.specs.Blocks.{AfterBlocks, asks_all}
-use Rattle.crn_ctext.specs.Meaning.{Known}
-use Rattle.crn_ctext.specs.Steps.{StepGives}
-use Rattle.crn_cert.specs.Questions.{Q2, on, terminal_of}
-use Rattle.crn_cert.specs.Valid.{exits, linkage, strong}
 use Rattle.crn_document.proofs.Linkages.{terminal_few}
-use Rattle.crn_vec.specs.declared.limits.TheConstants.{MAX_COMPLEXES}
-use Rattle.crn_check.specs.Facts.{asked}
-use Rattle.crn_document.specs.declared.rows.Row.{Row}
 use Rattle.crn_reading.specs.declared.fault.CheckStop.TheVariants as stop
-use Rattle.crn_document.specs.Inner.Blocks.{IsAfter, after_at, end_course, forms_below, parts_after}
-use Rattle.crn_document.specs.Inner.Parts.{parts_below}
-use Rattle.crn_document.specs.Inner.Records.{MayBeRow, row_form}
-use Rattle.crn_reading.specs.Steps.{StepIs, StopIs}
 use Rattle.crn_document.proofs.Heads.{said_facts}
 use Rattle.crn_document.proofs.Ranks.{AreRanks}
-use Rattle.crn_reading.proofs.CallerLemmas.{step_exits, step_then_is, stop_first, stops_here}
 use Rattle.crn_document.proofs.Blocks.{forms_are, rows_block, rows_counted, rows_course_by, rows_may}
 use Rattle.crn_document.proofs.block.read_rows.Goals as goal
 

@@ -1,13 +1,5 @@
-use Rattle.std.proofs.Common.{◌∙◌, ℕ, subst, sym}
-use Rattle.std.proofs.lemmas.Result.{err_from_is_err_and}
-use Rattle.crn_ctext.specs.Steps.{StepGives}
-use Rattle.crn_document.specs.Inner.Courses.{IsWhole, whole_course}
-use Rattle.crn_reading.specs.Ending.{LastIs}
-use Rattle.crn_reading.specs.Opening.{count_course, network_course, title_course}
-use Rattle.crn_reading.specs.Steps.{StopIs}
-use Rattle.crn_document.specs.declared.check.Accepted.{Accepted}
+use Rattle.crn_document.proofs.Prelude.{◌∙◌, ℕ, subst, sym, err_from_is_err_and, StepGives, IsWhole, whole_course, LastIs, count_course, network_course, title_course, StopIs, Accepted, last_exits, stop_first}
 use Rattle.std.specs.Prelude.{Ok, Err}
-use Rattle.crn_reading.proofs.CallerLemmas.{last_exits, stop_first}
 use Rattle.crn_document.proofs.Documents.{after_count, after_network, after_title, body_at, count_then, network_all, network_then, title_then}
 use Rattle.crn_document.proofs.document.next_document.Goals as goal
 

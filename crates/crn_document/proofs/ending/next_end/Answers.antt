@@ -1,9 +1,4 @@
-use Rattle.std.proofs.Common.{◌∷◌, []}
-use Rattle.std.proofs.lemmas.Result.{err_from_is_err_and}
-use Rattle.crn_ctext.specs.Kinds.{end_form}
-use Rattle.crn_ctext.specs.Blocks.{asks}
-use Rattle.crn_reading.specs.Ending.{ends_with}
-use Rattle.crn_reading.proofs.CallerLemmas.{stop_first, end_exits, step_then_ends, read_to_the_end}
+use Rattle.crn_document.proofs.Prelude.{◌∷◌, [], err_from_is_err_and, end_form, asks, ends_with, stop_first, end_exits, step_then_ends, read_to_the_end}
 use Rattle.crn_document.proofs.ending.next_end.Goals as goal
 
 pub returns-in_err-next_plain : goal.returns-in_err-next_plain

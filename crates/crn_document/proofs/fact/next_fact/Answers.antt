@@ -1,20 +1,4 @@
-use Rattle.std.proofs.Common.{◌≡◌, ◌≤◌, ◌∙◌, ℕ, Bool, false, List, [], sym, subst, ap, inl, inr, arith, Ok}
-use Rattle.std.specs.Prelude.{ℤ}
-use Rattle.std.proofs.lemmas.Result.{err_from_is_err_and}
-use Rattle.crn_vec.specs.Network.{Net}
-use Rattle.crn_cert.specs.Questions.{Question}
-use Rattle.crn_io.specs.Device.{SourceSeen}
-use Rattle.crn_ctext.specs.Records.{Record}
-use Rattle.crn_ctext.specs.Blocks.{asks_block}
-use Rattle.crn_ctext.specs.Meaning.{meaning}
-use Rattle.crn_check.specs.Check.{AsksForTree}
-use Rattle.crn_check.specs.Facts.{KeptFacts, asked}
-use Rattle.crn_document.specs.Facts.{IsAfterFacts, IsKnownFor, after_facts}
-use Rattle.crn_document.specs.Inner.Blocks.{IsAfter, KeepSides, after_by}
-use Rattle.crn_reading.specs.Steps.{StepIs, StopIs}
-use Rattle.crn_reading.specs.declared.reading.Reading.{Reading}
-use Rattle.crn_reading.specs.declared.fault.CheckStop.{CheckStop}
-use Rattle.crn_reading.proofs.CallerLemmas.{step_exits}
+use Rattle.crn_document.proofs.Prelude.{◌≡◌, ◌≤◌, ◌∙◌, ℕ, Bool, false, List, [], sym, subst, ap, inl, inr, arith, Ok, ℤ, err_from_is_err_and, Net, Question, SourceSeen, Record, asks_block, meaning, AsksForTree, KeptFacts, asked, IsAfterFacts, IsKnownFor, after_facts, IsAfter, KeepSides, after_by, StepIs, StopIs, Reading, CheckStop, step_exits}
 use Rattle.crn_document.proofs.Kept.{none_kept}
 use Rattle.crn_document.proofs.fact.next_fact.Goals as goal
 

@@ -1,5 +1,4 @@
-use Rattle.std.proofs.Common.{sym, ◌∙◌}
-use Rattle.std.proofs.lemmas.Bool.{false≢true}
+use Rattle.crn_document.proofs.Prelude.{sym, ◌∙◌, false≢true}
 use Rattle.crn_document.proofs.Linkages.{counts_fit, no_counts, zeros_fit}
 use Rattle.crn_document.proofs.head.class_sizes.Goals as goal
 

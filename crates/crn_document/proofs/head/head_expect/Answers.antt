@@ -1,10 +1,5 @@
-use Rattle.std.proofs.Common.{refl, sym, ap, List, [], ◌∷◌, length, ◌∙◌}
-use Rattle.std.specs.Prelude.{pos}
-use Rattle.crn_ctext.specs.Records.{Form}
-use Rattle.crn_ctext.specs.Blocks.{place_of}
+use Rattle.crn_document.proofs.Prelude.{refl, sym, ap, List, [], ◌∷◌, length, ◌∙◌, pos, Form, place_of, known_sizes, known_of}
 use Rattle.crn_ctext.specs.Expect.{sizes_of}
-use Rattle.crn_ctext.specs.Meaning.{sizes_of as known_sizes}
-use Rattle.crn_document.specs.Inner.Heads.{known_of}
 use Rattle.crn_document.proofs.Heads.{heads_by_sizes, number_of_built}
 use Rattle.crn_document.proofs.head.head_expect.Goals as goal
 

@@ -1,13 +1,4 @@
-use Rattle.std.proofs.Common.{◌++◌, List, ap, subst, sym, ℕ, ◌∙◌, ◌≤◌, length}
-use Rattle.std.specs.Prelude.{ℤ}
-use Rattle.std.specs.List.{AllByRecursion}
-use Rattle.crn_vec.specs.declared.limits.TheConstants.{MAX_COMPLEXES, MAX_REACTIONS}
-use Rattle.crn_ctext.specs.Records.{Record, Form}
-use Rattle.crn_ctext.specs.Documents.{IsOneOf}
-use Rattle.crn_reading.specs.Records.{asks_for, IsSaid}
-use Rattle.crn_document.specs.Inner.Heads.{FitsCounts, IsHead, head_forms}
-use Rattle.crn_reading.specs.Steps.{StepIs}
-use Rattle.crn_reading.proofs.CallerLemmas.{step_says}
+use Rattle.crn_document.proofs.Prelude.{◌++◌, List, ap, subst, sym, ℕ, ◌∙◌, ◌≤◌, length, ℤ, AllByRecursion, MAX_COMPLEXES, MAX_REACTIONS, Record, Form, IsOneOf, asks_for, IsSaid, FitsCounts, IsHead, head_forms, StepIs, step_says}
 use Rattle.crn_document.proofs.Records.{as_expected}
 use Rattle.crn_document.proofs.head.next_head.Goals as goal
 

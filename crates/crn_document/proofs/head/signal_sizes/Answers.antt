@@ -1,11 +1,6 @@
-use Rattle.std.proofs.Common.{◌≡◌, ◌∙◌, ℕ, List, length, ap, ap₂, arith, inr, sym}
-use Rattle.crn_cert.specs.Valid.{pair_places}
-use Rattle.crn_pairs.specs.Pairs.{pairs_to}
-use Rattle.crn_document.specs.Facts.{IsKnownFor}
+use Rattle.crn_document.proofs.Prelude.{◌≡◌, ◌∙◌, ℕ, List, length, ap, ap₂, arith, inr, sym, pair_places, pairs_to, IsKnownFor, subst, false≢true}
 use Rattle.crn_document.proofs.Linkages.{holds_second, pairs_few, pairs_known}
 use Rattle.crn_document.proofs.SignalsKnown.{held}
-use Rattle.std.proofs.Common.{subst}
-use Rattle.std.proofs.lemmas.Bool.{false≢true}
 use Rattle.crn_document.proofs.head.signal_sizes.Goals.{else-question-eq13-via-then-question-eq13+else-gives_vector, else-question-eq13-via-else-question-eq13}
 use Rattle.crn_document.proofs.head.signal_sizes.Goals as goal
 

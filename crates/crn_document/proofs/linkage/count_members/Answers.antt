@@ -1,8 +1,4 @@
-use Rattle.std.proofs.Common.{◌≡◌, ◌+◌, [], ◌∷◌, ℕ, Bool, true, false, List, length, cond, ap, sym, subst, ◌∙◌, arith}
-use Rattle.std.specs.Prelude.{filter}
-use Rattle.std.specs.List.{range_with_len}
-use Rattle.std.proofs.lemmas.List.{length-append}
-use Rattle.crn_document.specs.Inner.Parts.{is_in_class}
+use Rattle.crn_document.proofs.Prelude.{◌≡◌, ◌+◌, [], ◌∷◌, ℕ, Bool, true, false, List, length, cond, ap, sym, subst, ◌∙◌, arith, filter, range_with_len, length-append, is_in_class}
 use Rattle.crn_document.proofs.Linkages.{filter_step}
 use Rattle.crn_document.proofs.linkage.count_members.Goals as goal
 use Rattle.crn_document.proofs.linkage.count_members.Goals.{then-is_member, else-is_member}

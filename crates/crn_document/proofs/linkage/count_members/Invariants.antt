@@ -1,7 +1,4 @@
-use Rattle.std.proofs.Common.{◌≡◌, ◌≤◌, length}
-use Rattle.std.specs.Prelude.{filter}
-use Rattle.std.specs.List.{range_with_len}
-use Rattle.crn_document.specs.Inner.Parts.{is_in_class}
+use Rattle.crn_document.proofs.Prelude.{◌≡◌, ◌≤◌, length, filter, range_with_len, is_in_class}
 use Rattle.crn_document.proofs.linkage.count_members.Given as goal
 
 -- so many members are among the reactions so far

@@ -1,6 +1,4 @@
-use Rattle.std.proofs.Common.{◌++◌, ◌+◌, ◌∷◌, [], List, ℕ, ap, sym, ◌∙◌}
-use Rattle.std.specs.Prelude.{filter}
-use Rattle.crn_document.specs.Inner.Parts.{is_in_class}
+use Rattle.crn_document.proofs.Prelude.{◌++◌, ◌+◌, ◌∷◌, [], List, ℕ, ap, sym, ◌∙◌, filter, is_in_class}
 use Rattle.crn_document.proofs.Linkages.{filter_step}
 use Rattle.crn_document.proofs.linkage.fill_members.Goals as goal
 

@@ -1,7 +1,4 @@
-use Rattle.std.proofs.Common.{◌≡◌}
-use Rattle.std.specs.Prelude.{filter}
-use Rattle.std.specs.List.{range_with_len}
-use Rattle.crn_document.specs.Inner.Parts.{is_in_class}
+use Rattle.crn_document.proofs.Prelude.{◌≡◌, filter, range_with_len, is_in_class}
 use Rattle.crn_document.proofs.linkage.fill_members.Given as goal
 
 -- the list holds the members among the reactions so far

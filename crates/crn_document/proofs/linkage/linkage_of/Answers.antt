@@ -1,5 +1,4 @@
-use Rattle.std.proofs.Common.{refl, sym, ap, ◌∙◌}
-use Rattle.crn_cert.specs.Questions.{labels_of, count_of}
+use Rattle.crn_document.proofs.Prelude.{refl, sym, ap, ◌∙◌, labels_of, count_of}
 use Rattle.crn_document.proofs.Linkages.{linkage_is, linkage_none}
 use Rattle.crn_document.proofs.linkage.linkage_of.Goals as goal
 

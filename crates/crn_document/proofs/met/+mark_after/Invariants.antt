@@ -1,4 +1,4 @@
-use Rattle.std.proofs.Common.{length}
+use Rattle.crn_document.proofs.Prelude.{length}
 use Rattle.crn_document.proofs.met.+mark_after.Given as goal
 
 abbrev pub decreases-mark_after : goal.decreases-mark_after

@@ -1,7 +1,4 @@
-use Rattle.std.proofs.Common.{length, subst, arith}
-use Rattle.crn_document.specs.declared.node.NodeLine.{NodeLine}
-use Rattle.crn_document.specs.Inner.Met.{IsDueNodeLine}
-use Rattle.crn_document.specs.Inner.Trees.{count_a}
+use Rattle.crn_document.proofs.Prelude.{length, subst, arith, NodeLine, IsDueNodeLine, count_a}
 use Rattle.crn_document.proofs.node.judge.Goals as goal
 
 pub judge_new-requires-clause-node : goal.judge_new-requires-clause-node

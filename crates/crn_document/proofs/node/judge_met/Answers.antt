@@ -1,9 +1,4 @@
-use Rattle.std.proofs.Common.{sym, subst, ◌∙◌}
-use Rattle.crn_vec.specs.Network.{Net}
-use Rattle.crn_ctext.specs.Blocks.{Node}
-use Rattle.crn_ctree.specs.Gives.{NodeGives}
-use Rattle.crn_ctree.specs.Problem.{problem_of}
-use Rattle.crn_document.specs.Inner.Trees.{JudgeGives}
+use Rattle.crn_document.proofs.Prelude.{sym, subst, ◌∙◌, Net, Node, NodeGives, problem_of, JudgeGives}
 use Rattle.crn_document.proofs.MetLines.{plain_gives}
 use Rattle.crn_document.proofs.node.judge_met.Goals as goal
 

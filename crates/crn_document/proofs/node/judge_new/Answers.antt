@@ -1,7 +1,4 @@
-use Rattle.std.proofs.Common.{length, ap, arith}
-use Rattle.crn_ctext.specs.Expect.{text_of}
-use Rattle.crn_ctree.proofs.CallerLemmas.{free_b}
-use Rattle.crn_document.specs.Inner.Trees.{count_a}
+use Rattle.crn_document.proofs.Prelude.{length, ap, arith, text_of, free_b, count_a}
 use Rattle.crn_document.proofs.NodeRecords.{cut_a_fits}
 use Rattle.crn_document.proofs.NodeWords.{cut_a_numbers, cut_b_numbers, first_names, second_names, names_small}
 use Rattle.crn_document.proofs.node.judge_new.Goals as goal

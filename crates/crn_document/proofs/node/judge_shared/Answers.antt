@@ -1,8 +1,4 @@
-use Rattle.std.proofs.Common.{sym, ap, subst, ◌∙◌}
-use Rattle.crn_vec.specs.Network.{Net}
-use Rattle.crn_ctree.specs.Gives.{SharedGives}
-use Rattle.crn_ctree.specs.Problem.{problem_of}
-use Rattle.crn_ctree.specs.Shared.{said_by_shared}
+use Rattle.crn_document.proofs.Prelude.{sym, ap, subst, ◌∙◌, Net, SharedGives, problem_of, said_by_shared}
 use Rattle.crn_document.proofs.node.judge_shared.Goals as goal
 
 pub known_node-requires-clause-choices : goal.known_node-requires-clause-choices

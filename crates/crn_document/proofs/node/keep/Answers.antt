@@ -1,7 +1,5 @@
-use Rattle.crn_ctree.specs.Gives.{said_by}
+use Rattle.crn_document.proofs.Prelude.{said_by, ap, ◌∙◌, KeptCut}
 use Rattle.crn_document.proofs.MetLines.{cut_of, is_met, met_last, met_more}
-use Rattle.std.proofs.Common.{ap, ◌∙◌}
-use Rattle.crn_ctree.specs.Known.{KeptCut}
 use Rattle.crn_document.proofs.node.keep.Goals as goal
 
 pub returns-then-not-has_room-clause-node_line : goal.returns-then-not-has_room-clause-node_line

@@ -1,7 +1,4 @@
-use Rattle.std.proofs.Common.{length, ap}
-use Rattle.crn_ctext.specs.Expect.{text_of}
-use Rattle.crn_ctree.proofs.CallerLemmas.{free_b}
-use Rattle.crn_document.specs.Inner.Trees.{count_a}
+use Rattle.crn_document.proofs.Prelude.{length, ap, text_of, free_b, count_a}
 use Rattle.crn_document.proofs.MetLines.{said_as, says_a, says_b}
 use Rattle.crn_document.proofs.NodeRecords.{cut_a_fits, node_said}
 use Rattle.crn_document.proofs.NodeWords.{cut_a_numbers, cut_b_numbers}

@@ -1,21 +1,6 @@
-use Rattle.std.proofs.Common.{◌≡◌, ◌-◌, ℕ, List, length, refl, sym, subst, arith}
-use Rattle.std.specs.Prelude.{ℤ}
-use Rattle.std.proofs.lemmas.Result.{err_from_is_err_and}
-use Rattle.crn_vec.specs.Network.{Net}
-use Rattle.crn_io.specs.Lines.{Place}
+use Rattle.crn_document.proofs.Prelude.{◌≡◌, ◌-◌, ℕ, List, length, refl, sym, subst, arith, ℤ, err_from_is_err_and, Net, Place, Record, node_of, Expect, first, KeptCuts, TreeProblem, MetLine, NodeLine, IsNodeLineAs, IsDueNodeLine, ExpectsNode, count_a, node_test, problem_in, step_exits}
 use Rattle.crn_ctext.specs.Course.{FailsFirst}
-use Rattle.crn_ctext.specs.Records.{Record}
-use Rattle.crn_ctext.specs.Blocks.{node_of}
-use Rattle.crn_ctext.specs.declared.expect.Expect.{Expect}
-use Rattle.crn_ctree.specs.Due.{first}
-use Rattle.crn_ctree.specs.Known.{KeptCuts}
-use Rattle.crn_ctree.specs.declared.problem.Problem.{Problem as TreeProblem}
-use Rattle.crn_document.specs.declared.met.MetLine.{MetLine}
-use Rattle.crn_document.specs.declared.node.NodeLine.{NodeLine}
-use Rattle.crn_document.specs.Inner.Met.{IsNodeLineAs, IsDueNodeLine}
-use Rattle.crn_document.specs.Inner.Trees.{ExpectsNode, count_a, node_test, problem_in}
 use Rattle.crn_document.proofs.MetLines.{due_node_line}
-use Rattle.crn_reading.proofs.CallerLemmas.{step_exits}
 use Rattle.crn_document.proofs.NodeRecords.{passes, refused, node_read, node_fails, node_stops}
 use Rattle.crn_document.proofs.node.next_node.Goals as goal
 

@@ -1,15 +1,8 @@
-use Rattle.std.proofs.Common.{◌≡◌, ◌-◌, ◌∙◌, List, true, sym, subst, arith, ℕ}
-use Rattle.std.specs.Prelude.{ℤ}
-use Rattle.std.proofs.lemmas.Result.{err_from_is_err_and}
-use Rattle.crn_io.specs.Lines.{Place}
-use Rattle.crn_ctext.proofs.CallerLemmas.{step_fails_then}
-use Rattle.crn_ctext.specs.Course.{due, Gives, FailsFirst}
-use Rattle.crn_ctext.specs.Expect.{IsReadAs, tests_of}
+use Rattle.crn_document.proofs.Prelude.{◌≡◌, ◌-◌, ◌∙◌, List, true, sym, subst, arith, ℕ, ℤ, err_from_is_err_and, Place, step_fails_then, due, Gives, IsReadAs, IsNodeLineAs, asks_node_for, memory_stops, stop_first, step_exits, tests_fail}
+use Rattle.crn_ctext.specs.Course.{FailsFirst}
+use Rattle.crn_ctext.specs.Expect.{tests_of}
 use Rattle.crn_reading.specs.declared.fault.CheckStop.TheVariants as stop
-use Rattle.crn_document.specs.Inner.Met.{IsNodeLineAs}
-use Rattle.crn_document.specs.Inner.Trees.{asks_node_for}
 use Rattle.crn_document.proofs.MetLines.{line_reads, met_at}
-use Rattle.crn_reading.proofs.CallerLemmas.{memory_stops, stop_first, step_exits, tests_fail}
 use Rattle.crn_document.proofs.node.next_node_line.Goals as goal
 
 pub returns-in_err-next_line-clause-step : goal.returns-in_err-next_line-clause-step

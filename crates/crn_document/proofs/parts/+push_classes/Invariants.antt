@@ -1,4 +1,4 @@
-use Rattle.std.proofs.Common.{length}
+use Rattle.crn_document.proofs.Prelude.{length}
 use Rattle.crn_document.proofs.parts.+push_classes.Given as goal
 
 abbrev pub decreases-push_classes : goal.decreases-push_classes

@@ -1,8 +1,4 @@
-use Rattle.std.proofs.Common.{◌∷◌, []}
-use Rattle.crn_reading.specs.Records.{asks_for, IsSaid}
-use Rattle.crn_document.specs.Inner.Plain.{IsPlain, plain_form}
-use Rattle.crn_reading.specs.Steps.{StepIs}
-use Rattle.crn_reading.proofs.CallerLemmas.{step_says}
+use Rattle.crn_document.proofs.Prelude.{◌∷◌, [], asks_for, IsSaid, IsPlain, plain_form, StepIs, step_says}
 use Rattle.crn_document.proofs.Records.{as_expected, row_said}
 use Rattle.crn_document.proofs.plain.next_plain.Goals as goal
 

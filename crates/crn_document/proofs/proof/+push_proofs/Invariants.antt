@@ -1,4 +1,4 @@
-use Rattle.std.proofs.Common.{length}
+use Rattle.crn_document.proofs.Prelude.{length}
 use Rattle.crn_document.proofs.proof.+push_proofs.Given as goal
 
 abbrev pub decreases-push_proofs : goal.decreases-push_proofs

@@ -1,4 +1,4 @@
-use Rattle.std.proofs.Common.{◌∙◌}
+use Rattle.crn_document.proofs.Prelude.{◌∙◌}
 use Rattle.crn_document.proofs.Linkages.{on_ok}
 use Rattle.crn_document.proofs.Ranks.{rows_push}
 use Rattle.crn_document.proofs.proof.+push_rows.Goals as goal

@@ -1,4 +1,4 @@
-use Rattle.std.proofs.Common.{◌-◌}
+use Rattle.crn_document.proofs.Prelude.{◌-◌}
 use Rattle.crn_document.proofs.proof.+push_rows.Given as goal
 
 abbrev pub decreases-push_rows : goal.decreases-push_rows

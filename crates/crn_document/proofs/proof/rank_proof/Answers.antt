@@ -1,4 +1,4 @@
-use Rattle.std.proofs.Common.{refl}
+use Rattle.crn_document.proofs.Prelude.{refl}
 use Rattle.crn_document.proofs.Ranks.{rank_pieces}
 use Rattle.crn_document.proofs.proof.rank_proof.Goals as goal
 

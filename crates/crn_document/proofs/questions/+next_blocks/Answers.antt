@@ -1,15 +1,4 @@
-use Rattle.std.proofs.Common.{◌≡◌, ◌≤◌, ◌<◌, ◌+◌, ◌-◌, ◌∙◌, ◌∷◌, ◌++◌, [], List, length, map, drop, take, refl, sym, subst, ap, ap₂, ℕ, Bool, arith, rules}
-use Rattle.std.proofs.lemmas.Result.{err_from_is_err_and}
-use Rattle.crn_cert.specs.Built.{built}
-use Rattle.crn_cert.specs.Questions.{Question}
-use Rattle.crn_ctext.specs.Kinds.{section_form}
-use Rattle.crn_ctext.specs.Blocks.{AfterBlocks, asks_all, asks_block, asks_blocks, after_sections, sections}
-use Rattle.crn_ctext.specs.Meaning.{Known, meaning}
-use Rattle.crn_ctext.specs.Steps.{StepGives}
-use Rattle.crn_check.specs.Facts.{asked}
-use Rattle.crn_document.specs.Inner.Blocks.{IsAfter, IsReady, after_by}
-use Rattle.crn_reading.specs.Steps.{StepIs, StopIs}
-use Rattle.crn_reading.proofs.CallerLemmas.{step_exits, step_then_is, stop_after, stop_first}
+use Rattle.crn_document.proofs.Prelude.{◌≡◌, ◌≤◌, ◌<◌, ◌+◌, ◌-◌, ◌∙◌, ◌∷◌, ◌++◌, [], List, length, map, drop, take, refl, sym, subst, ap, ap₂, ℕ, Bool, arith, rules, err_from_is_err_and, built, Question, section_form, AfterBlocks, asks_all, asks_block, asks_blocks, after_sections, sections, Known, meaning, StepGives, asked, IsAfter, IsReady, after_by, StepIs, StopIs, step_exits, step_then_is, stop_after, stop_first}
 use Rattle.crn_document.proofs.Linkages.{known_for}
 use Rattle.crn_document.proofs.Places.{all_taken, none_left}
 use Rattle.crn_document.proofs.Sections.{after_is, blocks_by, no_blocks, question_course}

@@ -1,15 +1,4 @@
-use Rattle.std.proofs.Common.{◌≡◌, ◌≤◌, ◌-◌, ◌∷◌, [], List, map, sym, subst, ℕ, Bool, false, arith, Ok}
-use Rattle.std.proofs.lemmas.Result.{err_from_is_err_and}
-use Rattle.crn_ctext.specs.Steps.{StepGives}
-use Rattle.crn_document.specs.Inner.Blocks.{IsOpened}
-use Rattle.crn_reading.proofs.CallerLemmas.{step_exits}
-use Rattle.std.specs.Prelude.{slice_index_or}
-use Rattle.crn_ctext.specs.Kinds.{section_form}
-use Rattle.crn_ctext.specs.Questions.{opens}
-use Rattle.crn_ctext.specs.Expect.{section_names}
-use Rattle.crn_ctext.specs.Blocks.{asks_all, sections}
-use Rattle.crn_check.specs.Facts.{asked}
-use Rattle.crn_reading.specs.Steps.{StepIs, StopIs}
+use Rattle.crn_document.proofs.Prelude.{◌≡◌, ◌≤◌, ◌-◌, ◌∷◌, [], List, map, sym, subst, ℕ, Bool, false, arith, Ok, err_from_is_err_and, StepGives, IsOpened, step_exits, slice_index_or, section_form, opens, section_names, asks_all, sections, asked, StepIs, StopIs}
 use Rattle.crn_document.proofs.Records.{as_expected}
 use Rattle.crn_document.proofs.Sections.{first_opens, second_opens, no_section, one_section, section_stops}
 use Rattle.crn_document.proofs.questions.next_section.Goals as goal

@@ -1,5 +1,4 @@
-use Rattle.std.proofs.Common.{sym, subst, ℕ}
-use Rattle.crn_document.specs.Inner.Blocks.{IsAt}
+use Rattle.crn_document.proofs.Prelude.{sym, subst, ℕ, IsAt}
 use Rattle.crn_document.proofs.Places.{at_place}
 use Rattle.crn_document.proofs.questions.question_at.Goals as goal
 

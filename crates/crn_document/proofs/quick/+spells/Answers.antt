@@ -1,5 +1,4 @@
-use Rattle.std.proofs.Common.{◌≡◌, ◌==◌, ◌+◌, ◌-◌, ◌∙◌, take, get_or, length, ℕ, sym, ap, arith}
-use Rattle.std.proofs.lemmas.Bool.{eqb-true}
+use Rattle.crn_document.proofs.Prelude.{◌≡◌, ◌==◌, ◌+◌, ◌-◌, ◌∙◌, take, get_or, length, ℕ, sym, ap, arith, eqb-true}
 use Rattle.crn_document.proofs.Digits.{split_last, some_digit, one_digit, one_digit_only, last_digit, digits_before, digits_after}
 use Rattle.crn_document.proofs.quick.+spells.Goals as goal
 

@@ -1,4 +1,4 @@
-use Rattle.std.proofs.Common.{length}
+use Rattle.crn_document.proofs.Prelude.{length}
 use Rattle.crn_document.proofs.quick.+spells.Given as goal
 
 abbrev pub decreases-spells : goal.decreases-spells

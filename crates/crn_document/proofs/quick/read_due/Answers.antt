@@ -1,6 +1,4 @@
-use Rattle.std.proofs.Common.{sym, subst, List}
-use Rattle.std.specs.Prelude.{ℤ}
-use Rattle.crn_ctext.specs.Expect.{IsReadAs}
+use Rattle.crn_document.proofs.Prelude.{sym, subst, List, ℤ, IsReadAs}
 use Rattle.crn_ctext.specs.declared.word.Word.TheVariants as words
 use Rattle.crn_document.proofs.Naming.{reads_split}
 use Rattle.crn_document.proofs.quick.read_due.Goals as goal

@@ -1,6 +1,4 @@
-use Rattle.std.proofs.Common.{[], ◌∷◌, ◌++◌, List, sym, ap, subst, ◌∙◌, arith}
-use Rattle.std.specs.Prelude.{ℤ, pos}
-use Rattle.crn_ctext.specs.Expect.{IsReadAs}
+use Rattle.crn_document.proofs.Prelude.{[], ◌∷◌, ◌++◌, List, sym, ap, subst, ◌∙◌, arith, ℤ, pos, IsReadAs}
 use Rattle.crn_ctext.specs.declared.word.Word.TheVariants as words
 use Rattle.crn_document.proofs.Naming.{reads_a, reads_b}
 use Rattle.crn_document.proofs.quick.read_naming.Goals as goal

@@ -1,17 +1,5 @@
-use Rattle.std.proofs.Common.{◌+◌, ◌∙◌, List, [], length, map, refl, subst}
-use Rattle.std.specs.Prelude.{ℤ}
-use Rattle.std.proofs.lemmas.Result.{err_from_is_err_and}
-use Rattle.crn_cert.specs.Built.{built}
-use Rattle.crn_cert.specs.declared.answer.Verdict.{Verdict}
-use Rattle.crn_cert.specs.Questions.{Question}
-use Rattle.crn_ctext.specs.Blocks.{asks_blocks, asks_table, lists_of}
-use Rattle.crn_ctext.specs.Meaning.{meaning}
-use Rattle.crn_ctext.specs.Steps.{StepGives}
-use Rattle.crn_document.specs.Inner.Blocks.{after_at, after_by}
-use Rattle.crn_document.specs.Inner.Courses.{last_course}
-use Rattle.crn_reading.specs.Steps.{StopIs}
+use Rattle.crn_document.proofs.Prelude.{◌+◌, ◌∙◌, List, [], length, map, refl, subst, ℤ, err_from_is_err_and, built, Verdict, Question, asks_blocks, asks_table, lists_of, meaning, StepGives, after_at, after_by, last_course, StopIs, last_exits, stop_after, stop_first}
 use Rattle.crn_document.proofs.Bodies.{after_table, blocks_begin, parts_end}
-use Rattle.crn_reading.proofs.CallerLemmas.{last_exits, stop_after, stop_first}
 use Rattle.crn_document.proofs.rest.next_parts.Goals as goal
 
 pub returns-in_err-table : goal.returns-in_err-table

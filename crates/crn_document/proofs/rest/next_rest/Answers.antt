@@ -1,11 +1,5 @@
-use Rattle.std.proofs.Common.{List, Ok, refl, subst, sym}
-use Rattle.std.proofs.lemmas.Result.{err_from_is_err_and}
+use Rattle.crn_document.proofs.Prelude.{List, Ok, refl, subst, sym, err_from_is_err_and, Verdict, ReadOf, IsSaidIn, rest_course, LastIs, last_exits, stops_here}
 use Rattle.crn_reading.specs.declared.fault.CheckStop.TheVariants as stop
-use Rattle.crn_cert.specs.declared.answer.Verdict.{Verdict}
-use Rattle.crn_ctext.specs.Blocks.{ReadOf}
-use Rattle.crn_document.specs.Inner.Courses.{IsSaidIn, rest_course}
-use Rattle.crn_reading.specs.Ending.{LastIs}
-use Rattle.crn_reading.proofs.CallerLemmas.{last_exits, stops_here}
 use Rattle.crn_document.proofs.rest.next_rest.Goals as goal
 
 pub returns-in_err-checked : goal.returns-in_err-checked

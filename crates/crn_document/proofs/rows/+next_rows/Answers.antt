@@ -1,11 +1,4 @@
-use Rattle.std.proofs.Common.{◌≡◌, ◌∷◌, [], List, map, ap, arith, length, refl}
-use Rattle.crn_ctext.specs.Records.{Form}
-use Rattle.std.proofs.lemmas.Result.{err_from_is_err_and}
-use Rattle.crn_ctext.specs.Blocks.{asks}
-use Rattle.crn_document.specs.declared.rows.Row.{Row}
-use Rattle.crn_document.specs.Inner.Records.{row_form}
-use Rattle.crn_reading.specs.Steps.{StopIs}
-use Rattle.crn_reading.proofs.CallerLemmas.{step_exits, stop_first}
+use Rattle.crn_document.proofs.Prelude.{◌≡◌, ◌∷◌, [], List, map, ap, arith, length, refl, Form, err_from_is_err_and, asks, Row, row_form, StopIs, step_exits, stop_first}
 use Rattle.crn_document.proofs.Records.{first_row, rows_after, rows_then, no_rows}
 use Rattle.crn_document.proofs.rows.+next_rows.Goals as goal
 

@@ -1,4 +1,4 @@
-use Rattle.std.proofs.Common.{length}
+use Rattle.crn_document.proofs.Prelude.{length}
 use Rattle.crn_document.proofs.rows.+next_rows.Given as goal
 
 abbrev pub decreases-next_rows : goal.decreases-next_rows

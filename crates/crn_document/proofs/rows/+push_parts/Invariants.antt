@@ -1,4 +1,4 @@
-use Rattle.std.proofs.Common.{length}
+use Rattle.crn_document.proofs.Prelude.{length}
 use Rattle.crn_document.proofs.rows.+push_parts.Given as goal
 
 abbrev pub decreases-push_parts : goal.decreases-push_parts

@@ -1,12 +1,5 @@
-use Rattle.std.proofs.Common.{◌≡◌, ◌++◌, ◌∷◌, [], false, List, ap, ◌∙◌}
-use Rattle.std.specs.Prelude.{ℤ}
-use Rattle.std.proofs.lemmas.Result.{err_from_is_err_and}
-use Rattle.crn_ctext.specs.Steps.{StepGives}
+use Rattle.crn_document.proofs.Prelude.{◌≡◌, ◌++◌, ◌∷◌, [], false, List, ap, ◌∙◌, ℤ, err_from_is_err_and, StepGives, asks_for, row_form, StopIs, step_exits, memory_stops}
 use Rattle.crn_reading.specs.declared.fault.CheckStop.TheVariants as stop
-use Rattle.crn_reading.specs.Records.{asks_for}
-use Rattle.crn_document.specs.Inner.Records.{row_form}
-use Rattle.crn_reading.specs.Steps.{StopIs}
-use Rattle.crn_reading.proofs.CallerLemmas.{step_exits, memory_stops}
 use Rattle.crn_document.proofs.Records.{as_expected, row_said}
 use Rattle.crn_document.proofs.rows.next_row.Goals as goal
 

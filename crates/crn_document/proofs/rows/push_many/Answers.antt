@@ -1,4 +1,4 @@
-use Rattle.std.proofs.Common.{inl, inr}
+use Rattle.crn_document.proofs.Prelude.{inl, inr}
 use Rattle.crn_document.proofs.Linkages.{holds_second}
 use Rattle.crn_document.proofs.rows.push_many.Goals as goal
 

@@ -1,7 +1,4 @@
-use Rattle.std.proofs.Common.{inl, refl, subst, arith, ◌≤◌, length}
-use Rattle.crn_vec.specs.declared.limits.TheConstants.{MAX_REACTIONS}
-use Rattle.crn_document.specs.declared.rows.Row.{Row}
-use Rattle.crn_document.specs.Inner.Records.{AreMembers, MayBeRow}
+use Rattle.crn_document.proofs.Prelude.{inl, refl, subst, arith, ◌≤◌, length, MAX_REACTIONS, Row, AreMembers, MayBeRow}
 use Rattle.crn_document.proofs.Linkages.{base_due}
 use Rattle.crn_document.proofs.rows.row_due.Goals as goal
 

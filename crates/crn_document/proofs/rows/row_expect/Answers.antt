@@ -1,6 +1,5 @@
-use Rattle.std.proofs.Common.{refl, length}
+use Rattle.crn_document.proofs.Prelude.{refl, length, row_form}
 use Rattle.crn_ctext.specs.Expect.{sizes_of}
-use Rattle.crn_document.specs.Inner.Records.{row_form}
 use Rattle.crn_document.proofs.Records.{row_expects, row_untagged}
 use Rattle.crn_document.proofs.rows.row_expect.Goals as goal
 

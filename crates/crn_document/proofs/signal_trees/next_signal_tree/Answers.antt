@@ -1,8 +1,4 @@
-use Rattle.std.proofs.Common.{w32, subst}
-use Rattle.std.specs.Prelude.{ℤ}
-use Rattle.std.proofs.lemmas.Int.{to_z-of_z}
-use Rattle.crn_vec.specs.NetSignals.{IsShapeOf}
-use Rattle.crn_cert.specs.Valid.{OfVector}
+use Rattle.crn_document.proofs.Prelude.{w32, subst, ℤ, to_z-of_z, IsShapeOf, OfVector}
 use Rattle.crn_document.proofs.Linkages.{on_ok}
 use Rattle.crn_document.proofs.SignalTrees.{as_signal_tree, no_signal_shown}
 use Rattle.crn_document.proofs.signal_trees.next_signal_tree.Goals as goal

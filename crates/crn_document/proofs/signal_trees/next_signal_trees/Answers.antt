@@ -1,15 +1,7 @@
-use Rattle.std.proofs.Common.{◌≡◌, ◌∙◌, [], ℕ, Bool, true, false, Ok, ap, sym, subst}
-use Rattle.std.specs.Prelude.{pos, negsuc}
-use Rattle.std.proofs.lemmas.Result.{err_from_is_err_and}
-use Rattle.crn_cert.specs.Questions.{Q4, on}
-use Rattle.crn_ctext.specs.Blocks.{asks_tree}
-use Rattle.crn_ctext.specs.Meaning.{is_yes, signal_problem, signal_problems}
-use Rattle.crn_document.specs.Inner.Heads.{known_of}
-use Rattle.crn_reading.specs.Steps.{StepIs}
+use Rattle.crn_document.proofs.Prelude.{◌≡◌, ◌∙◌, [], ℕ, Bool, true, false, Ok, ap, sym, subst, pos, negsuc, err_from_is_err_and, Q4, on, asks_tree, is_yes, signal_problem, signal_problems, known_of, StepIs, step_exits}
 use Rattle.crn_document.proofs.Linkages.{on_ok}
 use Rattle.crn_document.proofs.SignalTrees.{first_signals, later_signals}
 use Rattle.crn_document.proofs.SignalsKnown.{held, none_shown}
-use Rattle.crn_reading.proofs.CallerLemmas.{step_exits}
 use Rattle.crn_document.proofs.TreesBelow.{trees_one, trees_stop, trees_two}
 use Rattle.crn_document.proofs.signal_trees.next_signal_trees.Goals as goal
 

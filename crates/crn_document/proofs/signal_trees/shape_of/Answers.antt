@@ -1,16 +1,4 @@
-use Rattle.std.proofs.lemmas.Int.{to_z-of_z}
-use Rattle.std.proofs.Common.{w32, to_z, of_z, ◌∙◌, ℕ, List, length, ap, inl, inr, sym, subst}
-use Rattle.std.specs.Prelude.{ℤ}
-use Rattle.std.specs.List.{AllByRecursion}
-use Rattle.crn_vec.specs.NetSignals.{IsShapeOf}
-use Rattle.crn_vec.specs.Signals.{Shape}
-use Rattle.crn_cert.specs.Questions.{Q12, on, vector_given}
-use Rattle.crn_cert.specs.Ranges.{IsNarrow}
-use Rattle.crn_cert.specs.Says.{by_turn}
-use Rattle.crn_cert.specs.Valid.{strong}
-use Rattle.crn_check.proofs.CallerLemmas.{classes_known}
-use Rattle.crn_shape.specs.Sides.{AreClassesBy}
-use Rattle.crn_document.specs.Inner.Signals.{vector_or_none}
+use Rattle.crn_document.proofs.Prelude.{to_z-of_z, w32, to_z, of_z, ◌∙◌, ℕ, List, length, ap, inl, inr, sym, subst, ℤ, AllByRecursion, IsShapeOf, Shape, Q12, on, vector_given, IsNarrow, by_turn, strong, classes_known, AreClassesBy, vector_or_none}
 use Rattle.crn_document.proofs.SignalsKnown.{held, of_vector, turn_first, turn_second, vector_known}
 use Rattle.crn_document.proofs.signal_trees.shape_of.Goals.{then-turn-eqminus1, else-turn-eqminus1}
 use Rattle.crn_document.proofs.signal_trees.shape_of.Goals as goal

@@ -1,5 +1,4 @@
-use Rattle.std.proofs.Common.{◌+◌, ◌++◌, ◌∷◌, [], List, ℕ, ap, sym, ◌∙◌}
-use Rattle.crn_pairs.proofs.CallerLemmas.{pairs_yes, pairs_no}
+use Rattle.crn_document.proofs.Prelude.{◌+◌, ◌++◌, ◌∷◌, [], List, ℕ, ap, sym, ◌∙◌, pairs_yes, pairs_no}
 use Rattle.crn_document.proofs.strong.add_pair.Goals as goal
 
 pub returns-then-is_pair : goal.returns-then-is_pair

@@ -1,5 +1,4 @@
-use Rattle.std.proofs.Common.{◌≡◌}
-use Rattle.crn_pairs.specs.Pairs.{pairs_to}
+use Rattle.crn_document.proofs.Prelude.{◌≡◌, pairs_to}
 use Rattle.crn_document.proofs.strong.pairs_in.Given as goal
 
 -- the list holds the pairs among the reactions so far

@@ -1,5 +1,4 @@
-use Rattle.std.proofs.Common.{sym, subst}
-use Rattle.crn_document.specs.Inner.Table.{IsCount}
+use Rattle.crn_document.proofs.Prelude.{sym, subst, IsCount}
 use Rattle.crn_document.proofs.Tables.{count_is}
 use Rattle.crn_document.proofs.table.next_count.Goals as goal
 

@@ -1,11 +1,5 @@
-use Rattle.std.proofs.Common.{◌≡◌, ◌∷◌, ◌++◌, ◌∙◌, List, [], arith, ap, refl, Ok, Err}
-use Rattle.std.specs.Prelude.{ℤ}
-use Rattle.std.proofs.lemmas.Result.{err_from_is_err_and}
-use Rattle.crn_ctext.specs.Records.{Record}
-use Rattle.crn_ctext.specs.Meaning.{lists}
+use Rattle.crn_document.proofs.Prelude.{◌≡◌, ◌∷◌, ◌++◌, ◌∙◌, List, [], arith, ap, refl, Ok, Err, ℤ, err_from_is_err_and, Record, lists, IsTable, MovesBy, step_exits, stops_here}
 use Rattle.crn_reading.specs.declared.fault.CheckStop.TheVariants as stop
-use Rattle.crn_document.specs.Inner.Table.{IsTable, MovesBy}
-use Rattle.crn_reading.proofs.CallerLemmas.{step_exits, stops_here}
 use Rattle.crn_document.proofs.Tables.{is_second, no_table, table_is, table_stops, table_then}
 use Rattle.crn_document.proofs.table.next_table.Goals as goal
 

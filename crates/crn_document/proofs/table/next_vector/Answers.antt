@@ -1,11 +1,5 @@
-use Rattle.std.proofs.Common.{◌++◌, ◌∷◌, ◌∙◌, [], List, ap, sym, subst}
-use Rattle.std.specs.Prelude.{ℤ}
-use Rattle.std.proofs.lemmas.Result.{err_from_is_err_and}
-use Rattle.crn_ctext.specs.Kinds.{vector_form}
-use Rattle.crn_ctext.specs.Blocks.{asks}
-use Rattle.crn_ctree.specs.Shared.{IsShared}
+use Rattle.crn_document.proofs.Prelude.{◌++◌, ◌∷◌, ◌∙◌, [], List, ap, sym, subst, ℤ, err_from_is_err_and, vector_form, asks, IsShared, memory_stops, step_exits}
 use Rattle.crn_reading.specs.declared.fault.CheckStop.TheVariants as stop
-use Rattle.crn_reading.proofs.CallerLemmas.{memory_stops, step_exits}
 use Rattle.crn_document.proofs.Tables.{shared_is}
 use Rattle.crn_document.proofs.table.next_vector.Goals as goal
 

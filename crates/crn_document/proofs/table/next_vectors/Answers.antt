@@ -1,7 +1,4 @@
-use Rattle.std.proofs.Common.{◌≡◌, ◌+◌, ◌-◌, ◌∙◌, suc, replicate, arith, Ok}
-use Rattle.std.proofs.lemmas.Result.{err_from_is_err_and}
-use Rattle.crn_ctext.specs.Kinds.{vector_form}
-use Rattle.crn_reading.proofs.CallerLemmas.{step_exits}
+use Rattle.crn_document.proofs.Prelude.{◌≡◌, ◌+◌, ◌-◌, ◌∙◌, suc, replicate, arith, Ok, err_from_is_err_and, vector_form, step_exits}
 use Rattle.crn_document.proofs.Tables.{kept_none, kept_then, replicate_first, replicate_none, stops_first}
 use Rattle.crn_document.proofs.table.next_vectors.Goals as goal
 

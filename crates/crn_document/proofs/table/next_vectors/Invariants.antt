@@ -1,12 +1,4 @@
-use Rattle.std.proofs.Common.{◌≡◌, ◌+◌, ◌-◌, List, length, false, replicate, Result}
-use Rattle.std.specs.Prelude.{ℤ}
-use Rattle.crn_io.specs.Device.{SourceSeen}
-use Rattle.crn_ctext.specs.Kinds.{vector_form}
-use Rattle.crn_ctext.specs.Blocks.{asks_all}
-use Rattle.crn_reading.specs.declared.reading.Reading.{Reading}
-use Rattle.crn_reading.specs.declared.fault.CheckStop.{CheckStop}
-use Rattle.crn_reading.specs.Steps.{GoesOn, StepIs}
-use Rattle.crn_document.specs.Inner.Table.{AreListed}
+use Rattle.crn_document.proofs.Prelude.{◌≡◌, ◌+◌, ◌-◌, List, length, false, replicate, Result, ℤ, SourceSeen, vector_form, asks_all, Reading, CheckStop, GoesOn, StepIs, AreListed}
 use Rattle.crn_document.proofs.table.next_vectors.Given as goal
 
 -- a step through the lists that are left is one through all of them

@@ -1,26 +1,6 @@
-use Rattle.std.proofs.Common.{◌≡◌, ◌≢◌, ◌++◌, ◌∙◌, ℕ, List, [], ◌∷◌, length, refl, sym, ap, subst, Ok}
-use Rattle.std.specs.Prelude.{ℤ}
-use Rattle.std.proofs.lemmas.Result.{err_from_is_err_and}
-use Rattle.crn_vec.specs.declared.signs.Sign.{Sign}
-use Rattle.crn_vec.specs.Visits.{root}
-use Rattle.crn_ctext.specs.Blocks.{asks_tree}
-use Rattle.crn_ctext.specs.Steps.{StepGives}
-use Rattle.crn_vec.specs.Network.{Net}
-use Rattle.crn_ctext.specs.declared.expect.Expect.{Expect}
-use Rattle.crn_ctree.specs.Due.{first}
-use Rattle.crn_ctree.specs.Known.{KeptCuts}
-use Rattle.crn_document.specs.declared.met.MetLine.{MetLine}
-use Rattle.crn_document.specs.Inner.Met.{AreMet}
-use Rattle.crn_ctree.specs.declared.node.Step.{Step}
+use Rattle.crn_document.proofs.Prelude.{◌≡◌, ◌≢◌, ◌++◌, ◌∙◌, ℕ, List, [], ◌∷◌, length, refl, sym, ap, subst, Ok, ℤ, err_from_is_err_and, Sign, root, asks_tree, StepGives, Net, Expect, first, KeptCuts, MetLine, AreMet, Step, StepIs, StopIs, ExpectsNode, Leaves, asks_due, asks_one, count_a, problem_in, TakesSome, step_exits, stops_here, Signed, Said, Passing, problem_of, complete_trees_show, passing_none, passing_taken}
 use Rattle.crn_ctree.specs.declared.problem.Problem.{Problem}
 use Rattle.crn_reading.specs.declared.fault.CheckStop.TheVariants as stop
-use Rattle.crn_reading.specs.Steps.{StepIs, StopIs}
-use Rattle.crn_document.specs.Inner.Trees.{ExpectsNode, Leaves, asks_due, asks_one, count_a, problem_in, TakesSome}
-use Rattle.crn_reading.proofs.CallerLemmas.{step_exits, stops_here}
-use Rattle.crn_vec.specs.Problems.{Signed}
-use Rattle.crn_cert.specs.Nodes.{Said, Passing}
-use Rattle.crn_ctree.specs.Problem.{problem_of}
-use Rattle.crn_ctree.proofs.CallerLemmas.{complete_trees_show, passing_none, passing_taken}
 use Rattle.crn_document.proofs.DueTrees.{due_then, due_stops, none_due, root_tree}
 use Rattle.crn_document.proofs.CoursesFollowed.{step_follows}
 use Rattle.crn_document.proofs.tree.next_tree.Goals as goal

@@ -1,15 +1,4 @@
-use Rattle.std.proofs.Common.{◌≡◌, ◌≢◌, ◌-◌, List, [], length, Result}
-use Rattle.crn_vec.specs.Visits.{root}
-use Rattle.crn_cert.specs.Nodes.{Said, Passing}
-use Rattle.crn_ctree.specs.Problem.{problem_of}
-use Rattle.crn_io.specs.Device.{SourceSeen}
-use Rattle.crn_io.specs.declared.lines.TheConstants.{MAX_DOCUMENT}
-use Rattle.crn_ctext.specs.Blocks.{asks_tree}
-use Rattle.crn_reading.specs.declared.reading.Reading.{Reading}
-use Rattle.crn_reading.specs.declared.fault.CheckStop.{CheckStop}
-use Rattle.crn_reading.specs.Steps.{GoesOn, StepIs}
-use Rattle.crn_document.specs.Inner.Trees.{ExpectsNode, asks_due, choices_in, count_a, problem_in}
-use Rattle.crn_document.specs.Inner.Met.{AreMet}
+use Rattle.crn_document.proofs.Prelude.{◌≡◌, ◌≢◌, ◌-◌, List, [], length, Result, root, Said, Passing, problem_of, SourceSeen, MAX_DOCUMENT, asks_tree, Reading, CheckStop, GoesOn, StepIs, ExpectsNode, asks_due, choices_in, count_a, problem_in, AreMet}
 use Rattle.crn_document.proofs.tree.next_tree.Given as goal
 
 -- a step through the trees that are due is one through the whole tree

@@ -1,15 +1,5 @@
-use Rattle.std.proofs.Common.{◌≡◌, [], ◌∷◌, sym, ap, subst, ℕ, OnOk}
-use Rattle.crn_cert.specs.Says.{IsTrueOf}
-use Rattle.crn_ctext.specs.Meaning.{problems_by}
-use Rattle.crn_ctree.specs.declared.problem.InfluenceTable.TheVariants.{Plain, Strong}
-use Rattle.crn_ctree.specs.declared.problem.Problem.TheVariants.{Concordance}
-use Rattle.crn_check.specs.Facts.{asked}
-use Rattle.crn_check.specs.Check.{shown_by_tree, tree_place}
-use Rattle.crn_document.specs.Inner.Blocks.{IsReadyFor}
-use Rattle.crn_document.specs.Inner.Heads.{known_of}
-use Rattle.crn_reading.specs.Steps.{StepIs}
-use Rattle.crn_document.specs.Inner.Trees.{problem_in}
-use Rattle.crn_ctext.specs.Blocks.{asks_trees}
+use Rattle.crn_document.proofs.Prelude.{◌≡◌, [], ◌∷◌, sym, ap, subst, ℕ, OnOk, IsTrueOf, problems_by, Plain, Concordance, asked, shown_by_tree, tree_place, IsReadyFor, known_of, StepIs, problem_in, asks_trees}
+use Rattle.crn_ctree.specs.declared.problem.InfluenceTable.TheVariants.{Strong}
 use Rattle.crn_document.proofs.TreesBelow.{other_question, trees_one}
 use Rattle.crn_document.proofs.tree.next_trees.Goals as goal
 

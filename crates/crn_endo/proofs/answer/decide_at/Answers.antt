@@ -1,14 +1,5 @@
-use Rattle.std.proofs.Common.{◌≡◌, ◌+◌, List, refl, sym, ap₂, subst, ◌∙◌}
-use Rattle.std.specs.Prelude.{ℤ}
-use Rattle.std.specs.List.{AllByRecursion}
-use Rattle.crn_vec.specs.declared.signs.Sign.{Sign}
-use Rattle.crn_vec.specs.Visits.{PassesBudget, begun}
-use Rattle.crn_cert.specs.Ranges.{IsNarrow}
-use Rattle.crn_sign.specs.Search.{IsSearchEnd}
-use Rattle.crn_sign.specs.declared.end.SearchEnd.TheVariants.{Found, Refuted}
-use Rattle.crn_endo_check.specs.Kept.{KeptSlopes}
-use Rattle.crn_endo_check.specs.Slopes.{slopes}
-use Rattle.crn_endo_check.specs.SlopeLaws.{slope_by}
+use Rattle.crn_endo.proofs.Prelude.{◌≡◌, ◌+◌, List, refl, sym, ap₂, subst, ◌∙◌, ℤ, AllByRecursion, Sign, PassesBudget, begun, IsNarrow, IsSearchEnd, Found, KeptSlopes, slopes, slope_by}
+use Rattle.crn_sign.specs.declared.end.SearchEnd.TheVariants.{Refuted}
 use Rattle.crn_endo.proofs.Searched.{found_is, refuted_is, solution_narrow}
 use Rattle.crn_endo.proofs.answer.decide_at.Goals as goal
 

@@ -1,6 +1,4 @@
-use Rattle.std.proofs.Common.{◌≡◌, ℕ, ◌+◌, ◌-◌, length, ap, sym, subst, arith}
-use Rattle.crn_endo.specs.Inner.Decided.{AreDone, IsDecidedAt}
-use Rattle.crn_endo.specs.declared.answer.Decided.TheVariants.{Refuted}
+use Rattle.crn_endo.proofs.Prelude.{◌≡◌, ℕ, ◌+◌, ◌-◌, length, ap, sym, subst, arith, AreDone, IsDecidedAt, Refuted}
 use Rattle.crn_endo.proofs.Answered.{all_done, ended_is, one_done}
 use Rattle.crn_endo.proofs.answer.endotactic.Goals as goal
 

@@ -1,4 +1,5 @@
-use Rattle.std.proofs.Common.{◌≡◌, ◌==◌, not, filter, take}
+use Rattle.crn_endo.proofs.Prelude.{◌≡◌, filter, take}
+use Rattle.std.proofs.Common.{◌==◌, not}
 use Rattle.crn_endo.proofs.problem.further_of.Given as goal
 
 abbrev pub invariant-loop-i : goal.invariant-loop-i

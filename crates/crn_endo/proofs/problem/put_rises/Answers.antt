@@ -1,4 +1,4 @@
-use Rattle.std.proofs.Common.{ℕ, ◌+◌, refl, sym, ap, ◌∙◌, arith}
+use Rattle.crn_endo.proofs.Prelude.{ℕ, ◌+◌, refl, sym, ap, ◌∙◌, arith}
 use Rattle.crn_endo.proofs.Steps.{raised_more, raised_past}
 use Rattle.crn_endo.proofs.problem.put_rises.Goals as goal
 use Rattle.crn_endo.proofs.problem.put_rises.Goals.{then-from-c, else-from-c}

@@ -1,4 +1,4 @@
-use Rattle.crn_endo.specs.Inner.Asked.{AreRaised}
+use Rattle.crn_endo.proofs.Prelude.{AreRaised}
 use Rattle.crn_endo.proofs.problem.put_rises.Given as goal
 
 abbrev pub invariant-loop-q : goal.invariant-loop-q

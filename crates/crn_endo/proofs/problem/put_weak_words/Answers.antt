@@ -1,6 +1,4 @@
-use Rattle.std.proofs.Common.{◌<◌, refl, sym, subst, ◌∙◌, arith}
-use Rattle.crn_vec.specs.Vectors.{Mat}
-use Rattle.crn_vec.specs.Elementary.{width}
+use Rattle.crn_endo.proofs.Prelude.{◌<◌, refl, sym, subst, ◌∙◌, arith, Mat, width}
 use Rattle.crn_endo.proofs.WeakWords.{firm_more, weak_more}
 use Rattle.crn_endo.proofs.problem.put_weak_words.Goals as goal
 use Rattle.crn_endo.proofs.problem.put_weak_words.Goals.{then-is_weak, else-is_weak}

@@ -1,9 +1,4 @@
-use Rattle.std.proofs.Common.{◌≡◌, ◌<◌, ◌≤◌, ℕ, List, length}
-use Rattle.crn_vec.specs.declared.signs.Sign.{Sign}
-use Rattle.crn_vec.specs.Systems.{kind_at}
-use Rattle.crn_sign.specs.Options.{bit_of}
-use Rattle.crn_endo_check.specs.Slopes.{slope_kinds}
-use Rattle.crn_endo.specs.Inner.Asked.{IsAskable}
+use Rattle.crn_endo.proofs.Prelude.{◌≡◌, ◌<◌, ◌≤◌, ℕ, List, length, Sign, kind_at, bit_of, slope_kinds, IsAskable}
 use Rattle.crn_endo.proofs.problem.put_weak_words.Given as goal
 
 abbrev pub invariant-loop-k : goal.invariant-loop-k

@@ -1,9 +1,5 @@
-use Rattle.std.proofs.Common.{◌≡◌, ◌++◌, ℕ, List, length, take, drop, sym, ap, subst, ◌∙◌, arith}
-use Rattle.std.proofs.lemmas.List.{length-replicate}
+use Rattle.crn_endo.proofs.Prelude.{◌≡◌, ◌++◌, ℕ, List, length, take, drop, sym, ap, subst, ◌∙◌, arith, length-replicate, written, bit_of, ShowsWeak}
 use lib.ListN.{replicate}
-use Rattle.crn_vec.proofs.CallerLemmas.{written}
-use Rattle.crn_sign.specs.Options.{bit_of}
-use Rattle.crn_endo.specs.Inner.Asked.{ShowsWeak}
 use Rattle.crn_endo.proofs.WeakWords.{none_weak}
 use Rattle.crn_endo.proofs.problem.weak_words.Goals as goal
 

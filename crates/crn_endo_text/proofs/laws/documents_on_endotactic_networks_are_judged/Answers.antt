@@ -1,5 +1,4 @@
-use Rattle.crn_ctext.proofs.CallerLemmas.{documents_are_judged}
-use Rattle.crn_endo_text.specs.Document.{part, meant}
+use Rattle.crn_endo_text.proofs.Prelude.{documents_are_judged, part, meant}
 use Rattle.crn_endo_text.proofs.Settled.{course_settled}
 use Rattle.crn_endo_text.proofs.Answered.{endo_is_answered}
 use Rattle.crn_endo_text.proofs.laws.documents_on_endotactic_networks_are_judged.Goals as goal

@@ -1,5 +1,4 @@
-use Rattle.crn_endo_text.specs.Document.{words, node_forms}
-use Rattle.crn_reading.proofs.CallerLemmas.{forms_named}
+use Rattle.crn_endo_text.proofs.Prelude.{words, node_forms, forms_named}
 use Rattle.crn_endo_text.proofs.LinesRead.{node_forms_are}
 use Rattle.crn_endo_text.proofs.lines.next_node_line.Goals as goal
 

@@ -1,7 +1,4 @@
-use Rattle.std.proofs.Common.{ℕ, ap, ◌∙◌}
-use Rattle.crn_ctext.specs.Records.{Free}
-use Rattle.crn_endo_text.specs.Document.{words, slope_forms}
-use Rattle.crn_reading.proofs.CallerLemmas.{forms_named}
+use Rattle.crn_endo_text.proofs.Prelude.{ℕ, ap, ◌∙◌, Free, words, slope_forms, forms_named}
 use Rattle.crn_endo_text.proofs.LinesRead.{slope_forms_are}
 use Rattle.crn_endo_text.proofs.lines.next_slope.Goals as goal
 

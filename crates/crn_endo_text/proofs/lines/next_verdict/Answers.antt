@@ -1,9 +1,4 @@
-use Rattle.std.proofs.Common.{◌+◌, ℕ, List, length, ap, ◌∙◌, arith, sym}
-use Rattle.std.proofs.lemmas.Bool.{false≢true}
-use Rattle.crn_ctext.specs.Records.{Rising}
-use Rattle.crn_ctext.specs.Kinds.{small}
-use Rattle.crn_reading.proofs.CallerLemmas.{forms_named}
-use Rattle.crn_endo_text.specs.Document.{words, verdict_forms}
+use Rattle.crn_endo_text.proofs.Prelude.{◌+◌, ℕ, List, length, ap, ◌∙◌, arith, sym, false≢true, Rising, small, forms_named, words, verdict_forms}
 use Rattle.crn_endo_text.proofs.Nodes.{small_on, large_on, reactants_few}
 use Rattle.crn_endo_text.proofs.LinesRead.{AreRuns, others_are, small_are, large_are}
 use Rattle.crn_endo_text.proofs.lines.next_verdict.Goals as goal

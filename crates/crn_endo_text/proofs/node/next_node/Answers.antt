@@ -1,15 +1,5 @@
-use Rattle.std.proofs.Common.{◌≡◌, ◌∙◌, ℕ, List, sym, ap, subst}
-use Rattle.std.specs.Prelude.{ℤ, Ok, Err}
-use Rattle.std.proofs.lemmas.Result.{err_from_is_err_and}
-use Rattle.crn_cert.specs.Nodes.{Said}
-use Rattle.crn_ctext.specs.Parts.{asks_part}
-use Rattle.crn_ctree.specs.Due.{first}
-use Rattle.crn_ctree.specs.Gives.{NodeGives, said_by}
-use Rattle.crn_endo_check.specs.Slopes.{slopes}
-use Rattle.crn_reading.specs.Steps.{StopIs}
-use Rattle.crn_reading.proofs.CallerLemmas.{step_exits, IsGiven}
-use Rattle.crn_endo_text.specs.Document.{words, node_forms, said_of}
-use Rattle.crn_endo_text.specs.Inner.TreesRead.{said_at}
+use Rattle.crn_endo_text.proofs.Prelude.{◌≡◌, ◌∙◌, ℕ, List, sym, ap, subst, ℤ, err_from_is_err_and, Said, asks_part, first, NodeGives, said_by, slopes, StopIs, step_exits, IsGiven, words, node_forms, said_of, said_at}
+use Rattle.std.specs.Prelude.{Ok, Err}
 use Rattle.crn_endo_text.proofs.TreesRead.{said_placed, taken_by, refused_by, node_stop, node_taken, node_refused}
 use Rattle.crn_endo_text.proofs.node.next_node.Goals as goal
 

@@ -1,20 +1,5 @@
-use Rattle.std.proofs.Common.{◌≡◌, ◌+◌, ◌∙◌, ℕ, List, [], length, sym, ap, ap₂, subst, arith}
+use Rattle.crn_endo_text.proofs.Prelude.{◌≡◌, ◌+◌, ◌∙◌, ℕ, List, [], length, sym, ap, ap₂, subst, arith, err_from_is_err_and, Sign, Net, Signed, root, StepGives, first, IsTaken, Step, KeptCheck, KeptSlopes, slopes, others, rows_counted, slope_width, StopIs, asks_node, asks_from, asks_due, Leaves, ReadsSeen}
 use Rattle.std.specs.Prelude.{Err}
-use Rattle.std.proofs.lemmas.Result.{err_from_is_err_and}
-use Rattle.crn_vec.specs.declared.signs.Sign.{Sign}
-use Rattle.crn_vec.specs.Network.{Net}
-use Rattle.crn_vec.specs.Problems.{Signed}
-use Rattle.crn_vec.specs.Visits.{root}
-use Rattle.crn_ctext.specs.Steps.{StepGives}
-use Rattle.crn_ctree.specs.Due.{first}
-use Rattle.crn_ctree.specs.Gives.{IsTaken}
-use Rattle.crn_ctree.specs.declared.node.Step.{Step}
-use Rattle.crn_endo_check.specs.Kept.{KeptCheck, KeptSlopes}
-use Rattle.crn_endo_check.specs.Slopes.{slopes, others}
-use Rattle.crn_endo_check.proofs.CallerLemmas.{rows_counted, slope_width}
-use Rattle.crn_reading.specs.Steps.{StopIs}
-use Rattle.crn_endo_text.specs.Document.{asks_node}
-use Rattle.crn_endo_text.specs.Inner.TreesRead.{asks_from, asks_due, Leaves, ReadsSeen}
 use Rattle.crn_endo_text.proofs.Nodes.{rows_few}
 use Rattle.crn_endo_text.proofs.TreesRead.{due_then, due_stops, root_due, none_due, upto_exits}
 use Rattle.crn_endo_text.proofs.tree.next_tree.Goals as goal

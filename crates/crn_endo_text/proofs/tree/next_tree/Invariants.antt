@@ -1,7 +1,4 @@
-use Rattle.std.proofs.Common.{◌≡◌, ◌≢◌, ◌-◌, []}
-use Rattle.crn_io.specs.declared.lines.TheConstants.{MAX_DOCUMENT}
-use Rattle.crn_reading.specs.Steps.{GoesOn}
-use Rattle.crn_endo_text.specs.Inner.TreesRead.{asks_from, asks_due, GoesOnBy}
+use Rattle.crn_endo_text.proofs.Prelude.{◌≡◌, ◌≢◌, ◌-◌, [], MAX_DOCUMENT, GoesOn, asks_from, asks_due, GoesOnBy}
 use Rattle.crn_endo_text.proofs.tree.next_tree.Given as goal
 
 -- what was read goes on by what is due

@@ -1,7 +1,5 @@
-use Rattle.std.proofs.Common.{length}
+use Rattle.crn_endo_text.proofs.Prelude.{length, err_from_is_err_and, asks_from}
 use Rattle.std.specs.Prelude.{Err}
-use Rattle.std.proofs.lemmas.Result.{err_from_is_err_and}
-use Rattle.crn_endo_text.specs.Inner.TreesRead.{asks_from}
 use Rattle.crn_endo_text.proofs.TreesRead.{upto_exits}
 use Rattle.crn_endo_text.proofs.tree.next_trees.Goals as goal
 

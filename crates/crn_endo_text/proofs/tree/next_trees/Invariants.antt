@@ -1,5 +1,4 @@
-use Rattle.crn_reading.specs.Steps.{GoesOn}
-use Rattle.crn_endo_text.specs.Inner.TreesRead.{asks_from, GoesOnBy}
+use Rattle.crn_endo_text.proofs.Prelude.{GoesOn, asks_from, GoesOnBy}
 use Rattle.crn_endo_text.proofs.tree.next_trees.Given as goal
 
 -- what was read goes on by the trees that are left

@@ -1,11 +1,5 @@
-use Rattle.std.proofs.Common.{◌≡◌, ◌∙◌, refl, ℕ, List, subst, sym, ap, arith, Ok, Err}
-use Rattle.std.specs.Prelude.{ℤ, pos, nat_abs, slice_index_or}
-use Rattle.std.proofs.lemmas.Result.{err_from_is_err_and}
+use Rattle.crn_endo_text.proofs.Prelude.{◌≡◌, ◌∙◌, refl, ℕ, List, subst, sym, ap, arith, Ok, Err, ℤ, pos, nat_abs, slice_index_or, err_from_is_err_and, step_exits, stops_here, asks_endo, asks_no, ReadsSeen, Yes}
 use Rattle.crn_reading.specs.declared.fault.CheckStop.TheVariants as stop
-use Rattle.crn_reading.proofs.CallerLemmas.{step_exits, stops_here}
-use Rattle.crn_endo_text.specs.Document.{asks_endo, asks_no}
-use Rattle.crn_endo_text.specs.Inner.TreesRead.{ReadsSeen}
-use Rattle.crn_endo_text.specs.declared.seen.EndoSeen.TheVariants.{Yes}
 use Rattle.crn_endo_text.proofs.VerdictsRead.{answer_stop, answer_yes, answer_no, answer_open, yes_small, yes_read, yes_then, no_reaction}
 use Rattle.crn_endo_text.proofs.verify.next_answer.Goals as goal
 

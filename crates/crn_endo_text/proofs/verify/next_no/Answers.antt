@@ -1,9 +1,4 @@
-use Rattle.std.proofs.Common.{◌-◌, ◌∙◌, subst, sym}
-use Rattle.std.proofs.lemmas.Bool.{false≢true}
-use Rattle.std.proofs.lemmas.Result.{err_from_is_err_and}
-use Rattle.crn_cert.specs.Ranges.{AreFree}
-use Rattle.crn_reading.proofs.CallerLemmas.{step_exits}
-use Rattle.crn_endo_check.specs.Endotactic.{IsAgainst}
+use Rattle.crn_endo_text.proofs.Prelude.{◌-◌, ◌∙◌, subst, sym, false≢true, err_from_is_err_and, AreFree, step_exits, IsAgainst}
 use Rattle.crn_endo_text.proofs.VerdictsRead.{no_stop, slope_free, no_refused, no_then}
 use Rattle.crn_endo_text.proofs.verify.next_no.Goals as goal
 

@@ -1,5 +1,4 @@
-use Rattle.crn_reading.proofs.CallerLemmas.{document_gives, document_answered}
-use Rattle.crn_endo_text.specs.Document.{IsSeenOf, part}
+use Rattle.crn_endo_text.proofs.Prelude.{document_gives, document_answered, IsSeenOf, part}
 use Rattle.crn_endo_text.proofs.Settled.{course_settled}
 use Rattle.crn_endo_text.proofs.verify.verify_endo.Goals as goal
 

@@ -1,8 +1,5 @@
-use Rattle.std.proofs.Common.{codes, map, pos, [], ◌∷◌}
-use Rattle.std.specs.List.{flat_map}
-use Rattle.std.proofs.lemmas.Result.{err_from_is_err_and}
-use Rattle.crn_ctext.specs.Answers.{nodes}
-use Rattle.crn_ctext.proofs.CallerLemmas.{stops_first, ends_with, wrote_as, line_of_word, word_then, lines_two}
+use Rattle.crn_endo_text.proofs.Prelude.{map, [], ◌∷◌, flat_map, err_from_is_err_and, nodes, stops_first, ends_with, wrote_as, line_of_word, word_then, lines_two}
+use Rattle.std.proofs.Common.{codes, pos}
 use Rattle.crn_endo_text.proofs.write.put_answer.Goals as goal
 
 pub returns-in_err-put_free-in-Yes : goal.returns-in_err-put_free-in-Yes

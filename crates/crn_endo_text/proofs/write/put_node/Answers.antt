@@ -1,5 +1,5 @@
+use Rattle.crn_endo_text.proofs.Prelude.{wrote_as, line_of_word}
 use Rattle.std.proofs.Common.{codes}
-use Rattle.crn_ctext.proofs.CallerLemmas.{wrote_as, line_of_word}
 use Rattle.crn_endo_text.proofs.write.put_node.Goals as goal
 
 pub returns-in-CutA : goal.returns-in-CutA

@@ -1,7 +1,4 @@
-use Rattle.std.proofs.Common.{arith}
-use Rattle.std.proofs.lemmas.Result.{err_from_is_err_and}
-use Rattle.crn_io.proofs.CallerLemmas.{WroteAll-none, WroteAll-step, Wrote-all}
-use Rattle.crn_ctext.proofs.CallerLemmas.{stops_later, wrote_as}
+use Rattle.crn_endo_text.proofs.Prelude.{arith, err_from_is_err_and, WroteAll-none, WroteAll-step, Wrote-all, stops_later, wrote_as}
 use Rattle.crn_endo_text.proofs.Written.{node_more, node_left, nodes_done}
 use Rattle.crn_endo_text.proofs.write.put_tree.Goals as goal
 

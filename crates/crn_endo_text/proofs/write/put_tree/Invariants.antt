@@ -1,6 +1,4 @@
-use Rattle.std.proofs.Common.{take}
-use Rattle.crn_io.specs.Write.{WroteAll}
-use Rattle.crn_ctext.specs.Documents.{record_lines}
+use Rattle.crn_endo_text.proofs.Prelude.{take, WroteAll, record_lines}
 use Rattle.crn_endo_text.proofs.Written.{records_of}
 use Rattle.crn_endo_text.proofs.write.put_tree.Given as goal
 

@@ -1,8 +1,4 @@
-use Rattle.std.proofs.Common.{take}
-use Rattle.std.specs.List.{flat_map}
-use Rattle.crn_io.specs.Write.{WroteAll}
-use Rattle.crn_ctext.specs.Answers.{nodes}
-use Rattle.crn_ctext.specs.Documents.{record_lines}
+use Rattle.crn_endo_text.proofs.Prelude.{take, flat_map, WroteAll, nodes, record_lines}
 use Rattle.crn_endo_text.proofs.write.put_trees.Given as goal
 
 abbrev pub invariant-loop-r : goal.invariant-loop-r

@@ -1,7 +1,4 @@
-use Rattle.std.proofs.Common.{refl}
-use Rattle.std.proofs.lemmas.Result.{err_from_is_err_and}
-use Rattle.crn_io.proofs.CallerLemmas.{WroteAll-then}
-use Rattle.crn_ctext.proofs.CallerLemmas.{stops_first, stops_later, ends_with}
+use Rattle.crn_endo_text.proofs.Prelude.{refl, err_from_is_err_and, WroteAll-then, stops_first, stops_later, ends_with}
 use Rattle.crn_endo_text.proofs.Written.{wide_line, wide_second}
 use Rattle.crn_endo_text.proofs.write.put_wide.Goals as goal
 

@@ -1,7 +1,4 @@
-use Rattle.std.proofs.lemmas.Result.{err_from_is_err_and}
-use Rattle.crn_io.proofs.CallerLemmas.{WroteAll-then}
-use Rattle.crn_ctext.proofs.CallerLemmas.{stops_first, stops_later, ends_with}
-use Rattle.crn_endo_text.specs.Document.{records}
+use Rattle.crn_endo_text.proofs.Prelude.{err_from_is_err_and, WroteAll-then, stops_first, stops_later, ends_with, records}
 use Rattle.crn_endo_text.proofs.Written.{document_first, document_parts}
 use Rattle.crn_endo_text.proofs.write.write_endo.Goals as goal
 

@@ -1,10 +1,5 @@
-use Rattle.std.proofs.Common.{◌≡◌, ◌<◌, ◌∙◌, ℕ, ℤ, List, length, get_or, sym, ap, subst}
-use Rattle.crn_vec.specs.declared.signs.Sign.TheVariants.{Zero}
-use Rattle.crn_vec.specs.Elementary.{width}
-use Rattle.crn_vec.specs.Systems.{kind_at}
-use Rattle.crn_vec.specs.Vectors.{Mat, entry, HasSign}
-use Rattle.crn_farkas.specs.declared.view.View.{View}
-use Rattle.crn_farkas.specs.Inner.Views.{IsOrder, IsView, IsSeen, IsRightEverywhere}
+use Rattle.crn_farkas.proofs.Prelude.{◌≡◌, ◌<◌, ◌∙◌, ℕ, List, length, get_or, sym, ap, subst, Zero, width, kind_at, Mat, entry, HasSign, View, IsOrder, IsView, IsSeen, IsRightEverywhere}
+use Rattle.std.proofs.Common.{ℤ}
 use Rattle.crn_farkas.proofs.Witnessing.{witness_signs, cut_signs}
 use Rattle.crn_farkas.proofs.alternative.alternative_at.Goals as goal
 

@@ -1,6 +1,4 @@
-use Rattle.std.proofs.Common.{◌∙◌, arith}
-use Rattle.std.proofs.lemmas.List.{length-set}
-use Rattle.crn_tab.proofs.CallerLemmas.{sign_put}
+use Rattle.crn_farkas.proofs.Prelude.{◌∙◌, arith, length-set, sign_put}
 use Rattle.crn_farkas.proofs.alternative.put_column_signs.Goals as goal
 
 pub loop-c-preserved : goal.loop-c-preserved

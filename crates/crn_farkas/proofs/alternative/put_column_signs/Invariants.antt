@@ -1,8 +1,5 @@
-use Rattle.std.proofs.Common.{◌≡◌, ◌<◌, ℕ, ℤ, List, length}
-use Rattle.std.specs.Prelude.{slice_index_or}
-use Rattle.crn_vec.specs.declared.signs.Sign.TheVariants.{Zero}
-use Rattle.crn_vec.specs.Vectors.{entry, HasSign}
-use Rattle.crn_vec.specs.Elementary.{IsNamedColumn}
+use Rattle.crn_farkas.proofs.Prelude.{◌≡◌, ◌<◌, ℕ, List, length, slice_index_or, Zero, entry, HasSign, IsNamedColumn}
+use Rattle.std.proofs.Common.{ℤ}
 use Rattle.crn_farkas.proofs.alternative.put_column_signs.Given as goal
 
 abbrev pub invariant-loop-c : goal.invariant-loop-c

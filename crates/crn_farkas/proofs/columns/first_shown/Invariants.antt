@@ -1,4 +1,4 @@
-use Rattle.std.proofs.Common.{◌≡◌, length}
+use Rattle.crn_farkas.proofs.Prelude.{◌≡◌, length}
 use Rattle.crn_farkas.proofs.columns.first_shown.Given as goal
 
 abbrev pub invariant-loop-round : goal.invariant-loop-round

@@ -1,8 +1,4 @@
-use Rattle.std.proofs.Common.{ℕ, inl, inr, sym, subst, ◌∙◌, arith}
-use Rattle.std.proofs.lemmas.Bool.{false≢true}
-use Rattle.crn_vec.specs.Elementary.{IsNamedRow}
-use Rattle.crn_vec.specs.Lists.{IsIn}
-use Rattle.crn_vec.proofs.CallerLemmas.{eq_or}
+use Rattle.crn_farkas.proofs.Prelude.{ℕ, inl, inr, sym, subst, ◌∙◌, arith, false≢true, IsNamedRow, IsIn, eq_or}
 use Rattle.crn_farkas.proofs.Ruling.{cut_of_ruling, rules_below, rules_of, ruling_of_cut, ruling_some}
 use Rattle.crn_farkas.proofs.cut.kept_cut.Goals as goal
 use Rattle.crn_farkas.proofs.cut.kept_cut.Goals.{then-not-is_basic+in_default, else-not-is_basic}

@@ -1,9 +1,5 @@
-use Rattle.std.proofs.Common.{◌++◌, ◌∷◌, [], List, ℤ, ap, sym, ◌∙◌}
-use Rattle.std.specs.Int.{w128}
-use Rattle.std.proofs.lemmas.Int.{to_z-of_z}
-use Rattle.crn_vec.specs.Vectors.{entry}
-use Rattle.std.specs.Prelude.{◌*ℤ◌}
-use Rattle.crn_farkas.specs.Decision.{factor}
+use Rattle.crn_farkas.proofs.Prelude.{◌++◌, ◌∷◌, [], List, ap, sym, ◌∙◌, w128, to_z-of_z, entry, ◌*ℤ◌, factor}
+use Rattle.std.proofs.Common.{ℤ}
 use Rattle.crn_farkas.proofs.Ruling.{scale_step}
 use Rattle.crn_farkas.proofs.cut.multiple.Goals as goal
 

@@ -1,6 +1,4 @@
-use Rattle.std.proofs.Common.{◌≡◌, take}
-use Rattle.crn_vec.specs.Vectors.{scale}
-use Rattle.crn_farkas.specs.Decision.{factor}
+use Rattle.crn_farkas.proofs.Prelude.{◌≡◌, take, scale, factor}
 use Rattle.crn_farkas.proofs.cut.multiple.Given as goal
 
 abbrev pub invariant-loop-x : goal.invariant-loop-x

@@ -1,10 +1,4 @@
-use Rattle.std.proofs.Common.{◌≡◌, ℕ, ap, sym, ◌∙◌, drop}
-use Rattle.crn_vec.specs.Vectors.{scale}
-use Rattle.crn_tab.proofs.CallerLemmas.{as_row}
-use Rattle.crn_vec.specs.Kept.{KeptInts}
-use Rattle.crn_vec.proofs.CallerLemmas.{if_ok}
-use Rattle.crn_farkas.specs.Decision.{factor}
-use Rattle.crn_farkas.specs.Solver.{IsNamedCut}
+use Rattle.crn_farkas.proofs.Prelude.{◌≡◌, ℕ, ap, sym, ◌∙◌, drop, scale, as_row, KeptInts, if_ok, factor, IsNamedCut}
 use Rattle.crn_farkas.proofs.Ruling.{cut_from, multipliers_from}
 use Rattle.crn_farkas.proofs.cut.multipliers.Goals as goal
 

@@ -1,7 +1,4 @@
-use Rattle.std.proofs.Common.{◌∙◌, ℕ, List, length, ap, subst, sym, rules}
-use Rattle.crn_vec.specs.Elementary.{width}
-use Rattle.crn_farkas.specs.Inner.Views.{IsOrder}
-use Rattle.crn_farkas.specs.Inner.Sums.{HasPartSum}
+use Rattle.crn_farkas.proofs.Prelude.{◌∙◌, ℕ, List, length, ap, subst, sym, rules, width, IsOrder, HasPartSum}
 use Rattle.crn_farkas.proofs.Marks.{marks_none, solution_by_marks}
 use Rattle.crn_farkas.proofs.feasible.by_signs.Goals as goal
 

@@ -1,9 +1,5 @@
-use Rattle.std.proofs.Common.{◌≢◌, ◌<◌, ◌⊎◌, ◌∙◌, ℕ, inl, inr, List, Bool, pos, false, IsTrue, length, get_or, sym, subst, arith}
-use Rattle.crn_vec.specs.declared.signs.Kind.{Kind}
-use Rattle.crn_vec.specs.declared.signs.Kind.TheVariants.{Pos, Free}
-use Rattle.crn_vec.specs.Vectors.{entry, HasSign}
-use Rattle.crn_vec.specs.Systems.{HasKind, kind_at}
-use Rattle.crn_vec.proofs.CallerLemmas.{any_default}
+use Rattle.crn_farkas.proofs.Prelude.{◌≢◌, ◌<◌, ◌⊎◌, ◌∙◌, ℕ, inl, inr, List, length, get_or, sym, subst, arith, Kind, Pos, Free, entry, HasSign, HasKind, kind_at, any_default}
+use Rattle.std.proofs.Common.{Bool, pos, false, IsTrue}
 use Rattle.crn_farkas.proofs.Pairs.{kind_some}
 use Rattle.crn_farkas.proofs.Marks.{set_mark}
 use Rattle.crn_farkas.proofs.feasible.mark.Goals as goal

@@ -1,9 +1,5 @@
-use Rattle.std.proofs.Common.{◌≡◌, ◌≢◌, ◌⊎◌, ℕ, ℤ, pos, List, length, IsTrue, false}
-use Rattle.std.specs.Prelude.{slice_index_or}
-use Rattle.crn_vec.specs.Vectors.{entry}
-use Rattle.crn_vec.specs.Systems.{kind_at}
-use Rattle.crn_farkas.specs.declared.view.View.TheVariants.{Column}
-use Rattle.crn_farkas.specs.Inner.Views.{IsSeen}
+use Rattle.crn_farkas.proofs.Prelude.{◌≡◌, ◌≢◌, ◌⊎◌, ℕ, List, length, slice_index_or, entry, kind_at, Column, IsSeen}
+use Rattle.std.proofs.Common.{ℤ, pos, IsTrue, false}
 use Rattle.crn_farkas.proofs.feasible.mark.Given as goal
 
 abbrev pub invariant-loop-c : goal.invariant-loop-c

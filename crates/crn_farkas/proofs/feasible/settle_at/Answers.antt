@@ -1,13 +1,5 @@
-use Rattle.std.proofs.Common.{◌≡◌, ◌<◌, ◌∙◌, true, length, sym, ap, subst, arith}
-use Rattle.std.proofs.lemmas.Bool.{false≢true}
-use Rattle.crn_vec.specs.declared.signs.Kind.TheVariants.{Pos, Free}
-use Rattle.crn_vec.specs.Elementary.{width}
-use Rattle.crn_vec.specs.Vectors.{Mat}
-use Rattle.crn_vec.specs.Systems.{is_signed, kind_at}
-use Rattle.crn_vec.proofs.CallerLemmas.{any_default}
-use Rattle.crn_farkas.specs.declared.view.View.{View}
-use Rattle.crn_farkas.specs.Inner.Views.{IsView, IsRightEverywhere}
-use Rattle.crn_farkas.specs.Inner.Sums.{HasPartSum}
+use Rattle.crn_farkas.proofs.Prelude.{◌≡◌, ◌<◌, ◌∙◌, length, sym, ap, subst, arith, false≢true, Pos, Free, width, Mat, is_signed, kind_at, any_default, View, IsView, IsRightEverywhere, HasPartSum}
+use Rattle.std.proofs.Common.{true}
 use Rattle.crn_farkas.proofs.Marks.{marks_more, marks_seen}
 use Rattle.crn_farkas.proofs.feasible.settle_at.Goals as goal
 

@@ -1,5 +1,4 @@
-use Rattle.std.proofs.Common.{◌≡◌, length}
-use Rattle.crn_farkas.specs.Inner.Sums.{HasPartSum}
+use Rattle.crn_farkas.proofs.Prelude.{◌≡◌, length, HasPartSum}
 use Rattle.crn_farkas.proofs.feasible.settle_everywhere.Given as goal
 
 abbrev pub invariant-loop-g : goal.invariant-loop-g

@@ -1,5 +1,4 @@
-use Rattle.std.proofs.Common.{◌∙◌, sym, ap}
-use Rattle.crn_vec.specs.Elementary.{width}
+use Rattle.crn_farkas.proofs.Prelude.{◌∙◌, sym, ap, width}
 use Rattle.crn_farkas.proofs.Levels.{right_everywhere}
 use Rattle.crn_farkas.proofs.goal.settled_view.Goals as goal
 

@@ -1,11 +1,4 @@
-use Rattle.std.proofs.Common.{refl, sym, subst, ◌∙◌, arith}
-use Rattle.std.specs.Prelude.{◌*ℤ◌}
-use Rattle.crn_vec.specs.declared.signs.Kind.{Kind}
-use Rattle.crn_vec.specs.declared.signs.Kind.TheVariants.{Pos, Free}
-use Rattle.crn_vec.specs.Systems.{HasKind}
-use Rattle.crn_vec.specs.Vectors.{entry, scale}
-use Rattle.crn_vec.proofs.CallerLemmas.{any_default}
-use Rattle.crn_farkas.specs.Decision.{factor}
+use Rattle.crn_farkas.proofs.Prelude.{refl, sym, subst, ◌∙◌, arith, ◌*ℤ◌, Kind, Pos, Free, HasKind, entry, scale, any_default, factor}
 use Rattle.crn_farkas.proofs.Witnesses.{as_column, witness_from, wide_here, near_here}
 use Rattle.crn_farkas.proofs.goal.witness.Goals as goal
 

@@ -1,4 +1,4 @@
-use Rattle.crn_vec.proofs.CallerLemmas.{cuts_exclude_solutions}
+use Rattle.crn_farkas.proofs.Prelude.{cuts_exclude_solutions}
 use Rattle.crn_farkas.proofs.laws.decisions_exclude_each_other.Goals as goal
 
 pub returns : goal.returns

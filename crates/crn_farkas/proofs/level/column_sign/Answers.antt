@@ -1,5 +1,4 @@
-use Rattle.std.proofs.Common.{sym, ◌∙◌}
-use Rattle.std.proofs.lemmas.Bool.{false≢true}
+use Rattle.crn_farkas.proofs.Prelude.{sym, ◌∙◌, false≢true}
 use Rattle.crn_farkas.proofs.ReadSigns.{column_sign}
 use Rattle.crn_farkas.proofs.level.column_sign.Goals as goal
 

@@ -1,9 +1,4 @@
-use Rattle.std.proofs.Common.{◌≡◌, ◌<◌, ◌+◌, arith, sym, subst, ◌∙◌}
-use Rattle.std.specs.Prelude.{slice_index}
-use Rattle.crn_vec.specs.Elementary.{width}
-use Rattle.crn_vec.specs.Systems.{kind_at}
-use Rattle.crn_vec.specs.Vectors.{Mat}
-use Rattle.crn_farkas.specs.Inner.Views.{IsSettled}
+use Rattle.crn_farkas.proofs.Prelude.{◌≡◌, ◌<◌, ◌+◌, arith, sym, subst, ◌∙◌, slice_index, width, kind_at, Mat, IsSettled}
 use Rattle.crn_farkas.proofs.Seen.{shown}
 use Rattle.crn_farkas.proofs.Steps.{wrong_other, Change, change_of, not_before, agree_step, settled_step}
 use Rattle.crn_farkas.proofs.settle.+settle.Goals as goal

@@ -1,5 +1,4 @@
-use Rattle.std.proofs.Common.{◌≡◌, ◌≤◌, ◌-◌}
-use Rattle.crn_farkas.specs.Inner.Views.{IsView, IsSettled, AgreeBeyond}
+use Rattle.crn_farkas.proofs.Prelude.{◌≡◌, ◌≤◌, ◌-◌, IsView, IsSettled, AgreeBeyond}
 use Rattle.crn_farkas.proofs.settle.+settle.Given as goal
 
 abbrev pub decreases-settle : goal.decreases-settle

@@ -1,9 +1,5 @@
-use Rattle.std.proofs.Common.{◌≢◌, ◌↔◌, ℤ, List, sym, subst}
-use Rattle.std.specs.Prelude.{pos}
-use Rattle.crn_vec.specs.Vectors.{entry}
-use Rattle.crn_farkas.specs.declared.view.View.{View}
-use Rattle.crn_farkas.specs.declared.view.View.TheVariants.{Row}
-use Rattle.crn_farkas.specs.Inner.Views.{IsView, IsSeen, IsViewed, HasCrossed}
+use Rattle.crn_farkas.proofs.Prelude.{◌≢◌, ◌↔◌, List, sym, subst, pos, entry, View, Row, IsView, IsSeen, IsViewed, HasCrossed}
+use Rattle.std.proofs.Common.{ℤ}
 use Rattle.crn_farkas.proofs.Seen.{row_crossed, wrong_outside, wrong_enters, column_left, column_entered, column_others}
 use Rattle.crn_farkas.proofs.settle.cross.Goals as goal
 

@@ -1,7 +1,4 @@
-use Rattle.std.proofs.Common.{◌≡◌, ◌<◌, ◌≤◌, ℕ}
-use Rattle.std.specs.Prelude.{◌+ℤ◌, ◌*ℤ◌}
-use Rattle.crn_vec.specs.Vectors.{entry}
-use Rattle.crn_farkas.specs.Decision.{factor}
+use Rattle.crn_farkas.proofs.Prelude.{◌≡◌, ◌<◌, ◌≤◌, ℕ, ◌+ℤ◌, ◌*ℤ◌, entry, factor}
 use Rattle.crn_farkas.proofs.sum.add.Given as goal
 
 abbrev pub invariant-loop-k : goal.invariant-loop-k

@@ -1,10 +1,4 @@
-use Rattle.std.proofs.Common.{◌≡◌, ◌<◌, ℕ, ◌↔◌, subst, sym}
-use Rattle.std.specs.Result.{MatchResult}
-use Rattle.crn_vec.specs.Lists.{IsIn}
-use Rattle.crn_vec.specs.Vectors.{Mat}
-use Rattle.crn_farkas.specs.declared.decision.Decision.{Decision}
-use Rattle.crn_farkas.specs.declared.fault.Stop.{Stop}
-use Rattle.crn_farkas.specs.Decision.{IsDecision, IsStop}
+use Rattle.crn_farkas.proofs.Prelude.{◌≡◌, ◌<◌, ℕ, ◌↔◌, subst, sym, MatchResult, IsIn, Mat, Decision, Stop, IsDecision, IsStop}
 use Rattle.crn_farkas.proofs.Finals.{decision_from}
 use Rattle.crn_farkas.proofs.system.decide_by.Goals as goal
 

@@ -1,10 +1,4 @@
-use Rattle.std.proofs.Common.{◌<◌, inl, inr, length, sym, ap, ◌∙◌, arith}
-use Rattle.std.specs.Prelude.{true}
-use Rattle.std.proofs.lemmas.Bool.{false≢true}
-use Rattle.crn_vec.specs.declared.signs.Kind.TheVariants.{Pos, Free}
-use Rattle.crn_vec.specs.Systems.{kind_at}
-use Rattle.crn_vec.proofs.CallerLemmas.{any_default}
-use Rattle.crn_farkas.specs.Inner.Views.{is_early_kind}
+use Rattle.crn_farkas.proofs.Prelude.{◌<◌, inl, inr, length, sym, ap, ◌∙◌, arith, true, false≢true, Pos, Free, kind_at, any_default, is_early_kind}
 use Rattle.crn_farkas.proofs.Finals.{early_or, level_is, level_not, level_step, level_all}
 use Rattle.crn_farkas.proofs.Placing.{counted, not_said}
 use Rattle.crn_farkas.proofs.targets.count_early.Goals as goal

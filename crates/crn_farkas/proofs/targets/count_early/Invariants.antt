@@ -1,6 +1,4 @@
-use Rattle.std.proofs.Common.{◌≡◌, take}
-use Rattle.std.specs.Prelude.{true}
-use Rattle.crn_farkas.specs.Inner.Views.{level_count}
+use Rattle.crn_farkas.proofs.Prelude.{◌≡◌, take, true, level_count}
 use Rattle.crn_farkas.proofs.targets.count_early.Given as goal
 
 abbrev pub invariant-loop-c : goal.invariant-loop-c

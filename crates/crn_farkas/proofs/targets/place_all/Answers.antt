@@ -1,11 +1,4 @@
-use Rattle.std.proofs.Common.{◌≡◌, ◌+◌, ◌<◌, ℕ, List, inl, inr, length, set, sym, ap, subst, ◌∙◌, arith}
-use Rattle.std.specs.Prelude.{true, false}
-use Rattle.std.proofs.lemmas.Bool.{false≢true}
-use Rattle.std.proofs.lemmas.List.{length-set}
-use Rattle.crn_vec.specs.declared.signs.Kind.TheVariants.{Pos, Free}
-use Rattle.crn_vec.specs.Systems.{kind_at}
-use Rattle.crn_vec.proofs.CallerLemmas.{any_default}
-use Rattle.crn_farkas.specs.Inner.Views.{is_early_kind}
+use Rattle.crn_farkas.proofs.Prelude.{◌≡◌, ◌+◌, ◌<◌, ℕ, List, inl, inr, length, set, sym, ap, subst, ◌∙◌, arith, true, false, false≢true, length-set, Pos, Free, kind_at, any_default, is_early_kind}
 use Rattle.crn_farkas.proofs.Finals.{early_or, level_is, level_not, level_step, level_prefix, both_levels}
 use Rattle.crn_farkas.proofs.Placing.{ArePlacedBefore, counted, not_said, placed_step, placed_all}
 use Rattle.crn_farkas.proofs.targets.place_all.Goals as goal

@@ -1,6 +1,4 @@
-use Rattle.std.proofs.Common.{◌≡◌, length, take}
-use Rattle.std.specs.Prelude.{true}
-use Rattle.crn_farkas.specs.Inner.Views.{level_count}
+use Rattle.crn_farkas.proofs.Prelude.{◌≡◌, length, take, true, level_count}
 use Rattle.crn_farkas.proofs.Placing.{ArePlacedBefore}
 use Rattle.crn_farkas.proofs.targets.place_all.Given as goal
 

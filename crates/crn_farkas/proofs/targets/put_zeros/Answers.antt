@@ -1,4 +1,4 @@
-use Rattle.std.proofs.Common.{length}
+use Rattle.crn_farkas.proofs.Prelude.{length}
 use Rattle.crn_farkas.proofs.Finals.{all_zeros}
 use Rattle.crn_farkas.proofs.targets.put_zeros.Goals as goal
 

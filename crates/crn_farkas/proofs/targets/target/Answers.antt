@@ -1,17 +1,6 @@
-use Rattle.std.proofs.Common.{◌≡◌, ◌<◌, ap, sym, subst, ◌∙◌, arith, true, ℤ, length, of_z}
-use Rattle.std.proofs.lemmas.Bool.{false≢true}
-use Rattle.crn_vec.specs.declared.limits.TheConstants.{WIDE_ENTRY}
-use Rattle.crn_vec.specs.declared.signs.Kind.TheVariants.{Pos, Free}
-use Rattle.crn_vec.specs.Vectors.{Mat, scale, entry}
-use Rattle.crn_vec.specs.Systems.{is_signed, kind_at}
-use Rattle.crn_vec.proofs.CallerLemmas.{entry-scale, length-scale, any_default}
-use Rattle.crn_vec.specs.Elementary.{width}
-use Rattle.std.specs.Prelude.{◌+ℤ◌}
+use Rattle.crn_farkas.proofs.Prelude.{◌≡◌, ◌<◌, ap, sym, subst, ◌∙◌, arith, length, of_z, false≢true, WIDE_ENTRY, Pos, Free, Mat, scale, entry, is_signed, kind_at, entry-scale, length-scale, any_default, width, ◌+ℤ◌, factor, Part, IsPartSum, IsPart, w128}
+use Rattle.std.proofs.Common.{true, ℤ}
 use Rattle.crn_farkas.proofs.Ruling.{unscaled_small}
-use Rattle.crn_farkas.specs.Decision.{factor}
-use Rattle.crn_farkas.specs.declared.goal.Part.{Part}
-use Rattle.crn_farkas.specs.Inner.Sums.{IsPartSum, IsPart}
-use Rattle.std.specs.Int.{w128}
 use Rattle.crn_farkas.proofs.PartSums.{part_more, part_added, part_bound}
 use Rattle.crn_farkas.proofs.targets.target.Goals as goal
 

@@ -1,5 +1,4 @@
-use Rattle.std.proofs.Common.{◌≡◌, length}
-use Rattle.crn_farkas.specs.Inner.Sums.{IsPartSum}
+use Rattle.crn_farkas.proofs.Prelude.{◌≡◌, length, IsPartSum}
 use Rattle.crn_farkas.proofs.targets.targets.Given as goal
 
 abbrev pub invariant-loop-g : goal.invariant-loop-g

@@ -1,7 +1,4 @@
-use Rattle.std.proofs.Common.{ℕ, ◌<◌}
-use Rattle.std.specs.Prelude.{unsigned_abs}
-use Rattle.crn_vec.specs.declared.limits.TheConstants.{WIDE_SOLUTION}
-use Rattle.crn_vec.specs.Vectors.{entry}
+use Rattle.crn_farkas.proofs.Prelude.{ℕ, ◌<◌, unsigned_abs, WIDE_SOLUTION, entry}
 use Rattle.crn_farkas.proofs.tested.are_below.Given as goal
 
 abbrev pub invariant-loop-x : goal.invariant-loop-x

@@ -1,10 +1,4 @@
-use Rattle.std.proofs.Common.{◌≡◌, ℕ, ◌+◌, inl, inr, List, [], take, refl, ap, subst, sym, ◌∙◌, arith}
-use Rattle.std.specs.Prelude.{ℤ, slice_index_or}
-use Rattle.std.specs.Int.{w128}
-use Rattle.std.proofs.lemmas.Int.{to_z-of_z}
-use Rattle.crn_vec.proofs.CallerLemmas.{dot-comm, eq_or, held, within_from, within_take}
-use Rattle.crn_vec.specs.declared.limits.TheConstants.{WIDE_SOLUTION}
-use Rattle.crn_vec.specs.Vectors.{AreWithin, dot, entry}
+use Rattle.crn_farkas.proofs.Prelude.{◌≡◌, ℕ, ◌+◌, inl, inr, List, [], take, refl, ap, subst, sym, ◌∙◌, arith, ℤ, slice_index_or, w128, to_z-of_z, dot-comm, eq_or, held, within_from, within_take, WIDE_SOLUTION, AreWithin, dot, entry}
 use Rattle.crn_farkas.proofs.tested.is_row_vector.Goals as goal
 
 pub dot-requires-clause-a : goal.dot-requires-clause-a

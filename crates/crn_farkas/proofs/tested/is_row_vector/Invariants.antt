@@ -1,6 +1,4 @@
-use Rattle.std.proofs.Common.{◌≡◌, ℕ, ◌+◌, ◌<◌, [], take}
-use Rattle.std.specs.Prelude.{slice_index_or}
-use Rattle.crn_vec.specs.Vectors.{dot, entry}
+use Rattle.crn_farkas.proofs.Prelude.{◌≡◌, ℕ, ◌+◌, ◌<◌, [], take, slice_index_or, dot, entry}
 use Rattle.crn_farkas.proofs.tested.is_row_vector.Given as goal
 
 abbrev pub invariant-loop-i : goal.invariant-loop-i

@@ -1,4 +1,4 @@
-use Rattle.std.proofs.Common.{refl}
+use Rattle.crn_farkas.proofs.Prelude.{refl}
 use Rattle.crn_farkas.proofs.tested.is_solution.Goals as goal
 
 pub returns : goal.returns

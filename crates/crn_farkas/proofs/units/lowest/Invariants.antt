@@ -1,7 +1,4 @@
-use Rattle.std.proofs.Common.{◌≡◌, ◌<◌, length}
-use Rattle.std.specs.Prelude.{IfSome}
-use Rattle.crn_vec.specs.Elementary.{width}
-use Rattle.crn_vec.specs.Lists.{IsIn}
+use Rattle.crn_farkas.proofs.Prelude.{◌≡◌, ◌<◌, length, IfSome, width, IsIn}
 use Rattle.crn_farkas.proofs.units.lowest.Given as goal
 
 abbrev pub invariant-loop-e : goal.invariant-loop-e

@@ -1,5 +1,4 @@
-use Rattle.std.specs.Prelude.{IfSome}
-use Rattle.crn_vec.specs.Lists.{IsIn}
+use Rattle.crn_farkas.proofs.Prelude.{IfSome, IsIn}
 use Rattle.crn_farkas.proofs.units.most_help.Given as goal
 
 abbrev pub invariant-loop-k : goal.invariant-loop-k

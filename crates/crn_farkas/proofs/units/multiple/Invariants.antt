@@ -1,4 +1,4 @@
-use Rattle.std.proofs.Common.{◌≤◌}
+use Rattle.crn_farkas.proofs.Prelude.{◌≤◌}
 use Rattle.crn_farkas.proofs.units.multiple.Given as goal
 
 abbrev pub invariant-loop-e : goal.invariant-loop-e

@@ -1,4 +1,4 @@
-use Rattle.std.proofs.Common.{◌≡◌, length}
+use Rattle.crn_farkas.proofs.Prelude.{◌≡◌, length}
 use Rattle.crn_farkas.proofs.units.put_multiples.Given as goal
 
 abbrev pub invariant-loop-e : goal.invariant-loop-e

@@ -1,7 +1,4 @@
-use Rattle.std.proofs.Common.{arith, rules, ◌^◌, ◌<◌}
-use Rattle.std.specs.Prelude.{FitsSigned, int_div, unsigned_abs}
-use Rattle.std.specs.Int.{w64, w128}
-use Rattle.std.proofs.lemmas.Int.{ints, quot_is, quot_fits, fits_signed_from_abs, to_z-of_z}
+use Rattle.crn_frac.proofs.Prelude.{arith, rules, ◌^◌, ◌<◌, FitsSigned, int_div, unsigned_abs, w64, w128, ints, quot_is, quot_fits, fits_signed_from_abs, to_z-of_z}
 use Rattle.crn_frac.proofs.Whole.{exact}
 use Rattle.crn_frac.proofs.divisor.exact_quotient.Goals as goal
 

@@ -1,4 +1,4 @@
-use Rattle.std.proofs.Common.{◌+◌, length, arith}
+use Rattle.crn_graph.proofs.Prelude.{◌+◌, length, arith}
 use Rattle.crn_graph.proofs.ArcLaws.{arcs_more, inside_more}
 use Rattle.crn_graph.proofs.arcs.arcs_of.Goals as goal
 

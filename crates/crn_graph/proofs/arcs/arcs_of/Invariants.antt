@@ -1,6 +1,4 @@
-use Rattle.std.proofs.Common.{◌≤◌, length}
-use Rattle.crn_graph.specs.Arcs.{AreInside}
-use Rattle.crn_graph.specs.Inner.Arcs.{AreArcsTo}
+use Rattle.crn_graph.proofs.Prelude.{◌≤◌, length, AreInside, AreArcsTo}
 use Rattle.crn_graph.proofs.arcs.arcs_of.Given as goal
 
 abbrev pub invariant-loop-r : goal.invariant-loop-r

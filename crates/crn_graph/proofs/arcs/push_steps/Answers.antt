@@ -1,4 +1,4 @@
-use Rattle.std.proofs.Common.{refl}
+use Rattle.crn_graph.proofs.Prelude.{refl}
 use Rattle.crn_graph.proofs.ArcLaws.{adds_round}
 use Rattle.crn_graph.proofs.arcs.push_steps.Goals as goal
 

@@ -1,6 +1,4 @@
-use Rattle.std.proofs.Common.{List, sym, subst}
-use Rattle.crn_graph.specs.declared.arcs.Arc.{Arc}
-use Rattle.crn_graph.specs.Forest.{DoLeadBack, AreJoined}
+use Rattle.crn_graph.proofs.Prelude.{List, sym, subst, Arc, DoLeadBack, AreJoined}
 use Rattle.crn_graph.proofs.Joined.{arcs_return, joined}
 use Rattle.crn_graph.proofs.forests.forest.Goals as goal
 

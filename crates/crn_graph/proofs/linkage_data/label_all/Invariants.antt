@@ -1,5 +1,4 @@
-use Rattle.std.proofs.Common.{◌≡◌, length}
-use Rattle.crn_graph.specs.Inner.Linkage.{AreClassesTo}
+use Rattle.crn_graph.proofs.Prelude.{◌≡◌, length, AreClassesTo}
 use Rattle.crn_graph.proofs.linkage_data.label_all.Given as goal
 
 abbrev pub invariant-loop-c : goal.invariant-loop-c

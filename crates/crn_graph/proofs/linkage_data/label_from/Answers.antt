@@ -1,5 +1,4 @@
-use Rattle.std.proofs.Common.{◌<◌, length, arith}
-use Rattle.std.proofs.lemmas.List.{get_or_read}
+use Rattle.crn_graph.proofs.Prelude.{◌<◌, length, arith, get_or_read}
 use Rattle.crn_graph.proofs.ClassLaws.{classes_past, classes_more}
 use Rattle.crn_graph.proofs.linkage_data.label_from.Goals as goal
 

@@ -1,4 +1,4 @@
-use Rattle.std.proofs.Common.{arith}
+use Rattle.crn_graph.proofs.Prelude.{arith}
 use Rattle.crn_graph.proofs.LinkTests.{AreAllClasses, count_is, labels_from, labels_numbered, labels_even, labels_right, links_forest, links_trees, links_return}
 use Rattle.crn_graph.proofs.linkage_data.linkage.Goals as goal
 

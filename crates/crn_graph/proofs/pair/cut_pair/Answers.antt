@@ -1,6 +1,4 @@
-use Rattle.std.proofs.Common.{◌≡◌, ◌<◌, ◌∙◌, length, sym, inl, inr, arith}
-use Rattle.std.proofs.lemmas.List.{get_or_read}
-use Rattle.crn_graph.specs.Inner.Search.{label_at}
+use Rattle.crn_graph.proofs.Prelude.{◌≡◌, ◌<◌, ◌∙◌, length, sym, inl, inr, arith, get_or_read, label_at}
 use Rattle.crn_graph.proofs.PairLaws.{IsRound, labels_two, round_of, round_searched, round_side, round_walk}
 use Rattle.crn_graph.proofs.pair.cut_pair.Goals as goal
 

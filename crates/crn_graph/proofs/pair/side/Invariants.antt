@@ -1,5 +1,4 @@
-use Rattle.std.proofs.Common.{◌≡◌, take}
-use Rattle.crn_graph.specs.Inner.Pair.{marks_of}
+use Rattle.crn_graph.proofs.Prelude.{◌≡◌, take, marks_of}
 use Rattle.crn_graph.proofs.pair.side.Given as goal
 
 abbrev pub invariant-loop-l : goal.invariant-loop-l

@@ -1,6 +1,4 @@
-use Rattle.std.proofs.Common.{◌<◌, length, arith}
-use Rattle.std.proofs.lemmas.List.{get_or_read}
-use Rattle.crn_graph.specs.Inner.Search.{depth_at}
+use Rattle.crn_graph.proofs.Prelude.{◌<◌, length, arith, get_or_read, depth_at}
 use Rattle.crn_graph.proofs.PairLaws.{walk_step, walk_more, walk_ended}
 use Rattle.crn_graph.proofs.pair.walk.Goals as goal
 

@@ -1,5 +1,4 @@
-use Rattle.crn_graph.specs.Inner.Search.{depth_at}
-use Rattle.crn_graph.specs.Inner.Pair.{IsWalkBack}
+use Rattle.crn_graph.proofs.Prelude.{depth_at, IsWalkBack}
 use Rattle.crn_graph.proofs.pair.walk.Given as goal
 
 abbrev pub invariant-back : goal.invariant-back

@@ -1,5 +1,4 @@
-use Rattle.std.proofs.Common.{◌≡◌, ◌<◌, ℕ, length, get_or}
-use Rattle.crn_graph.specs.Inner.Graph.{IsNext}
+use Rattle.crn_graph.proofs.Prelude.{◌≡◌, ◌<◌, ℕ, length, get_or, IsNext}
 use Rattle.crn_graph.proofs.ranks.chains.Given as goal
 
 abbrev pub invariant-loop-y : goal.invariant-loop-y

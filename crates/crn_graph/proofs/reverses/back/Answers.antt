@@ -1,5 +1,4 @@
-use Rattle.std.proofs.Common.{◌≡◌, ◌<◌, ◌∙◌, length, arith}
-use Rattle.std.proofs.lemmas.List.{length-append}
+use Rattle.crn_graph.proofs.Prelude.{◌≡◌, ◌<◌, ◌∙◌, length, arith, length-append}
 use Rattle.crn_graph.proofs.ReverseLaws.{none_missing, reverses_more, reverses_all}
 use Rattle.crn_graph.proofs.reverses.back.Goals as goal
 

@@ -1,5 +1,4 @@
-use Rattle.std.proofs.Common.{◌≡◌, ◌<◌, ℕ, length, get_or}
-use Rattle.crn_cert.specs.ClassTests.{IsReverse}
+use Rattle.crn_graph.proofs.Prelude.{◌≡◌, ◌<◌, ℕ, length, get_or, IsReverse}
 use Rattle.crn_graph.proofs.reverses.back.Given as goal
 
 abbrev pub invariant-loop-r : goal.invariant-loop-r

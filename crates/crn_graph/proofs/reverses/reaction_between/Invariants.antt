@@ -1,5 +1,4 @@
-use Rattle.std.proofs.Common.{◌≡◌, ◌+◌, ◌<◌, ◌≤◌, ℕ, length}
-use Rattle.crn_graph.specs.Arcs.{arc_at}
+use Rattle.crn_graph.proofs.Prelude.{◌≡◌, ◌+◌, ◌<◌, ◌≤◌, ℕ, length, arc_at}
 use Rattle.crn_graph.proofs.reverses.reaction_between.Given as goal
 
 -- no arc at the chain or after it goes between the two

@@ -1,5 +1,4 @@
-use Rattle.std.proofs.Common.{◌≡◌, ◌≤◌, take}
-use Rattle.crn_cert.specs.ClassTests.{zeros_in}
+use Rattle.crn_graph.proofs.Prelude.{◌≡◌, ◌≤◌, take, zeros_in}
 use Rattle.crn_graph.proofs.strong_data.count_zeros.Given as goal
 
 abbrev pub invariant-loop-e : goal.invariant-loop-e

@@ -1,7 +1,4 @@
-use Rattle.std.proofs.Common.{◌≡◌, ◌<◌, ◌≤◌, ◌+◌, ◌∙◌, length, refl, subst, arith}
-use Rattle.std.proofs.lemmas.List.{length-set}
-use Rattle.crn_cert.specs.Says.{IsReactionNumber}
-use Rattle.crn_vec.proofs.CallerLemmas.{all_at}
+use Rattle.crn_graph.proofs.Prelude.{◌≡◌, ◌<◌, ◌≤◌, ◌+◌, ◌∙◌, length, refl, subst, arith, length-set, IsReactionNumber, all_at}
 use Rattle.crn_graph.proofs.ExitLaws.{AreExitsTo, number_of, exits_past, exits_more, exits_all}
 use Rattle.crn_graph.proofs.strong_data.find_exits.Goals as goal
 

@@ -1,4 +1,4 @@
-use Rattle.std.proofs.Common.{◌≡◌, length}
+use Rattle.crn_graph.proofs.Prelude.{◌≡◌, length}
 use Rattle.crn_graph.proofs.ExitLaws.{AreExitsTo}
 use Rattle.crn_graph.proofs.strong_data.find_exits.Given as goal
 

@@ -1,5 +1,4 @@
-use Rattle.std.proofs.Common.{◌≡◌, ◌<◌, ◌-◌, ℕ, length, get_or}
-use Rattle.crn_cert.specs.ClassTests.{of_class}
+use Rattle.crn_graph.proofs.Prelude.{◌≡◌, ◌<◌, ◌-◌, ℕ, length, get_or, of_class}
 use Rattle.crn_graph.proofs.strong_data.find_levels.Given as goal
 
 abbrev pub invariant-loop-y : goal.invariant-loop-y

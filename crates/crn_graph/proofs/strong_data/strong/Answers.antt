@@ -1,10 +1,4 @@
-use Rattle.std.proofs.Common.{◌≡◌, ◌<◌, ◌∙◌, ◌-◌, ℕ, suc, List, length, get_or, sym, ap, subst, arith}
-use Rattle.crn_cert.specs.Ranges.{IsFrom}
-use Rattle.crn_cert.specs.ClassTests.{AreAllExits, GoesOut, zeros_in, of_class}
-use Rattle.crn_graph.specs.declared.arcs.Way.TheVariants.{Along, Against}
-use Rattle.crn_graph.specs.Arcs.{AreInside}
-use Rattle.crn_graph.specs.Inner.Arcs.{AreArcsWithin}
-use Rattle.crn_graph.specs.Inner.Linkage.{AreClassesTo}
+use Rattle.crn_graph.proofs.Prelude.{◌≡◌, ◌<◌, ◌∙◌, ◌-◌, ℕ, suc, List, length, get_or, sym, ap, subst, arith, IsFrom, AreAllExits, GoesOut, zeros_in, of_class, Along, Against, AreInside, AreArcsWithin, AreClassesTo}
 use Rattle.crn_graph.proofs.ExitLaws.{exits_from, terminal_from}
 use Rattle.crn_graph.proofs.StrongLaws.{AreWithin, inner_returns, back_returns}
 use Rattle.crn_graph.proofs.StrongTests.{AreAllStrong, AreLevels, strong_count, strong_labels, strong_numbered, strong_right, from_forest, to_forest, from_trees, to_trees, strong_levels, strong_falls, out_falls, equal_ranks}

@@ -1,9 +1,4 @@
-use Rattle.std.proofs.Common.{length, refl, subst}
-use Rattle.std.proofs.lemmas.List.{length-map}
-use Rattle.crn_vec.specs.Network.{reaction_vector}
-use Rattle.crn_vec.specs.NetSystems.{species_system}
-use Rattle.crn_cert.proofs.CallerLemmas.{wide_basis}
-use Rattle.crn_rank.specs.Rank.{IsWideStop}
+use Rattle.crn_indep.proofs.Prelude.{length, refl, subst, length-map, reaction_vector, species_system, wide_basis, IsWideStop}
 use Rattle.crn_indep.proofs.decomposition.open_by.Goals as goal
 
 pub returns-in-Wide : goal.returns-in-Wide

@@ -1,6 +1,4 @@
-use Rattle.crn_indep_check.specs.Shown.{IsShown}
-use Rattle.crn_indep_check.specs.declared.parts.Parts.TheVariants.{Split}
-use Rattle.crn_indep_check.proofs.CallerLemmas.{valid_are_true}
+use Rattle.crn_indep.proofs.Prelude.{IsShown, Split, valid_are_true}
 use Rattle.crn_indep.proofs.Splits.{form_by, even_by, linked_by}
 use Rattle.crn_indep.proofs.decomposition.split_by.Goals as goal
 

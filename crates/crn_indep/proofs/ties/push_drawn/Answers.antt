@@ -1,8 +1,4 @@
-use Rattle.std.proofs.Common.{◌≡◌, ◌≤◌, ◌<◌, ℕ, List, length, get_or, refl, sym, ap, subst, arith}
-use Rattle.crn_vec.specs.Lists.{IsIn}
-use Rattle.crn_vec.proofs.CallerLemmas.{at_in}
-use Rattle.crn_indep_check.specs.Shown.{DrawsOn}
-use Rattle.crn_indep_check.proofs.CallerLemmas.{member_bounds}
+use Rattle.crn_indep.proofs.Prelude.{◌≡◌, ◌≤◌, ◌<◌, ℕ, List, length, get_or, refl, sym, ap, subst, arith, IsIn, at_in, DrawsOn, member_bounds}
 use Rattle.crn_indep.proofs.TieArcs.{drawn_first, drawn_more, drawn_same, drawn_all}
 use Rattle.crn_indep.proofs.ties.push_drawn.Goals as goal
 use Rattle.crn_indep.proofs.ties.push_drawn.Goals.{then-draws_at+in_ok-push_pair, else-draws_at}

@@ -1,4 +1,4 @@
-use Rattle.std.proofs.Common.{arith}
+use Rattle.crn_indep_check.proofs.Prelude.{arith}
 use Rattle.crn_indep_check.proofs.Judged.{records_few}
 use Rattle.crn_indep_check.proofs.check.check_links.Goals as goal
 

@@ -1,5 +1,5 @@
-use Rattle.std.proofs.Common.{◌≡◌, Bool, true, false, not, get_or, refl}
-use Rattle.crn_vec.proofs.CallerLemmas.{not_true}
+use Rattle.crn_indep_check.proofs.Prelude.{◌≡◌, Bool, true, false, get_or, refl, not_true}
+use Rattle.std.proofs.Common.{not}
 use Rattle.crn_indep_check.proofs.Outside.{drawn_by, drawn_at}
 use Rattle.crn_indep_check.proofs.ties.draws_at.Goals as goal
 

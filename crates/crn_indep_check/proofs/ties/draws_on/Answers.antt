@@ -1,7 +1,4 @@
-use Rattle.std.proofs.Common.{◌≡◌, ◌<◌, ◌↔◌, ℕ, IsTrue, List, length, get_or, sym, subst}
-use Rattle.crn_vec.specs.Lists.{IsIn}
-use Rattle.crn_vec.proofs.CallerLemmas.{refused}
-use Rattle.crn_indep_check.specs.Shown.{DrawsOn}
+use Rattle.crn_indep_check.proofs.Prelude.{◌≡◌, ◌<◌, ◌↔◌, ℕ, IsTrue, List, length, get_or, sym, subst, IsIn, refused, DrawsOn}
 use Rattle.crn_indep_check.proofs.Outside.{drawn_member}
 use Rattle.crn_indep_check.proofs.ties.draws_on.Goals as goal
 

@@ -1,5 +1,4 @@
-use Rattle.crn_ctext.proofs.CallerLemmas.{documents_are_judged}
-use Rattle.crn_indep_text.specs.Document.{part, meant}
+use Rattle.crn_indep_text.proofs.Prelude.{documents_are_judged, part, meant}
 use Rattle.crn_indep_text.proofs.Settled.{course_settled}
 use Rattle.crn_indep_text.proofs.Answered.{parts_is_answered}
 use Rattle.crn_indep_text.proofs.laws.documents_on_decompositions_are_judged.Goals as goal

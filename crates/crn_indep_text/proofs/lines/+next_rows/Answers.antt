@@ -1,9 +1,4 @@
-use Rattle.std.proofs.Common.{◌-◌, ◌∷◌, [], arith}
-use Rattle.std.specs.Prelude.{slice_index_or}
-use Rattle.std.proofs.lemmas.Result.{err_from_is_err_and}
-use Rattle.crn_ctext.specs.Kinds.{free_form}
-use Rattle.crn_reading.proofs.CallerLemmas.{step_exits}
-use Rattle.crn_indep_text.specs.Document.{words}
+use Rattle.crn_indep_text.proofs.Prelude.{◌-◌, ◌∷◌, [], arith, slice_index_or, err_from_is_err_and, free_form, step_exits, words}
 use Rattle.crn_indep_text.proofs.LinesRead.{rows_none, rows_stop, rows_then}
 use Rattle.crn_indep_text.proofs.lines.+next_rows.Goals as goal
 

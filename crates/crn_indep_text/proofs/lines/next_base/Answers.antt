@@ -1,6 +1,4 @@
-use Rattle.std.proofs.Common.{ℕ, ap, ◌∙◌, arith}
-use Rattle.crn_ctext.specs.Records.{Rising}
-use Rattle.crn_indep_text.specs.Document.{base_forms}
+use Rattle.crn_indep_text.proofs.Prelude.{ℕ, ap, ◌∙◌, arith, Rising, base_forms}
 use Rattle.crn_indep_text.proofs.LinesRead.{run_is, run_few, nums_as, rising_run_small}
 use Rattle.crn_indep_text.proofs.lines.next_base.Goals as goal
 

@@ -1,6 +1,4 @@
-use Rattle.std.proofs.Common.{◌-◌, ℕ, ap, ◌∙◌, arith}
-use Rattle.crn_ctext.specs.Kinds.{small}
-use Rattle.crn_indep_text.specs.Document.{depth_forms}
+use Rattle.crn_indep_text.proofs.Prelude.{◌-◌, ℕ, ap, ◌∙◌, arith, small, depth_forms}
 use Rattle.crn_indep_text.proofs.LinesRead.{run_is, run_few, nums_as, small_run_small}
 use Rattle.crn_indep_text.proofs.lines.next_depth.Goals as goal
 

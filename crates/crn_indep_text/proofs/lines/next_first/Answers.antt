@@ -1,7 +1,4 @@
-use Rattle.std.proofs.Common.{◌+◌, ℕ, ap, ◌∙◌, arith}
-use Rattle.crn_ctext.specs.Records.{Rising}
-use Rattle.crn_reading.proofs.CallerLemmas.{forms_named}
-use Rattle.crn_indep_text.specs.Document.{words, first_forms}
+use Rattle.crn_indep_text.proofs.Prelude.{◌+◌, ℕ, ap, ◌∙◌, arith, Rising, forms_named, words, first_forms}
 use Rattle.crn_indep_text.proofs.LinesRead.{first_forms_are}
 use Rattle.crn_indep_text.proofs.lines.next_first.Goals as goal
 

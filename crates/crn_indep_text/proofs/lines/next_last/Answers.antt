@@ -1,7 +1,4 @@
-use Rattle.std.proofs.Common.{[], ◌∷◌, refl}
-use Rattle.crn_ctext.specs.Kinds.{end_form}
-use Rattle.crn_reading.proofs.CallerLemmas.{forms_named}
-use Rattle.crn_indep_text.specs.Document.{words}
+use Rattle.crn_indep_text.proofs.Prelude.{[], ◌∷◌, refl, end_form, forms_named, words}
 use Rattle.crn_indep_text.proofs.lines.next_last.Goals as goal
 
 pub returns-clause-step : goal.returns-clause-step

@@ -1,11 +1,5 @@
-use Rattle.std.proofs.Common.{ap, map, ◌∙◌, sym, subst}
-use Rattle.std.specs.Prelude.{nat_abs}
-use Rattle.std.proofs.lemmas.Result.{err_from_is_err_and}
-use Rattle.crn_ctext.specs.Parts.{asks_part}
+use Rattle.crn_indep_text.proofs.Prelude.{ap, map, ◌∙◌, sym, subst, nat_abs, err_from_is_err_and, asks_part, step_exits, memory_stops, words, AreSmall, run_forms}
 use Rattle.crn_reading.specs.declared.fault.CheckStop.TheVariants as stop
-use Rattle.crn_reading.proofs.CallerLemmas.{step_exits, memory_stops}
-use Rattle.crn_indep_text.specs.Document.{words}
-use Rattle.crn_indep_text.specs.Inner.LinesRead.{AreSmall, run_forms}
 use Rattle.crn_indep_text.proofs.lines.next_nums.Goals as goal
 
 pub nums_of-requires : goal.nums_of-requires

@@ -1,7 +1,4 @@
-use Rattle.std.proofs.Common.{List, ℕ, sym, subst}
-use Rattle.crn_ctext.specs.PartLines.{AreChoices}
-use Rattle.crn_reading.proofs.CallerLemmas.{words_named}
-use Rattle.crn_indep_text.specs.Document.{words}
+use Rattle.crn_indep_text.proofs.Prelude.{List, ℕ, sym, subst, AreChoices, words_named, words}
 use Rattle.crn_indep_text.proofs.lines.next_of.Goals as goal
 
 pub next_part_record-requires-clause-due : goal.next_part_record-requires-clause-due

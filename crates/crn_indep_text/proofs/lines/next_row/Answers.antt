@@ -1,5 +1,4 @@
-use Rattle.std.proofs.lemmas.Result.{err_from_is_err_and}
-use Rattle.crn_reading.proofs.CallerLemmas.{step_exits}
+use Rattle.crn_indep_text.proofs.Prelude.{err_from_is_err_and, step_exits}
 use Rattle.crn_indep_text.proofs.lines.next_row.Goals as goal
 
 pub returns-in_err-next_of-clause-step : goal.returns-in_err-next_of-clause-step

@@ -1,12 +1,5 @@
-use Rattle.std.proofs.Common.{◌++◌, List, [], ◌∷◌, ap, arith, ◌∙◌, Ok, Err}
-use Rattle.std.specs.Prelude.{ℤ, slice_index_or}
-use Rattle.std.proofs.lemmas.Result.{err_from_is_err_and}
-use Rattle.crn_ctext.specs.Records.{Free}
-use Rattle.crn_ctext.specs.Kinds.{free_form}
-use Rattle.crn_ctext.specs.Parts.{asks_part}
+use Rattle.crn_indep_text.proofs.Prelude.{◌++◌, List, [], ◌∷◌, ap, arith, ◌∙◌, Ok, Err, ℤ, slice_index_or, err_from_is_err_and, Free, free_form, asks_part, step_exits, memory_stops, words}
 use Rattle.crn_reading.specs.declared.fault.CheckStop.TheVariants as stop
-use Rattle.crn_reading.proofs.CallerLemmas.{step_exits, memory_stops}
-use Rattle.crn_indep_text.specs.Document.{words}
 use Rattle.crn_indep_text.proofs.LinesRead.{run_few, row_as, free_said}
 use Rattle.crn_indep_text.proofs.lines.push_row.Goals as goal
 

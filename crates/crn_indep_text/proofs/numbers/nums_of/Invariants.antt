@@ -1,4 +1,5 @@
-use Rattle.std.proofs.Common.{◌≡◌, map, nat_abs, take}
+use Rattle.crn_indep_text.proofs.Prelude.{◌≡◌, map, take}
+use Rattle.std.proofs.Common.{nat_abs}
 use Rattle.crn_indep_text.proofs.numbers.nums_of.Given as goal
 
 -- the list holds the numbers so far

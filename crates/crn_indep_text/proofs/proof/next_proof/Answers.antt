@@ -1,11 +1,5 @@
-use Rattle.std.proofs.Common.{◌-◌, ◌∷◌, [], ℕ, suc, length, refl, ap, Ok, Err}
-use Rattle.std.specs.Prelude.{codes}
-use Rattle.std.proofs.Math.Numerals.{add-one}
-use Rattle.std.proofs.lemmas.Result.{err_from_is_err_and}
-use Rattle.crn_ctext.specs.Kinds.{free_form}
+use Rattle.crn_indep_text.proofs.Prelude.{◌-◌, ◌∷◌, [], ℕ, suc, length, refl, ap, Ok, Err, codes, add-one, err_from_is_err_and, free_form, step_exits, stops_here, dual_forms, comb_forms}
 use Rattle.crn_reading.specs.declared.fault.CheckStop.TheVariants as stop
-use Rattle.crn_reading.proofs.CallerLemmas.{step_exits, stops_here}
-use Rattle.crn_indep_text.specs.Document.{dual_forms, comb_forms}
 use Rattle.crn_indep_text.proofs.LinesRead.{rows_named}
 use Rattle.crn_indep_text.proofs.AnswersRead.{proof_stop, duals_stop, combs_stop_after, proof_then}
 use Rattle.crn_indep_text.proofs.proof.next_proof.Goals as goal

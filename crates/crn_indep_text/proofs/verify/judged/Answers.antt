@@ -1,8 +1,4 @@
-use Rattle.std.proofs.Common.{refl, arith}
-use Rattle.std.specs.Prelude.{false}
-use Rattle.std.proofs.lemmas.Result.{err_from_is_err_and}
-use Rattle.crn_indep_check.specs.Shown.{greatest}
-use Rattle.crn_indep_check.proofs.CallerLemmas.{even_counts, record_within}
+use Rattle.crn_indep_text.proofs.Prelude.{refl, arith, false, err_from_is_err_and, greatest, even_counts, record_within}
 use Rattle.crn_indep_text.proofs.AnswersRead.{judge_ok, judge_fails, judge_exits, proof_form}
 use Rattle.crn_indep_text.proofs.verify.judged.Goals as goal
 

@@ -1,10 +1,5 @@
-use Rattle.std.proofs.Common.{◌≡◌, ℕ, sym, subst, ◌∙◌, arith}
-use Rattle.std.proofs.lemmas.Result.{err_from_is_err_and}
-use Rattle.crn_ctext.specs.Parts.{asks_part}
+use Rattle.crn_indep_text.proofs.Prelude.{◌≡◌, ℕ, sym, subst, ◌∙◌, arith, err_from_is_err_and, asks_part, step_exits, memory_stops, words, first_forms, asks_split, ReadsSeen}
 use Rattle.crn_reading.specs.declared.fault.CheckStop.TheVariants as stop
-use Rattle.crn_reading.proofs.CallerLemmas.{step_exits, memory_stops}
-use Rattle.crn_indep_text.specs.Document.{words, first_forms, asks_split}
-use Rattle.crn_indep_text.specs.Inner.LinesRead.{ReadsSeen}
 use Rattle.crn_indep_text.proofs.AnswersRead.{answer_stop, answer_split, answer_open, rank_said, one_number_is}
 use Rattle.crn_indep_text.proofs.verify.next_answer.Goals as goal
 

@@ -1,10 +1,5 @@
-use Rattle.std.proofs.Common.{◌∷◌, []}
-use Rattle.std.proofs.lemmas.Result.{err_from_is_err_and}
-use Rattle.crn_ctext.specs.Kinds.{end_form}
-use Rattle.crn_ctext.specs.Parts.{asks_part}
+use Rattle.crn_indep_text.proofs.Prelude.{◌∷◌, [], err_from_is_err_and, end_form, asks_part, stop_first, end_exits, step_then_ends, read_to_the_end, words}
 use Rattle.crn_reading.specs.Ending.{ends_with}
-use Rattle.crn_reading.proofs.CallerLemmas.{stop_first, end_exits, step_then_ends, read_to_the_end}
-use Rattle.crn_indep_text.specs.Document.{words}
 use Rattle.crn_indep_text.proofs.verify.next_end.Goals as goal
 
 pub returns-in_err-next_last : goal.returns-in_err-next_last

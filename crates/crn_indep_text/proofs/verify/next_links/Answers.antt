@@ -1,9 +1,4 @@
-use Rattle.std.proofs.Common.{ℕ, List, sym, subst, ◌∙◌, arith}
-use Rattle.std.proofs.lemmas.Result.{err_from_is_err_and}
-use Rattle.crn_reading.proofs.CallerLemmas.{step_exits}
-use Rattle.crn_indep_check.specs.Shown.{IsShownForm}
-use Rattle.crn_indep_text.specs.Document.{naturals}
-use Rattle.crn_indep_text.specs.Inner.LinesRead.{JudgesLines}
+use Rattle.crn_indep_text.proofs.Prelude.{ℕ, List, sym, subst, ◌∙◌, arith, err_from_is_err_and, step_exits, IsShownForm, naturals, JudgesLines}
 use Rattle.crn_indep_text.proofs.AnswersRead.{label_stop, up_stop, depth_stop, links_then, links_formed}
 use Rattle.crn_indep_text.proofs.verify.next_links.Goals as goal
 

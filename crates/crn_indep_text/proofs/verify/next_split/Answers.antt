@@ -1,8 +1,4 @@
-use Rattle.std.proofs.Common.{◌≡◌, ◌-◌, ℕ, subst, arith}
-use Rattle.std.proofs.lemmas.Result.{err_from_is_err_and}
-use Rattle.crn_reading.proofs.CallerLemmas.{step_exits}
-use Rattle.crn_indep_text.specs.Document.{asks_links}
-use Rattle.crn_indep_text.specs.Inner.LinesRead.{ReadsSeen}
+use Rattle.crn_indep_text.proofs.Prelude.{◌≡◌, ◌-◌, ℕ, subst, arith, err_from_is_err_and, step_exits, asks_links, ReadsSeen}
 use Rattle.crn_indep_text.proofs.AnswersRead.{split_stop, split_then, proof_counts}
 use Rattle.crn_indep_text.proofs.verify.next_split.Goals as goal
 

@@ -1,5 +1,4 @@
-use Rattle.crn_reading.proofs.CallerLemmas.{document_gives, document_answered}
-use Rattle.crn_indep_text.specs.Document.{IsSeenOf, part}
+use Rattle.crn_indep_text.proofs.Prelude.{document_gives, document_answered, IsSeenOf, part}
 use Rattle.crn_indep_text.proofs.Settled.{course_settled}
 use Rattle.crn_indep_text.proofs.verify.verify_parts.Goals as goal
 

@@ -1,9 +1,5 @@
-use Rattle.std.proofs.Common.{codes, map, pos, [], ◌∷◌, length}
-use Rattle.std.proofs.lemmas.Result.{err_from_is_err_and}
-use Rattle.crn_io.proofs.CallerLemmas.{WroteAll-then}
-use Rattle.crn_ctext.specs.Answers.{rank_records}
-use Rattle.crn_ctext.proofs.CallerLemmas.{stops_first, stops_later, ends_with, wrote_as, line_of_word}
-use Rattle.crn_indep_text.specs.Document.{link_records}
+use Rattle.crn_indep_text.proofs.Prelude.{map, [], ◌∷◌, length, err_from_is_err_and, WroteAll-then, rank_records, stops_first, stops_later, ends_with, wrote_as, line_of_word, link_records}
+use Rattle.std.proofs.Common.{codes, pos}
 use Rattle.crn_indep_text.proofs.Written.{split_first, split_lines}
 use Rattle.crn_indep_text.proofs.write.put_answer.Goals as goal
 

@@ -1,8 +1,5 @@
-use Rattle.std.proofs.Common.{codes, map, pos, [], ◌∷◌}
-use Rattle.std.proofs.lemmas.Result.{err_from_is_err_and}
-use Rattle.crn_io.proofs.CallerLemmas.{WroteAll-then}
-use Rattle.crn_ctext.specs.Answers.{small_record}
-use Rattle.crn_ctext.proofs.CallerLemmas.{stops_first, stops_later, ends_with, word_then, lines_three}
+use Rattle.crn_indep_text.proofs.Prelude.{map, [], ◌∷◌, err_from_is_err_and, WroteAll-then, small_record, stops_first, stops_later, ends_with, word_then, lines_three}
+use Rattle.std.proofs.Common.{codes, pos}
 use Rattle.crn_indep_text.proofs.write.put_links.Goals as goal
 
 pub returns-in_err-put_small : goal.returns-in_err-put_small

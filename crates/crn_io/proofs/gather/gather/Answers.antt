@@ -1,6 +1,4 @@
-use Rattle.std.proofs.Common.{◌≡◌, ◌≤◌, ◌++◌, [], length, take, ap, sym, refl, ◌∙◌, arith}
-use Rattle.std.proofs.lemmas.List.{append-nil, length-append, length-take}
-use Rattle.crn_io.specs.declared.lines.TheConstants.{MAX_AHEAD}
+use Rattle.crn_io.proofs.Prelude.{◌≡◌, ◌≤◌, ◌++◌, [], length, take, ap, sym, refl, ◌∙◌, arith, append-nil, length-append, length-take, MAX_AHEAD}
 use Rattle.crn_io.proofs.Streams.{Consumes-none, Consumes-then}
 use Rattle.crn_io.proofs.LineLists.{EndsAt-held, IsLine-held, IsLine-none, held_more}
 use Rattle.crn_io.proofs.gather.gather.Goals as goal

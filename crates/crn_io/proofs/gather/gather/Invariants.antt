@@ -1,8 +1,4 @@
-use Rattle.std.proofs.Common.{◌≡◌, ◌-◌, ◌+◌, ◌++◌, ◌≤◌, List, ℕ, vec_len, vec_capacity}
-use Rattle.crn_io.specs.declared.lines.TheConstants.{MAX_AHEAD}
-use Rattle.crn_io.specs.Pull.{Consumes}
-use Rattle.crn_io.specs.Lines.{IsLine}
-use Rattle.crn_io.specs.Inner.Gather.{AreHeld}
+use Rattle.crn_io.proofs.Prelude.{◌≡◌, ◌-◌, ◌+◌, ◌++◌, ◌≤◌, List, ℕ, vec_len, vec_capacity, MAX_AHEAD, Consumes, IsLine, AreHeld}
 use Rattle.crn_io.proofs.gather.gather.Given as goal
 
 abbrev pub invariant-pulls : goal.invariant-pulls

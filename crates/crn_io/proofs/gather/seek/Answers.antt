@@ -1,6 +1,4 @@
-use Rattle.std.proofs.Common.{◌≡◌, ◌≤◌, ◌+◌, ◌∙◌, ap, List, ℕ, [], length, drop, refl, sym, arith, length-drop}
-use Rattle.std.proofs.lemmas.List.{append-nil}
-use Rattle.crn_io.specs.declared.lines.TheConstants.{MAX_AHEAD}
+use Rattle.crn_io.proofs.Prelude.{◌≡◌, ◌≤◌, ◌+◌, ◌∙◌, ap, List, ℕ, [], length, drop, refl, sym, arith, length-drop, append-nil, MAX_AHEAD}
 use Rattle.crn_io.proofs.LineLists.{IsLine-none}
 use Rattle.crn_io.proofs.Streams.{Consumes-none}
 use Rattle.crn_io.proofs.gather.seek.Goals as goal

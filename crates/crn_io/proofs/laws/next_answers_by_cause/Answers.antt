@@ -1,6 +1,4 @@
-use Rattle.std.proofs.Common.{◌++◌, subst}
-use Rattle.crn_io.specs.declared.next.Next.{Next}
-use Rattle.crn_io.specs.Next.{IsCause, place}
+use Rattle.crn_io.proofs.Prelude.{◌++◌, subst, Next, IsCause, place}
 use Rattle.crn_io.proofs.LinesDue.{all_bytes, cause_is, cause_is_one}
 use Rattle.crn_io.proofs.laws.next_answers_by_cause.Goals as goal
 

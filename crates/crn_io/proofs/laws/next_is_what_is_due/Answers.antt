@@ -1,4 +1,4 @@
-use Rattle.std.proofs.Common.{◌++◌}
+use Rattle.crn_io.proofs.Prelude.{◌++◌}
 use Rattle.crn_io.proofs.LinesDue.{all_bytes, due_is, end_is}
 use Rattle.crn_io.proofs.laws.next_is_what_is_due.Goals as goal
 

@@ -1,5 +1,4 @@
-use Rattle.std.proofs.Common.{◌≡◌, take}
-use Rattle.std.proofs.lemmas.List.{take_all}
+use Rattle.crn_net.proofs.Prelude.{◌≡◌, take, take_all}
 use Rattle.crn_net.proofs.BucketSums.{fit_by_buckets}
 use Rattle.crn_net.proofs.buckets.buckets_fit.Goals as goal
 

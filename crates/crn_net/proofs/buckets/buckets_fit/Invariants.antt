@@ -1,5 +1,4 @@
-use Rattle.std.proofs.Common.{take}
-use Rattle.crn_net.specs.Inner.BucketSums.{AreBucketSums}
+use Rattle.crn_net.proofs.Prelude.{take, AreBucketSums}
 use Rattle.crn_net.proofs.buckets.buckets_fit.Given as goal
 
 abbrev pub invariant-loop-term : goal.invariant-loop-term

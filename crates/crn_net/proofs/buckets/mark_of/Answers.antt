@@ -1,4 +1,4 @@
-use Rattle.std.proofs.Common.{length, ◌<◌, sym}
+use Rattle.crn_net.proofs.Prelude.{length, ◌<◌, sym}
 use Rattle.crn_net.proofs.BucketSums.{mark_more}
 use Rattle.crn_net.proofs.buckets.mark_of.Goals as goal
 

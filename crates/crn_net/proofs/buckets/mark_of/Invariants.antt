@@ -1,5 +1,4 @@
-use Rattle.std.proofs.Common.{◌≡◌, take}
-use Rattle.crn_net.specs.Inner.BucketSums.{mark}
+use Rattle.crn_net.proofs.Prelude.{◌≡◌, take, mark}
 use Rattle.crn_net.proofs.buckets.mark_of.Given as goal
 
 abbrev pub invariant-loop-byte : goal.invariant-loop-byte

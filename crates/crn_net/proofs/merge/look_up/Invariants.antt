@@ -1,4 +1,4 @@
-use Rattle.std.proofs.Common.{◌<◌, length}
+use Rattle.crn_net.proofs.Prelude.{◌<◌, length}
 use Rattle.crn_net.proofs.merge.look_up.Given as goal
 
 abbrev pub invariant-tries : goal.invariant-tries

@@ -1,4 +1,4 @@
-use Rattle.std.proofs.Common.{◌∙◌}
+use Rattle.crn_net.proofs.Prelude.{◌∙◌}
 use Rattle.crn_net.proofs.Merged.{sum_both}
 use Rattle.crn_net.proofs.merge.merged.Goals as goal
 

@@ -1,8 +1,4 @@
-use Rattle.std.proofs.Common.{◌≡◌, ◌<◌, length, get_or, sym, ap, subst, ◌∙◌, arith, w32, to_z, of_z, FitsSigned}
-use Rattle.std.proofs.lemmas.Int.{ints, to_z-of_z}
-use Rattle.std.proofs.lemmas.List.{get_or_default}
-use Rattle.crn_net.specs.declared.side_sums.Share.{Share}
-use Rattle.crn_net.specs.Inner.Sums.{name_in, no_share}
+use Rattle.crn_net.proofs.Prelude.{◌≡◌, ◌<◌, length, get_or, sym, ap, subst, ◌∙◌, arith, w32, to_z, of_z, FitsSigned, ints, to_z-of_z, get_or_default, Share, name_in, no_share}
 use Rattle.crn_net.proofs.Merged.{sum_set}
 use Rattle.crn_net.proofs.merge.put_share.Goals as goal
 

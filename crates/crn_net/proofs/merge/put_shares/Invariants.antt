@@ -1,5 +1,4 @@
-use Rattle.std.proofs.Common.{◌≡◌, ◌≤◌, ◌+◌, ◌++◌, ℕ, List, length, map, take}
-use Rattle.crn_net.specs.Inner.Sums.{share_of, sum_in}
+use Rattle.crn_net.proofs.Prelude.{◌≡◌, ◌≤◌, ◌+◌, ◌++◌, ℕ, List, length, map, take, share_of, sum_in}
 use Rattle.crn_net.proofs.merge.put_shares.Given as goal
 
 abbrev pub invariant-terms : goal.invariant-terms

@@ -1,5 +1,4 @@
-use Rattle.std.proofs.Common.{◌≡◌, ◌≤◌, ℕ, List, length, take}
-use Rattle.crn_net.specs.Inner.Sums.{sum_in}
+use Rattle.crn_net.proofs.Prelude.{◌≡◌, ◌≤◌, ℕ, List, length, take, sum_in}
 use Rattle.crn_net.proofs.merge.without_zeros.Given as goal
 
 abbrev pub invariant-shares : goal.invariant-shares

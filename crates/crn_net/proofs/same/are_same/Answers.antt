@@ -1,7 +1,5 @@
-use Rattle.std.proofs.Common.{◌<◌, ◌∙◌, Bool, get_or, take, length, sym, ap, ap₂, arith}
-use Rattle.std.specs.Prelude.{◌&&◌, nat_eq}
-use Rattle.std.specs.Cmp.Lexicographic.{pointwise}
-use Rattle.std.proofs.lemmas.List.{take_more, length-take-le}
+use Rattle.crn_net.proofs.Prelude.{◌<◌, ◌∙◌, Bool, get_or, take, length, sym, ap, ap₂, arith, nat_eq, pointwise, take_more, length-take-le}
+use Rattle.std.specs.Prelude.{◌&&◌}
 use Rattle.crn_net.proofs.SameRows.{pointwise-snoc}
 use Rattle.crn_net.proofs.same.are_same.Goals as goal
 

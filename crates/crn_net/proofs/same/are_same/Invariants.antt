@@ -1,6 +1,4 @@
-use Rattle.std.proofs.Common.{◌≡◌, take}
-use Rattle.std.specs.Prelude.{nat_eq}
-use Rattle.std.specs.Cmp.Lexicographic.{pointwise}
+use Rattle.crn_net.proofs.Prelude.{◌≡◌, take, nat_eq, pointwise}
 use Rattle.crn_net.proofs.same.are_same.Given as goal
 
 abbrev pub invariant-loop-i : goal.invariant-loop-i

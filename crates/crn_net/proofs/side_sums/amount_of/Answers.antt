@@ -1,7 +1,4 @@
-use Rattle.std.proofs.Common.{◌≡◌, ◌+◌, ◌<◌, length, get_or, true, arith, sym, ◌∙◌}
-use Rattle.std.specs.Str.{bytes_eq}
-use Rattle.crn_net.specs.Terms.{name_at}
-use Rattle.crn_net.specs.declared.term.Term.{Term}
+use Rattle.crn_net.proofs.Prelude.{◌≡◌, ◌+◌, ◌<◌, length, get_or, true, arith, sym, ◌∙◌, bytes_eq, name_at, Term}
 use Rattle.crn_net.proofs.Members.{amount_part}
 use Rattle.crn_net.proofs.Amounts.{amount_yes}
 use Rattle.crn_net.proofs.side_sums.amount_of.Goals as goal

@@ -1,6 +1,4 @@
-use Rattle.std.proofs.Common.{◌≡◌, take}
-use Rattle.crn_vec.specs.Network.{amount_in}
-use Rattle.crn_net.specs.Terms.{side_of}
+use Rattle.crn_net.proofs.Prelude.{◌≡◌, take, amount_in, side_of}
 use Rattle.crn_net.proofs.side_sums.amount_of.Given as goal
 
 abbrev pub invariant-loop-term : goal.invariant-loop-term

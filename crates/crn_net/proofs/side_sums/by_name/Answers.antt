@@ -1,10 +1,4 @@
-use Rattle.std.proofs.Common.{◌≡◌, rules}
-use Rattle.std.specs.Ordering.{nat_cmp, is_lt}
-use Rattle.std.specs.Cmp.Lexicographic.{slice_cmp}
-use Rattle.std.proofs.lemmas.Cmp.{nat_list_cmp_total}
-use Rattle.std.proofs.lemmas.Fn.{always_returns_same}
-use Rattle.std.proofs.lemmas.List.Sorted.{ranks_by}
-use Rattle.crn_net.specs.Inner.Sums.{name_in}
+use Rattle.crn_net.proofs.Prelude.{◌≡◌, rules, nat_cmp, is_lt, slice_cmp, nat_list_cmp_total, always_returns_same, ranks_by, name_in}
 use Rattle.crn_net.proofs.Sums.{sum_in_any_order}
 use Rattle.crn_net.proofs.side_sums.by_name.Goals as goal
 

@@ -1,10 +1,4 @@
-use Rattle.std.proofs.Common.{◌≡◌, ℕ, List, ap, ◌∙◌, arith}
-use Rattle.std.specs.Prelude.{pos, ◌-ℤ◌}
-use Rattle.std.proofs.lemmas.Int.{ints}
-use Rattle.crn_vec.specs.Network.{amount_in}
-use Rattle.crn_net.specs.Terms.{side_of}
-use Rattle.crn_net.specs.Inner.Sums.{sum_in}
-use Rattle.crn_net.specs.declared.side_sums.Share.{Share}
+use Rattle.crn_net.proofs.Prelude.{◌≡◌, ℕ, List, ap, ◌∙◌, arith, pos, ◌-ℤ◌, ints, amount_in, side_of, sum_in, Share}
 use Rattle.crn_net.proofs.Sums.{numbers_most}
 use Rattle.crn_net.proofs.side_sums.says_same.Goals as goal
 

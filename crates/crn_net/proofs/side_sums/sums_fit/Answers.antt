@@ -1,4 +1,4 @@
-use Rattle.std.proofs.Common.{refl, arith}
+use Rattle.crn_net.proofs.Prelude.{refl, arith}
 use Rattle.crn_net.proofs.Amounts.{amounts_most}
 use Rattle.crn_net.proofs.Sums.{total_fits}
 use Rattle.crn_net.proofs.side_sums.sums_fit.Goals as goal

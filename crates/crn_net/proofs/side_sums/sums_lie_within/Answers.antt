@@ -1,9 +1,5 @@
-use Rattle.std.proofs.Common.{◌≡◌, ◌+◌, ◌<◌, length, get_or, refl, sym, ◌∙◌, arith, rules, w32}
-use Rattle.std.specs.Prelude.{pos, ◌+ℤ◌}
-use Rattle.std.proofs.lemmas.Int.{ints}
+use Rattle.crn_net.proofs.Prelude.{◌≡◌, ◌+◌, ◌<◌, length, get_or, refl, sym, ◌∙◌, arith, rules, w32, pos, ◌+ℤ◌, ints, Share, name_in}
 use mir.Val.{SFits}
-use Rattle.crn_net.specs.declared.side_sums.Share.{Share}
-use Rattle.crn_net.specs.Inner.Sums.{name_in}
 use Rattle.crn_net.proofs.Sums.{names_differ, names_agree, summing_at, summing_more, summing_next, summing_stops}
 use Rattle.crn_net.proofs.side_sums.sums_lie_within.Goals as goal
 use Rattle.crn_net.proofs.side_sums.sums_lie_within.Goals.{then-ne+else-sum-lt0+else-limit-sum, else-ne, then-sum-lt0-via-then-sum-lt0, then-sum-lt0-via-else-sum-lt0+then-limit-sum}

@@ -1,4 +1,4 @@
-use Rattle.std.proofs.Common.{List, ℕ, subst}
+use Rattle.crn_net.proofs.Prelude.{List, ℕ, subst}
 use Rattle.crn_net.proofs.Places.{IsPlaced, name_noted, name_over}
 use Rattle.crn_net.proofs.tables.add_name.Goals as goal
 

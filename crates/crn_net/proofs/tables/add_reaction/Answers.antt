@@ -1,6 +1,4 @@
-use Rattle.std.proofs.Common.{◌&&◌, ◌==◌, arith, inl, inr, refl, sym, ◌∙◌}
-use Rattle.std.proofs.lemmas.List.{length_push}
-use Rattle.crn_vec.proofs.CallerLemmas.{any_true, any_false, reaction_decides}
+use Rattle.crn_net.proofs.Prelude.{◌&&◌, ◌==◌, arith, inl, inr, refl, sym, ◌∙◌, length_push, any_true, any_false, reaction_decides}
 use Rattle.crn_net.proofs.tables.add_reaction.Goals as goal
 
 pub returns-then-has_reaction : goal.returns-then-has_reaction

@@ -1,8 +1,4 @@
-use Rattle.std.proofs.Common.{arith, inl, inr, refl, sym, ◌∙◌, List, subst}
-use Rattle.std.specs.Prelude.{ℤ}
-use Rattle.crn_vec.specs.Lists.{IsIn}
-use Rattle.crn_vec.proofs.CallerLemmas.{at_in}
-use Rattle.std.proofs.lemmas.List.{length_push, get_or_push}
+use Rattle.crn_net.proofs.Prelude.{arith, inl, inr, refl, sym, ◌∙◌, List, subst, ℤ, IsIn, at_in, length_push, get_or_push}
 use Rattle.crn_net.proofs.Members.{found_at, found_none, row_put}
 use Rattle.crn_net.proofs.tables.add_row.Goals as goal
 

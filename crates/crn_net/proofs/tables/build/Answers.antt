@@ -1,7 +1,4 @@
-use Rattle.std.specs.Prelude.{ℤ}
-use Rattle.std.proofs.Common.{List}
-use Rattle.crn_net.specs.Terms.{statement_of}
-use Rattle.std.proofs.lemmas.Result.{err_from_is_err_and}
+use Rattle.crn_net.proofs.Prelude.{ℤ, List, statement_of, err_from_is_err_and}
 use Rattle.crn_net.proofs.Building.{both_put, right_row_stops, reaction_ends}
 use Rattle.crn_net.proofs.tables.build.Goals as goal
 

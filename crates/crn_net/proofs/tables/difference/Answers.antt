@@ -1,10 +1,4 @@
-use Rattle.std.proofs.Common.{arith, get_or, ◌++◌, ◌∷◌, [], List, ap, sym, ◌∙◌}
-use Rattle.std.specs.Prelude.{ℤ, pos, ◌-ℤ◌}
-use Rattle.std.specs.Int.{w128}
-use Rattle.std.proofs.lemmas.Int.{ints, to_z-of_z, fits_signed_from_abs}
-use Rattle.std.proofs.lemmas.List.{length-set, take_more_set}
-use Rattle.crn_vec.specs.Network.{IsAmount}
-use Rattle.crn_vec.proofs.CallerLemmas.{all_at}
+use Rattle.crn_net.proofs.Prelude.{arith, get_or, ◌++◌, ◌∷◌, [], List, ap, sym, ◌∙◌, ℤ, pos, ◌-ℤ◌, w128, ints, to_z-of_z, fits_signed_from_abs, length-set, take_more_set, IsAmount, all_at}
 use Rattle.crn_net.proofs.Differences.{minus_more}
 use Rattle.crn_net.proofs.tables.difference.Goals as goal
 

@@ -1,6 +1,4 @@
-use Rattle.std.proofs.Common.{◌≡◌, take, length}
-use Rattle.crn_vec.specs.declared.limits.TheConstants.{MAX_SPECIES}
-use Rattle.crn_vec.specs.Network.{minus}
+use Rattle.crn_net.proofs.Prelude.{◌≡◌, take, length, MAX_SPECIES, minus}
 use Rattle.crn_net.proofs.tables.difference.Given as goal
 
 abbrev pub invariant-loop-s : goal.invariant-loop-s

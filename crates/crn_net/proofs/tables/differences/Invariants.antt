@@ -1,5 +1,4 @@
-use Rattle.std.proofs.Common.{◌≡◌, take, map, get_or, []}
-use Rattle.crn_vec.specs.Network.{minus}
+use Rattle.crn_net.proofs.Prelude.{◌≡◌, take, map, get_or, [], minus}
 use Rattle.crn_net.proofs.tables.differences.Given as goal
 
 abbrev pub invariant-loop-reaction : goal.invariant-loop-reaction

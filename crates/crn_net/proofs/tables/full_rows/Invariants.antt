@@ -1,4 +1,4 @@
-use Rattle.std.proofs.Common.{◌≡◌, take}
+use Rattle.crn_net.proofs.Prelude.{◌≡◌, take}
 use Rattle.crn_net.proofs.tables.full_rows.Given as goal
 
 abbrev pub invariant-loop-row : goal.invariant-loop-row

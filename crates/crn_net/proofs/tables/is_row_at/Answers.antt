@@ -1,6 +1,4 @@
-use Rattle.std.specs.Prelude.{ℤ}
-use Rattle.std.proofs.Common.{◌≡◌, ◌∙◌, ◌<◌, List, length, get_or, sym, subst, arith}
-use Rattle.std.specs.Cmp.Rules.{signed_items}
+use Rattle.crn_net.proofs.Prelude.{ℤ, ◌≡◌, ◌∙◌, ◌<◌, List, length, get_or, sym, subst, arith, signed_items}
 use Rattle.crn_net.proofs.tables.is_row_at.Goals as goal
 
 pub returns-then-place-len : goal.returns-then-place-len

@@ -1,10 +1,4 @@
-use Rattle.std.proofs.Common.{◌++◌, map, sym, subst}
-use Rattle.std.specs.Str.{bytes_eq}
-use Rattle.std.proofs.lemmas.Result.{err_from_is_err_and}
-use Rattle.std.proofs.lemmas.Slice.Eq.{bytes_eq-Decides}
-use Rattle.crn_vec.specs.Lists.{AreDistinct}
-use Rattle.crn_net.specs.Terms.{side_of, statement_of}
-use Rattle.crn_vec.proofs.CallerLemmas.{firsts_distinct}
+use Rattle.crn_net.proofs.Prelude.{◌++◌, map, sym, subst, bytes_eq, err_from_is_err_and, bytes_eq-Decides, AreDistinct, side_of, statement_of, firsts_distinct}
 use Rattle.crn_net.proofs.Building.{left_stops, right_ends}
 use Rattle.crn_net.proofs.tables.note_both.Goals as goal
 

@@ -1,6 +1,4 @@
-use Rattle.std.proofs.Common.{inl, refl, subst, ℕ, List, []}
-use Rattle.crn_vec.specs.Lists.{IsIn}
-use Rattle.crn_vec.proofs.CallerLemmas.{at_in}
+use Rattle.crn_net.proofs.Prelude.{inl, refl, subst, ℕ, List, [], IsIn, at_in}
 use Rattle.crn_net.proofs.tables.note_name.Goals as goal
 
 pub returns-then-is_name_at-clause-notes : goal.returns-then-is_name_at-clause-notes

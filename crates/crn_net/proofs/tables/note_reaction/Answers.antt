@@ -1,6 +1,4 @@
-use Rattle.std.proofs.Common.{ℕ, inl, refl, subst}
-use Rattle.crn_vec.specs.Lists.{IsIn}
-use Rattle.crn_vec.proofs.CallerLemmas.{at_in}
+use Rattle.crn_net.proofs.Prelude.{ℕ, inl, refl, subst, IsIn, at_in}
 use Rattle.crn_net.proofs.tables.note_reaction.Goals as goal
 
 pub returns-then-is_reaction_at : goal.returns-then-is_reaction_at

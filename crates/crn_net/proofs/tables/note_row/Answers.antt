@@ -1,7 +1,4 @@
-use Rattle.std.specs.Prelude.{ℤ}
-use Rattle.std.proofs.Common.{inl, refl, subst, List}
-use Rattle.crn_vec.specs.Lists.{IsIn}
-use Rattle.crn_vec.proofs.CallerLemmas.{at_in}
+use Rattle.crn_net.proofs.Prelude.{ℤ, inl, refl, subst, List, IsIn, at_in}
 use Rattle.crn_net.proofs.tables.note_row.Goals as goal
 
 pub returns-then-is_row_at-clause-notes : goal.returns-then-is_row_at-clause-notes

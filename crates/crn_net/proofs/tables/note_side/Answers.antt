@@ -1,7 +1,4 @@
-use Rattle.std.proofs.Common.{refl, ℕ, List, subst, Ok, Err}
-use Rattle.std.proofs.lemmas.Result.{err_from_is_err_and}
-use Rattle.crn_net.specs.declared.term.Term.{Term}
-use Rattle.crn_net.specs.Inner.Steps.{NotesName}
+use Rattle.crn_net.proofs.Prelude.{refl, ℕ, List, subst, Ok, Err, err_from_is_err_and, Term, NotesName}
 use Rattle.crn_net.proofs.Counting.{noting_none, noting_more, noting_sum, noting_stops, noting_ends}
 use Rattle.crn_net.proofs.tables.note_side.Goals as goal
 

@@ -1,4 +1,4 @@
-use Rattle.crn_net.specs.Terms.{statement_of}
+use Rattle.crn_net.proofs.Prelude.{statement_of}
 use Rattle.crn_net.proofs.Building.{apart_noted}
 use Rattle.crn_net.proofs.tables.note_sides.Goals as goal
 

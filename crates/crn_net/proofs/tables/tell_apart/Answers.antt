@@ -1,5 +1,4 @@
-use Rattle.std.proofs.Common.{◌∙◌, sym}
-use Rattle.crn_vec.proofs.CallerLemmas.{row_decides}
+use Rattle.crn_net.proofs.Prelude.{◌∙◌, sym, row_decides}
 use Rattle.crn_net.proofs.tables.tell_apart.Goals as goal
 
 pub returns-then-eq : goal.returns-then-eq

@@ -1,6 +1,4 @@
-use Rattle.std.proofs.Common.{◌≡◌, ℕ, get_or, sym, ap, ap₂, ◌∙◌}
-use Rattle.crn_vec.specs.Network.{Net}
-use Rattle.crn_cert.specs.Valid.{is_same_pair}
+use Rattle.crn_pairs.proofs.Prelude.{◌≡◌, ℕ, get_or, sym, ap, ap₂, ◌∙◌, Net, is_same_pair}
 use Rattle.crn_pairs.proofs.Least.{least_hit, least_more}
 use Rattle.crn_pairs.proofs.pairs.is_least_of_pair.Goals as goal
 

@@ -1,5 +1,4 @@
-use Rattle.std.proofs.Common.{◌≡◌, false}
-use Rattle.std.specs.List.{list_any, range_with_len}
+use Rattle.crn_pairs.proofs.Prelude.{◌≡◌, false, list_any, range_with_len}
 use Rattle.crn_pairs.proofs.Least.{joins_same}
 use Rattle.crn_pairs.proofs.pairs.is_least_of_pair.Given as goal
 

@@ -1,11 +1,8 @@
-use Rattle.std.proofs.Common.{◌≡◌, ◌++◌, ◌∷◌, [], ℕ, List, ap, sym, ◌∙◌}
+use Rattle.crn_rank.proofs.Prelude.{◌≡◌, ◌++◌, ◌∷◌, [], ℕ, List, ap, sym, ◌∙◌, KeptNums, is_inside, false≢true}
 use Rattle.std.specs.Prelude.{slice_index}
-use Rattle.crn_vec.specs.Kept.{KeptNums}
-use Rattle.crn_rank.specs.Inner.Rows.{is_inside}
 use Rattle.crn_rank.proofs.PickedRows.{map_yes, map_no, asked_yes, asked_no}
 use Rattle.crn_rank.proofs.base.base_members.Goals as goal
 use Rattle.crn_rank.proofs.base.base_members.Goals.{then-is_basic+in_ok-push, else-is_basic}
-use Rattle.std.proofs.lemmas.Bool.{false≢true}
 
 pub loop-k-preserved : goal.loop-k-preserved
 loop-k-preserved c =

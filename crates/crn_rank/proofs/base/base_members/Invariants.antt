@@ -1,5 +1,4 @@
-use Rattle.std.proofs.Common.{◌≡◌, map, slice_index}
-use Rattle.crn_rank.specs.Inner.Rows.{rows_inside}
+use Rattle.crn_rank.proofs.Prelude.{◌≡◌, map, slice_index, rows_inside}
 use Rattle.crn_rank.proofs.base.base_members.Given as goal
 
 abbrev pub invariant-loop-k : goal.invariant-loop-k

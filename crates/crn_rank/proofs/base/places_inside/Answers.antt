@@ -1,6 +1,4 @@
-use Rattle.std.proofs.Common.{◌≡◌, ◌++◌, ◌∷◌, [], ℕ, List, ap, sym, ◌∙◌}
-use Rattle.std.proofs.lemmas.Bool.{false≢true}
-use Rattle.crn_rank.specs.Inner.Rows.{is_inside}
+use Rattle.crn_rank.proofs.Prelude.{◌≡◌, ◌++◌, ◌∷◌, [], ℕ, List, ap, sym, ◌∙◌, false≢true, is_inside}
 use Rattle.crn_rank.proofs.PickedRows.{picked_yes, picked_no, asked_yes, asked_no}
 use Rattle.crn_rank.proofs.base.places_inside.Goals as goal
 use Rattle.crn_rank.proofs.base.places_inside.Goals.{then-is_basic+in_ok-push, else-is_basic}

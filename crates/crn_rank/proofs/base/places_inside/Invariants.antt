@@ -1,5 +1,4 @@
-use Rattle.std.proofs.Common.{◌≡◌}
-use Rattle.crn_rank.specs.Inner.Rows.{rows_inside}
+use Rattle.crn_rank.proofs.Prelude.{◌≡◌, rows_inside}
 use Rattle.crn_rank.proofs.base.places_inside.Given as goal
 
 abbrev pub invariant-loop-k : goal.invariant-loop-k

@@ -1,11 +1,4 @@
-use Rattle.std.proofs.Common.{◌≡◌, ◌+◌, ℕ, List, length, get_or, refl, ap, subst}
-use Rattle.std.specs.Prelude.{ℤ, pos, ◌≤ℤ◌}
-use Rattle.crn_vec.specs.Kept.{KeptInts}
-use Rattle.crn_vec.specs.Lists.{IsIn}
-use Rattle.crn_vec.specs.Vectors.{entry}
-use Rattle.crn_vec.specs.Elementary.{IsNamed}
-use Rattle.crn_vec.proofs.CallerLemmas.{at_in, if_ok}
-use Rattle.crn_rank.specs.Inner.Rows.{comb_numbers, is_inside, IsCombOf}
+use Rattle.crn_rank.proofs.Prelude.{◌≡◌, ◌+◌, ℕ, List, length, get_or, refl, ap, subst, ℤ, pos, ◌≤ℤ◌, KeptInts, IsIn, entry, IsNamed, at_in, if_ok, comb_numbers, is_inside, IsCombOf}
 use Rattle.crn_rank.proofs.CombTests.{comb_by}
 use Rattle.crn_rank.proofs.PickedRows.{picked_below}
 use Rattle.crn_rank.proofs.combs.comb_of.Goals as goal

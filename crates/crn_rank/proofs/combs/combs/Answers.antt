@@ -1,8 +1,4 @@
-use Rattle.std.proofs.Common.{◌≡◌, ◌+◌, ℕ, not, List, ap, sym, subst, ◌∙◌}
-use Rattle.std.specs.Prelude.{ℤ}
-use Rattle.std.specs.List.{AllZip}
-use Rattle.std.proofs.lemmas.Bool.{false≢true}
-use Rattle.crn_rank.specs.Inner.Rows.{is_outside, IsCombOf, rows_outside}
+use Rattle.crn_rank.proofs.Prelude.{◌≡◌, ◌+◌, ℕ, not, List, ap, sym, subst, ◌∙◌, ℤ, AllZip, false≢true, is_outside, IsCombOf, rows_outside}
 use Rattle.crn_rank.proofs.PickedRows.{zip_yes, zip_no, asked_yes, asked_no}
 use Rattle.crn_rank.proofs.combs.combs.Goals as goal
 use Rattle.crn_rank.proofs.combs.combs.Goals.{then-not-is_basic+in_ok-comb_of+in_ok-push, else-not-is_basic}

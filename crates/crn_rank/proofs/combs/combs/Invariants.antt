@@ -1,5 +1,4 @@
-use Rattle.std.specs.List.{AllZip}
-use Rattle.crn_rank.specs.Inner.Rows.{IsCombOf, rows_outside}
+use Rattle.crn_rank.proofs.Prelude.{AllZip, IsCombOf, rows_outside}
 use Rattle.crn_rank.proofs.combs.combs.Given as goal
 
 abbrev pub invariant-loop-k : goal.invariant-loop-k

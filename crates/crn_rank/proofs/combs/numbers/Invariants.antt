@@ -1,7 +1,4 @@
-use Rattle.std.proofs.Common.{◌≡◌, ◌+◌, ◌∷◌, List, map, take}
-use Rattle.std.specs.Prelude.{ℤ, pos, neg_ℤ, ◌≤ℤ◌}
-use Rattle.crn_vec.specs.Vectors.{entry}
-use Rattle.crn_vec.specs.Elementary.{IsNamed}
+use Rattle.crn_rank.proofs.Prelude.{◌≡◌, ◌+◌, ◌∷◌, List, map, take, ℤ, pos, neg_ℤ, ◌≤ℤ◌, entry, IsNamed}
 use Rattle.crn_rank.proofs.combs.numbers.Given as goal
 
 abbrev pub invariant-loop-i : goal.invariant-loop-i

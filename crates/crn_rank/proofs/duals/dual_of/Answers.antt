@@ -1,5 +1,4 @@
-use Rattle.std.proofs.Common.{◌+◌, ℕ, sym, subst, arith}
-use Rattle.crn_vec.specs.Lists.{IsIn}
+use Rattle.crn_rank.proofs.Prelude.{◌+◌, ℕ, sym, subst, arith, IsIn}
 use Rattle.crn_rank.proofs.WideNames.{wide_column}
 use Rattle.crn_rank.proofs.duals.dual_of.Goals as goal
 

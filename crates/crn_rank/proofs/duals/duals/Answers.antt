@@ -1,8 +1,4 @@
-use Rattle.std.proofs.Common.{◌≡◌, ◌+◌, ℕ, List, length, ap, sym, subst, ◌∙◌}
-use Rattle.std.specs.Prelude.{ℤ}
-use Rattle.std.specs.List.{AllZip}
-use Rattle.std.proofs.lemmas.Bool.{false≢true}
-use Rattle.crn_rank.specs.Inner.Rows.{is_inside, IsDualOf, rows_inside}
+use Rattle.crn_rank.proofs.Prelude.{◌≡◌, ◌+◌, ℕ, List, length, ap, sym, subst, ◌∙◌, ℤ, AllZip, false≢true, is_inside, IsDualOf, rows_inside}
 use Rattle.crn_rank.proofs.PickedRows.{zip_yes, zip_no, asked_yes, asked_no}
 use Rattle.crn_rank.proofs.duals.duals.Goals as goal
 use Rattle.crn_rank.proofs.duals.duals.Goals.{then-is_basic+in_ok-dual_of+in_ok-push, else-is_basic}

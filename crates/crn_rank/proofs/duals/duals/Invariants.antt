@@ -1,7 +1,4 @@
-use Rattle.std.proofs.Common.{◌≡◌, length}
-use Rattle.std.specs.List.{AllZip}
-use Rattle.crn_vec.specs.Elementary.{width}
-use Rattle.crn_rank.specs.Inner.Rows.{IsDualOf, rows_inside}
+use Rattle.crn_rank.proofs.Prelude.{◌≡◌, length, AllZip, width, IsDualOf, rows_inside}
 use Rattle.crn_rank.proofs.duals.duals.Given as goal
 
 abbrev pub invariant-loop-k : goal.invariant-loop-k

@@ -1,11 +1,4 @@
-use Rattle.std.proofs.Common.{◌*◌, ◌≤◌, ◌++◌, ℕ, List, length, take, ap, sym, subst, ◌∙◌, arith}
-use Rattle.std.specs.Prelude.{ℤ, slice_index_or}
-use Rattle.std.specs.List.{flat_map}
-use Rattle.std.proofs.lemmas.List.{take_more}
-use Rattle.crn_vec.specs.Vectors.{AreWithin}
-use Rattle.crn_vec.specs.declared.limits.TheConstants.{MAX_AMOUNT, MAX_REACTIONS}
-use Rattle.crn_vec.proofs.CallerLemmas.{at_in, flat_map_push, within_append}
-use Rattle.crn_cert.specs.RankTests.{vector_of}
+use Rattle.crn_rank.proofs.Prelude.{◌*◌, ◌≤◌, ◌++◌, ℕ, List, length, take, ap, sym, subst, ◌∙◌, arith, ℤ, slice_index_or, flat_map, take_more, AreWithin, MAX_AMOUNT, MAX_REACTIONS, at_in, flat_map_push, within_append, vector_of}
 use Rattle.crn_rank.proofs.MemberRows.{entries_few}
 use Rattle.crn_rank.proofs.matrix.entries.Goals as goal
 

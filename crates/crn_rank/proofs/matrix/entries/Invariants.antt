@@ -1,8 +1,4 @@
-use Rattle.std.proofs.Common.{◌≡◌, take}
-use Rattle.std.specs.List.{flat_map}
-use Rattle.crn_vec.specs.Vectors.{AreWithin}
-use Rattle.crn_vec.specs.declared.limits.TheConstants.{MAX_AMOUNT}
-use Rattle.crn_cert.specs.RankTests.{vector_of}
+use Rattle.crn_rank.proofs.Prelude.{◌≡◌, take, flat_map, AreWithin, MAX_AMOUNT, vector_of}
 use Rattle.crn_rank.proofs.matrix.entries.Given as goal
 
 abbrev pub invariant-loop-member : goal.invariant-loop-member

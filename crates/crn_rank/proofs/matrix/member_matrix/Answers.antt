@@ -1,9 +1,4 @@
-use Rattle.std.proofs.Common.{◌≡◌, ◌*◌, ℕ, length, ap, sym, ◌∙◌, arith}
-use Rattle.crn_vec.specs.Vectors.{Mat}
-use Rattle.crn_vec.specs.Matrices.{mat_of}
-use Rattle.crn_vec.proofs.CallerLemmas.{some_species, length-rows_after, if_ok}
-use Rattle.crn_cert.specs.RankTests.{vector_of}
-use Rattle.crn_rank.specs.Rank.{member_matrix}
+use Rattle.crn_rank.proofs.Prelude.{◌≡◌, ◌*◌, ℕ, length, ap, sym, ◌∙◌, arith, Mat, mat_of, some_species, length-rows_after, if_ok, vector_of, member_matrix}
 use Rattle.crn_rank.proofs.MemberRows.{members_few, vector_width, matrix_of}
 use Rattle.crn_rank.proofs.matrix.member_matrix.Goals as goal
 

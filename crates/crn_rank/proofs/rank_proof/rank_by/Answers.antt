@@ -1,6 +1,4 @@
-use Rattle.std.proofs.Common.{◌≡◌, ℕ, Result, Ok, Err, OnOk, ap, sym, subst, ◌∙◌}
-use Rattle.crn_vec.specs.Vectors.{Mat}
-use Rattle.crn_tab.specs.Tableau.{AreEntered}
+use Rattle.crn_rank.proofs.Prelude.{◌≡◌, ℕ, Result, Ok, Err, OnOk, ap, sym, subst, ◌∙◌, Mat, AreEntered}
 use Rattle.crn_rank.proofs.rank_proof.rank_by.Goals as goal
 
 pub proof_of-requires-clause-entered : goal.proof_of-requires-clause-entered

@@ -1,4 +1,4 @@
-use Rattle.crn_io.specs.declared.next.Next.TheVariants.{Line, Last, LineTooLong, DocumentTooLong}
+use Rattle.crn_reading.proofs.Prelude.{Line, Last, LineTooLong, DocumentTooLong}
 use Rattle.crn_reading.proofs.Endings.{nothing_left, rest_is_awaited, something_left}
 use Rattle.crn_reading.proofs.ending.no_more.Goals as goal
 

@@ -1,8 +1,4 @@
-use Rattle.std.proofs.Common.{◌-◌, ◌∙◌, ℕ, List, sym, subst, arith, false}
-use Rattle.std.proofs.lemmas.Result.{err_from_is_err_and}
-use Rattle.crn_ctext.specs.Course.{due}
-use Rattle.crn_reading.specs.Inner.Opening.{IsAddedLine}
-use Rattle.crn_reading.specs.Steps.{StopIs}
+use Rattle.crn_reading.proofs.Prelude.{◌-◌, ◌∙◌, ℕ, List, sym, subst, arith, false, err_from_is_err_and, due, IsAddedLine, StopIs}
 use Rattle.crn_reading.specs.declared.fault.CheckStop.TheVariants as stop
 use Rattle.crn_reading.proofs.Steps.{stop_first, step_exits}
 use Rattle.crn_reading.proofs.FoundLines.{memory_after}

@@ -1,16 +1,9 @@
-use Rattle.std.proofs.Common.{◌≡◌, ◌+◌, ◌++◌, ◌∙◌, ℕ, List, Option, Some, None, inl, inr, sym, ap, subst, refl}
-use Rattle.std.proofs.lemmas.Bool.{false≢true}
-use Rattle.std.proofs.lemmas.Result.{err_from_is_err_and}
-use Rattle.crn_vec.specs.Network.{Net}
-use Rattle.crn_ctext.specs.Course.{find}
-use Rattle.crn_ctext.specs.Blocks.{asks_lines, ended, IsNetworkOf}
-use Rattle.crn_reading.specs.Inner.Network.{IsCanonicalText}
+use Rattle.crn_reading.proofs.Prelude.{◌≡◌, ◌+◌, ◌++◌, ◌∙◌, ℕ, List, Option, Some, None, inl, inr, sym, ap, subst, refl, false≢true, err_from_is_err_and, Net, find, asks_lines, ended, IsNetworkOf, IsCanonicalText, BadNetwork}
 use Rattle.crn_reading.specs.declared.fault.CheckStop.TheVariants as stop
 use Rattle.crn_reading.proofs.Steps.{stop_first, step_exits}
 use Rattle.crn_reading.proofs.FoundLines.{lines_found, lines_refused, memory_after}
 use Rattle.crn_reading.proofs.LongLines.{no_long_line}
 use Rattle.crn_reading.proofs.opening.next_network.Goals as goal
-use Rattle.crn_cert.specs.Faults.{BadNetwork}
 
 pub returns-in_err-next_lines-clause-step : goal.returns-in_err-next_lines-clause-step
 returns-in_err-next_lines-clause-step g c =

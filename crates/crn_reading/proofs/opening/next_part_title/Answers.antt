@@ -1,9 +1,4 @@
-use Rattle.std.proofs.Common.{refl, false, ◌≡◌, ℕ, List, ◌∙◌, sym}
-use Rattle.std.proofs.lemmas.Bool.{false≢true}
-use Rattle.std.proofs.lemmas.Result.{err_from_is_err_and}
-use Rattle.crn_ctext.specs.Course.{due, test}
-use Rattle.crn_cert.specs.Faults.{BadHeader}
-use Rattle.crn_ctext.specs.Parts.{part_title}
+use Rattle.crn_reading.proofs.Prelude.{refl, false, ◌≡◌, ℕ, List, ◌∙◌, sym, false≢true, err_from_is_err_and, due, test, BadHeader, part_title}
 use Rattle.crn_reading.proofs.Steps.{stop_first, step_exits}
 use Rattle.crn_reading.proofs.FoundLines.{lines_found, lines_refused}
 use Rattle.crn_reading.proofs.opening.next_part_title.Goals as goal

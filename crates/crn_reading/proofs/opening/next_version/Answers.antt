@@ -1,11 +1,7 @@
-use Rattle.std.proofs.Common.{refl, false, ◌≡◌, ℕ, List, ◌∙◌, sym, subst}
-use Rattle.std.proofs.lemmas.Result.{err_from_is_err_and}
-use Rattle.crn_ctext.specs.Course.{due, find}
-use Rattle.crn_reading.specs.Opening.{IsTitleOf}
+use Rattle.crn_reading.proofs.Prelude.{refl, false, ◌≡◌, ℕ, List, ◌∙◌, sym, subst, err_from_is_err_and, due, find, IsTitleOf, BadHeader}
 use Rattle.crn_reading.proofs.Steps.{stop_first, step_exits}
 use Rattle.crn_reading.proofs.FoundLines.{lines_found, lines_refused}
 use Rattle.crn_reading.proofs.opening.next_version.Goals as goal
-use Rattle.crn_cert.specs.Faults.{BadHeader}
 
 pub returns-in_err-next_line-clause-step : goal.returns-in_err-next_line-clause-step
 returns-in_err-next_line-clause-step g c =

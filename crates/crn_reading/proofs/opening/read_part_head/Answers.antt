@@ -1,15 +1,4 @@
-use Rattle.std.proofs.Common.{◌≡◌, ◌+◌, ℕ, List, sym, ap₂, subst, Result, Ok, Err}
-use Rattle.std.specs.Prelude.{OnOk}
-use Rattle.crn_io.specs.Device.{SourceSeen}
-use Rattle.std.proofs.lemmas.Result.{err_from_is_err_and}
-use Rattle.crn_vec.specs.Network.{Net}
-use Rattle.crn_cert.specs.Faults.{BadNetwork}
-use Rattle.crn_ctext.specs.Course.{Course, Give, find, ◌>>=◌}
-use Rattle.crn_ctext.specs.Blocks.{IsNetworkOf, asks_lines}
-use Rattle.crn_reading.specs.Opening.{count_course, network_course, part_title_course}
-use Rattle.crn_reading.specs.declared.reading.Reading.{Reading}
-use Rattle.crn_reading.specs.declared.fault.CheckStop.{CheckStop}
-use Rattle.crn_reading.specs.Steps.{StepIs}
+use Rattle.crn_reading.proofs.Prelude.{◌≡◌, ◌+◌, ℕ, List, sym, ap₂, subst, Result, Ok, Err, OnOk, SourceSeen, err_from_is_err_and, Net, BadNetwork, Course, Give, find, ◌>>=◌, IsNetworkOf, asks_lines, count_course, network_course, part_title_course, Reading, CheckStop, StepIs}
 use Rattle.crn_reading.proofs.Steps.{step_exits, step_map, step_then_is, stop_after, stop_first}
 use Rattle.crn_reading.proofs.Texts.{steps_all}
 use Rattle.crn_reading.proofs.opening.read_part_head.Goals as goal

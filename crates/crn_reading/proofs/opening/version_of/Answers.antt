@@ -1,4 +1,4 @@
-use Rattle.std.proofs.Common.{inl, inr, refl, sym, ◌∙◌}
+use Rattle.crn_reading.proofs.Prelude.{inl, inr, refl, sym, ◌∙◌}
 use Rattle.crn_reading.proofs.Titles.{title_one, title_two, no_title}
 use Rattle.crn_reading.proofs.opening.version_of.Goals as goal
 

@@ -1,6 +1,4 @@
-use Rattle.std.proofs.Common.{refl}
-use Rattle.crn_io.specs.declared.next.Next.TheVariants.{Last, End, LineTooLong, DocumentTooLong}
-use Rattle.crn_ctext.proofs.CallerLemmas.{line_is_awaited, line_is_due}
+use Rattle.crn_reading.proofs.Prelude.{refl, Last, End, LineTooLong, DocumentTooLong, line_is_awaited, line_is_due}
 use Rattle.crn_reading.proofs.Steps.{no_line}
 use Rattle.crn_reading.proofs.reading.next_line.Goals as goal
 

@@ -1,12 +1,4 @@
-use Rattle.std.proofs.Common.{◌≡◌, ◌-◌, ◌∙◌, List, [], false, sym, subst, arith, ℕ}
-use Rattle.std.proofs.lemmas.Result.{err_from_is_err_and}
-use Rattle.crn_io.specs.Lines.{Place}
-use Rattle.crn_io.specs.Next.{place}
-use Rattle.crn_ctext.proofs.CallerLemmas.{step_then, step_fails_then}
-use Rattle.crn_ctext.specs.Course.{due, Gives, FailsFirst}
-use Rattle.crn_cert.specs.Faults.{WrongOrder}
-use Rattle.crn_ctext.specs.Parts.{reads_part}
-use Rattle.crn_ctext.specs.PartLines.{forms_in, texts_of}
+use Rattle.crn_reading.proofs.Prelude.{◌≡◌, ◌-◌, ◌∙◌, List, [], false, sym, subst, arith, ℕ, err_from_is_err_and, Place, place, step_then, step_fails_then, due, Gives, FailsFirst, WrongOrder, reads_part, forms_in, texts_of}
 use Rattle.crn_reading.proofs.Steps.{stop_first, step_exits, tests_give, tests_fail}
 use Rattle.crn_reading.proofs.Records.{reads_one}
 use Rattle.crn_reading.proofs.record.next_part_record.Goals as goal

@@ -1,11 +1,4 @@
-use Rattle.std.proofs.Common.{◌≡◌, ◌-◌, ◌∙◌, List, [], false, sym, subst, arith, ℕ}
-use Rattle.std.proofs.lemmas.Result.{err_from_is_err_and}
-use Rattle.crn_io.specs.Lines.{Place}
-use Rattle.crn_io.specs.Next.{place}
-use Rattle.crn_ctext.proofs.CallerLemmas.{step_then, step_fails_then}
-use Rattle.crn_ctext.specs.Course.{due, Gives, FailsFirst}
-use Rattle.crn_ctext.specs.Kinds.{known_words, tree_words}
-use Rattle.crn_ctext.specs.Expect.{tests_of, is_after, forms_of, misplaced}
+use Rattle.crn_reading.proofs.Prelude.{◌≡◌, ◌-◌, ◌∙◌, List, [], false, sym, subst, arith, ℕ, err_from_is_err_and, Place, place, step_then, step_fails_then, due, Gives, FailsFirst, known_words, tree_words, tests_of, is_after, forms_of, misplaced}
 use Rattle.crn_reading.proofs.Steps.{stop_first, step_exits, tests_give, tests_fail}
 use Rattle.crn_reading.proofs.Records.{reads_one}
 use Rattle.crn_reading.proofs.record.next_record.Goals as goal

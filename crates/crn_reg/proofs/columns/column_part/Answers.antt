@@ -1,6 +1,6 @@
 use Rattle.crn_reg.proofs.Named.{part_of}
 use Rattle.crn_reg.proofs.columns.column_part.Goals as goal
-use Rattle.crn_rank.proofs.CallerLemmas.{wide_column}
+use Rattle.crn_reg.proofs.Prelude.{wide_column}
 
 pub returns-in-Err-clause-stop : goal.returns-in-Err-clause-stop
 returns-in-Err-clause-stop c =

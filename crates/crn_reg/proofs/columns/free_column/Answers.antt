@@ -1,7 +1,4 @@
-use Rattle.std.proofs.Common.{ℕ, inl, inr, sym, subst, ◌∙◌, arith}
-use Rattle.std.proofs.lemmas.Bool.{false≢true}
-use Rattle.crn_vec.specs.Lists.{IsIn}
-use Rattle.crn_vec.proofs.CallerLemmas.{eq_or}
+use Rattle.crn_reg.proofs.Prelude.{ℕ, inl, inr, sym, subst, ◌∙◌, arith, false≢true, IsIn, eq_or}
 use Rattle.crn_reg.proofs.columns.free_column.Goals as goal
 
 pub loop-c-preserved : goal.loop-c-preserved

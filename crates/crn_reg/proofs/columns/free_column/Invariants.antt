@@ -1,4 +1,4 @@
-use Rattle.crn_reg.specs.Inner.Spaces.{HasNoColumn}
+use Rattle.crn_reg.proofs.Prelude.{HasNoColumn}
 use Rattle.crn_reg.proofs.columns.free_column.Given as goal
 
 abbrev pub invariant-loop-c : goal.invariant-loop-c

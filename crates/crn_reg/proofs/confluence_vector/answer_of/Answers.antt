@@ -1,9 +1,5 @@
-use Rattle.std.proofs.Common.{ℕ, List, length, ap, subst, arith}
-use Rattle.crn_vec.specs.Strong.{SameStrong}
-use Rattle.crn_vec.specs.NetSystems.{confluence_system}
-use Rattle.crn_reg.specs.declared.space.Space.TheVariants.{Zero, Line, Plane}
-use Rattle.crn_reg.specs.Inner.Spaces.{GivesSpace}
-use Rattle.crn_reg.specs.Inner.Normal.{GathersFirst}
+use Rattle.crn_reg.proofs.Prelude.{ℕ, List, length, ap, subst, arith, SameStrong, confluence_system, Zero, Line, GivesSpace, GathersFirst}
+use Rattle.crn_reg.specs.declared.space.Space.TheVariants.{Plane}
 use Rattle.crn_reg.proofs.Solutions.{count_few}
 use Rattle.crn_reg.proofs.ConfluenceAnswers.{Known, Given, line_answer, zero_answer, plane_answer}
 use Rattle.crn_reg.proofs.confluence_vector.answer_of.Goals as goal

@@ -1,9 +1,4 @@
-use Rattle.std.proofs.Common.{ℕ, List, ap, subst, ◌∙◌, arith}
-use Rattle.crn_vec.specs.Vectors.{Mat}
-use Rattle.crn_vec.specs.Linkage.{SameClass}
-use Rattle.crn_vec.specs.Elementary.{NamesWide}
-use Rattle.crn_vec.specs.NetSystems.{confluence_system}
-use Rattle.crn_rank.specs.Rank.{IsWideStop}
+use Rattle.crn_reg.proofs.Prelude.{ℕ, List, ap, subst, ◌∙◌, arith, Mat, SameClass, NamesWide, confluence_system, IsWideStop}
 use Rattle.crn_reg.proofs.Solutions.{count_few}
 use Rattle.crn_reg.proofs.ConfluenceAnswers.{Known, Given, open_answer}
 use Rattle.crn_reg.proofs.confluence_vector.confluence.Goals as goal

@@ -1,4 +1,4 @@
-use Rattle.crn_vec.proofs.CallerLemmas.{reaches_step, weakly_reversible_by_reactions}
+use Rattle.crn_reg.proofs.Prelude.{reaches_step, weakly_reversible_by_reactions}
 use Rattle.crn_reg.proofs.laws.reversible_networks_are_weakly_reversible.Goals as goal
 
 pub returns : goal.returns

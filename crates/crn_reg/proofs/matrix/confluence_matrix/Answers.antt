@@ -1,12 +1,4 @@
-use Rattle.std.proofs.Common.{◌≡◌, ◌+◌, ◌*◌, ◌++◌, ℕ, List, length, map, ap, ap₂, sym, ◌∙◌, arith}
-use Rattle.std.specs.Prelude.{ℤ}
-use Rattle.std.specs.List.{flat_map, range_with_len}
-use Rattle.std.proofs.lemmas.List.FromFn.{length-range_with_len}
-use Rattle.crn_vec.specs.Vectors.{Mat, column}
-use Rattle.crn_vec.specs.Matrices.{mat_of}
-use Rattle.crn_vec.specs.Sums.{label_marks}
-use Rattle.crn_vec.specs.NetSystems.{confluence_system}
-use Rattle.crn_vec.proofs.CallerLemmas.{if_ok, rows_after}
+use Rattle.crn_reg.proofs.Prelude.{◌≡◌, ◌+◌, ◌*◌, ◌++◌, ℕ, List, length, map, ap, ap₂, sym, ◌∙◌, arith, ℤ, flat_map, range_with_len, length-range_with_len, Mat, column, mat_of, label_marks, confluence_system, if_ok, rows_after}
 use Rattle.crn_reg.proofs.Rows.{rows_then, system_long, amounts_long, marks_long, some_complex}
 use Rattle.crn_reg.proofs.matrix.confluence_matrix.Goals as goal
 

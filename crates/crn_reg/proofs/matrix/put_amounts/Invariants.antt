@@ -1,7 +1,4 @@
-use Rattle.std.proofs.Common.{◌≡◌, ◌++◌, length, take}
-use Rattle.std.specs.List.{flat_map, range_with_len}
-use Rattle.crn_vec.specs.Vectors.{AreWithin, column}
-use Rattle.crn_vec.specs.declared.limits.TheConstants.{MAX_AMOUNT}
+use Rattle.crn_reg.proofs.Prelude.{◌≡◌, ◌++◌, length, take, flat_map, range_with_len, AreWithin, column, MAX_AMOUNT}
 use Rattle.crn_reg.proofs.matrix.put_amounts.Given as goal
 
 abbrev pub invariant-loop-s : goal.invariant-loop-s

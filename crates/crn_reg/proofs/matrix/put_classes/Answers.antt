@@ -1,10 +1,4 @@
-use Rattle.std.proofs.Common.{◌≡◌, ◌+◌, ◌++◌, ◌<◌, ℕ, List, take, append_assoc, ap, sym, ◌∙◌, arith}
-use Rattle.std.specs.Prelude.{ℤ, slice_index_or}
-use Rattle.std.specs.List.{flat_map, range_with_len}
-use Rattle.std.proofs.lemmas.List.{take_more, take_all}
-use Rattle.std.proofs.lemmas.List.FromFn.{length-range_with_len, get_or-range_with_len}
-use Rattle.crn_vec.specs.Sums.{label_marks}
-use Rattle.crn_vec.proofs.CallerLemmas.{flat_map_push}
+use Rattle.crn_reg.proofs.Prelude.{◌≡◌, ◌+◌, ◌++◌, ◌<◌, ℕ, List, take, append_assoc, ap, sym, ◌∙◌, arith, ℤ, slice_index_or, flat_map, range_with_len, take_more, take_all, length-range_with_len, get_or-range_with_len, label_marks, flat_map_push}
 use Rattle.crn_reg.proofs.matrix.put_classes.Goals as goal
 
 pub loop-k-preserved : goal.loop-k-preserved

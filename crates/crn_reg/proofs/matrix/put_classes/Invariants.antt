@@ -1,8 +1,4 @@
-use Rattle.std.proofs.Common.{◌≡◌, ◌++◌, take}
-use Rattle.std.specs.List.{flat_map, range_with_len}
-use Rattle.crn_vec.specs.Vectors.{AreWithin}
-use Rattle.crn_vec.specs.Sums.{label_marks}
-use Rattle.crn_vec.specs.declared.limits.TheConstants.{MAX_AMOUNT}
+use Rattle.crn_reg.proofs.Prelude.{◌≡◌, ◌++◌, take, flat_map, range_with_len, AreWithin, label_marks, MAX_AMOUNT}
 use Rattle.crn_reg.proofs.matrix.put_classes.Given as goal
 
 abbrev pub invariant-loop-k : goal.invariant-loop-k

@@ -1,11 +1,5 @@
-use Rattle.std.proofs.Common.{◌≡◌, ◌++◌, ◌==◌, ℕ, List, [], ◌∷◌, take, get_or, ap, sym, subst, ◌∙◌, arith, to_z, of_z}
-use Rattle.std.specs.Prelude.{ℤ, pos, if◌then◌else◌}
-use Rattle.std.specs.Int.{w128}
-use Rattle.std.proofs.lemmas.List.{take_more, take_all, append_assoc, map-append}
-use Rattle.crn_vec.specs.Vectors.{AreWithin}
-use Rattle.crn_vec.specs.Sums.{label_marks}
-use Rattle.crn_vec.specs.declared.limits.TheConstants.{MAX_AMOUNT}
-use Rattle.crn_vec.proofs.CallerLemmas.{held, within_append}
+use Rattle.crn_reg.proofs.Prelude.{◌≡◌, ◌++◌, ◌==◌, ℕ, List, [], ◌∷◌, take, get_or, ap, sym, subst, ◌∙◌, arith, to_z, of_z, ℤ, pos, if◌then◌else◌, w128, take_more, take_all, map-append, AreWithin, label_marks, MAX_AMOUNT, held, within_append}
+use Rattle.std.proofs.lemmas.List.{append_assoc}
 use Rattle.crn_reg.proofs.matrix.put_marks.Goals as goal
 
 pub loop-c-preserved : goal.loop-c-preserved

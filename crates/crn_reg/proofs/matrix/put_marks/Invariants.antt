@@ -1,7 +1,4 @@
-use Rattle.std.proofs.Common.{◌≡◌, ◌++◌, take}
-use Rattle.crn_vec.specs.Vectors.{AreWithin}
-use Rattle.crn_vec.specs.Sums.{label_marks}
-use Rattle.crn_vec.specs.declared.limits.TheConstants.{MAX_AMOUNT}
+use Rattle.crn_reg.proofs.Prelude.{◌≡◌, ◌++◌, take, AreWithin, label_marks, MAX_AMOUNT}
 use Rattle.crn_reg.proofs.matrix.put_marks.Given as goal
 
 abbrev pub invariant-loop-c : goal.invariant-loop-c

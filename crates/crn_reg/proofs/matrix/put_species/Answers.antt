@@ -1,10 +1,5 @@
-use Rattle.std.proofs.Common.{◌≡◌, ◌++◌, ◌<◌, List, [], ◌∷◌, length, take, ap, sym, subst, ◌∙◌, arith, to_z, of_z}
-use Rattle.std.specs.Prelude.{ℤ, pos}
-use Rattle.std.specs.Int.{w128}
-use Rattle.std.proofs.lemmas.List.{take_more, take_all, append_assoc}
-use Rattle.crn_vec.specs.Vectors.{AreWithin, column, entry}
-use Rattle.crn_vec.specs.declared.limits.TheConstants.{MAX_AMOUNT}
-use Rattle.crn_vec.proofs.CallerLemmas.{entry-column, length-column, within_at, held, amounts_within, within_append}
+use Rattle.crn_reg.proofs.Prelude.{◌≡◌, ◌++◌, ◌<◌, List, [], ◌∷◌, length, take, ap, sym, subst, ◌∙◌, arith, to_z, of_z, ℤ, pos, w128, take_more, take_all, AreWithin, column, entry, MAX_AMOUNT, entry-column, length-column, within_at, held, amounts_within, within_append}
+use Rattle.std.proofs.lemmas.List.{append_assoc}
 use Rattle.crn_reg.proofs.matrix.put_species.Goals as goal
 
 pub loop-c-preserved : goal.loop-c-preserved

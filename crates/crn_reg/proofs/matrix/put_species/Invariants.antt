@@ -1,6 +1,4 @@
-use Rattle.std.proofs.Common.{◌≡◌, ◌++◌, take}
-use Rattle.crn_vec.specs.Vectors.{AreWithin, column}
-use Rattle.crn_vec.specs.declared.limits.TheConstants.{MAX_AMOUNT}
+use Rattle.crn_reg.proofs.Prelude.{◌≡◌, ◌++◌, take, AreWithin, column, MAX_AMOUNT}
 use Rattle.crn_reg.proofs.matrix.put_species.Given as goal
 
 abbrev pub invariant-loop-c : goal.invariant-loop-c

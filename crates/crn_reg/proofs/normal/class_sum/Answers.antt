@@ -1,11 +1,4 @@
-use Rattle.std.proofs.Common.{◌≡◌, ◌≤◌, ◌*◌, ◌+◌, ◌<◌, ◌==◌, ◌∙◌, length, take, ap, sym, arith, to_z}
-use Rattle.std.specs.Prelude.{ℤ, pos, ◌+ℤ◌, ◌*ℤ◌, unsigned_abs, if◌then◌else◌}
-use Rattle.std.specs.Int.{w128}
-use Rattle.std.proofs.lemmas.List.{get_or-map, length-map}
-use Rattle.crn_vec.specs.Vectors.{dot, entry}
-use Rattle.crn_vec.specs.Sums.{label_marks}
-use Rattle.crn_vec.specs.declared.limits.TheConstants.{WIDE_ENTRY}
-use Rattle.crn_vec.proofs.CallerLemmas.{held, sum_within, dot_step, next_sum}
+use Rattle.crn_reg.proofs.Prelude.{◌≡◌, ◌≤◌, ◌*◌, ◌+◌, ◌<◌, ◌==◌, ◌∙◌, length, take, ap, sym, arith, to_z, ℤ, pos, ◌+ℤ◌, ◌*ℤ◌, unsigned_abs, if◌then◌else◌, w128, get_or-map, length-map, dot, entry, label_marks, WIDE_ENTRY, held, sum_within, dot_step, next_sum}
 use Rattle.crn_reg.proofs.normal.class_sum.Goals as goal
 
 pub loop-c-preserved : goal.loop-c-preserved

@@ -1,8 +1,4 @@
-use Rattle.std.proofs.Common.{◌≡◌, ◌≤◌, ◌*◌, take}
-use Rattle.std.specs.Prelude.{unsigned_abs}
-use Rattle.crn_vec.specs.declared.limits.TheConstants.{WIDE_ENTRY}
-use Rattle.crn_vec.specs.Vectors.{dot}
-use Rattle.crn_vec.specs.Sums.{label_marks}
+use Rattle.crn_reg.proofs.Prelude.{◌≡◌, ◌≤◌, ◌*◌, take, unsigned_abs, WIDE_ENTRY, dot, label_marks}
 use Rattle.crn_reg.proofs.normal.class_sum.Given as goal
 
 abbrev pub invariant-loop-c : goal.invariant-loop-c

@@ -1,4 +1,4 @@
-use Rattle.crn_reg.specs.Inner.Normal.{AreZeroBefore}
+use Rattle.crn_reg.proofs.Prelude.{AreZeroBefore}
 use Rattle.crn_reg.proofs.normal.first_sum.Given as goal
 
 abbrev pub invariant-loop-m : goal.invariant-loop-m

@@ -1,4 +1,4 @@
-use Rattle.std.proofs.Common.{length, ap, ◌∙◌, arith}
+use Rattle.crn_reg.proofs.Prelude.{length, ap, ◌∙◌, arith}
 use Rattle.crn_reg.proofs.Negatives.{negated_by}
 use Rattle.crn_reg.proofs.normal.negate.Goals as goal
 

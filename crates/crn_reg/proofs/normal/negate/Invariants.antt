@@ -1,6 +1,4 @@
-use Rattle.std.proofs.Common.{◌≡◌, ◌<◌, ◌≤◌, ℕ, length}
-use Rattle.std.specs.Prelude.{neg_ℤ}
-use Rattle.crn_vec.specs.Vectors.{entry}
+use Rattle.crn_reg.proofs.Prelude.{◌≡◌, ◌<◌, ◌≤◌, ℕ, length, neg_ℤ, entry}
 use Rattle.crn_reg.proofs.normal.negate.Given as goal
 
 abbrev pub invariant-loop-c : goal.invariant-loop-c

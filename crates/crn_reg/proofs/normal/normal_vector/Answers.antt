@@ -1,8 +1,4 @@
-use Rattle.std.proofs.Common.{List, sym, subst, arith}
-use Rattle.std.specs.Prelude.{ℤ}
-use Rattle.std.proofs.lemmas.Int.{ints}
-use Rattle.crn_vec.specs.Confluence.{LeadsPositive}
-use Rattle.crn_reg.specs.Inner.Normal.{IsFirstEntry, IsFirstSum, GathersFirst}
+use Rattle.crn_reg.proofs.Prelude.{List, sym, subst, arith, ℤ, ints, LeadsPositive, IsFirstEntry, IsFirstSum, GathersFirst}
 use Rattle.crn_reg.proofs.Negatives.{leads_kept, leads_negated, gathers_kept, gathers_negated}
 use Rattle.crn_reg.proofs.normal.normal_vector.Goals as goal
 

@@ -1,8 +1,4 @@
-use Rattle.std.proofs.Common.{◌≡◌, ◌+◌, ◌∷◌, ◌++◌, [], List, ℕ, length, ap, sym, subst, ◌∙◌, arith}
-use Rattle.crn_vec.specs.CutPairs.{ArePairs}
-use Rattle.crn_cert.specs.Says.{from_zero}
-use Rattle.crn_pairs.specs.Pairs.{pairs_to}
-use Rattle.crn_pairs.proofs.CallerLemmas.{pairs_yes, pairs_no}
+use Rattle.crn_reg.proofs.Prelude.{◌≡◌, ◌+◌, ◌∷◌, ◌++◌, [], List, ℕ, length, ap, sym, subst, ◌∙◌, arith, ArePairs, from_zero, pairs_to, pairs_yes, pairs_no}
 use Rattle.crn_reg.proofs.RegularAnswers.{pairs_are}
 use Rattle.crn_reg.proofs.pairs.pairs.Goals as goal
 use Rattle.crn_reg.proofs.pairs.pairs.Goals.{then-is_pair+in_ok-push, else-is_pair}

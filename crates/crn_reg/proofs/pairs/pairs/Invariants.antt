@@ -1,5 +1,4 @@
-use Rattle.std.proofs.Common.{◌≡◌}
-use Rattle.crn_pairs.specs.Pairs.{pairs_to}
+use Rattle.crn_reg.proofs.Prelude.{◌≡◌, pairs_to}
 use Rattle.crn_reg.proofs.pairs.pairs.Given as goal
 
 abbrev pub invariant-loop-r : goal.invariant-loop-r

@@ -1,9 +1,4 @@
-use Rattle.std.proofs.Common.{ℕ, List, sym, subst, ◌∙◌}
-use Rattle.crn_vec.specs.CutPairs.{ArePairs}
-use Rattle.crn_cert.specs.Says.{from_zero}
-use Rattle.crn_cert.specs.Questions.{IsNo}
-use Rattle.crn_reg.specs.declared.sides.Sides.TheVariants.{All, Cycle}
-use Rattle.crn_reg.specs.Inner.Pairs.{GivesSides}
+use Rattle.crn_reg.proofs.Prelude.{ℕ, List, sym, subst, ◌∙◌, ArePairs, from_zero, IsNo, All, Cycle, GivesSides}
 use Rattle.crn_reg.proofs.RegularAnswers.{Ready, pairs_from, sides_answer, cycle_answer, not_a_no}
 use Rattle.crn_reg.proofs.regularity.regular.Goals as goal
 

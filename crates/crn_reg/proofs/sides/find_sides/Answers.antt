@@ -1,9 +1,4 @@
-use Rattle.std.proofs.Common.{◌≡◌, ◌++◌, ◌∷◌, [], ℕ, List, take, get_or, sym, subst}
-use Rattle.std.specs.Prelude.{ℤ}
-use Rattle.std.specs.List.{AllZip}
-use Rattle.std.proofs.lemmas.List.{take_more}
-use Rattle.crn_vec.proofs.CallerLemmas.{at_in}
-use Rattle.crn_graph.specs.Pair.{HasSide, GivesCutPair}
+use Rattle.crn_reg.proofs.Prelude.{◌≡◌, ◌++◌, ◌∷◌, [], ℕ, List, take, get_or, sym, subst, ℤ, AllZip, take_more, at_in, HasSide, GivesCutPair}
 use Rattle.crn_reg.proofs.SidesMore.{sides_push}
 use Rattle.crn_reg.proofs.sides.find_sides.Goals as goal
 

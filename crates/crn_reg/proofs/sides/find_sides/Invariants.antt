@@ -1,6 +1,4 @@
-use Rattle.std.proofs.Common.{take}
-use Rattle.std.specs.List.{AllZip}
-use Rattle.crn_graph.specs.Pair.{HasSide}
+use Rattle.crn_reg.proofs.Prelude.{take, AllZip, HasSide}
 use Rattle.crn_reg.proofs.sides.find_sides.Given as goal
 
 abbrev pub invariant-loop-r : goal.invariant-loop-r

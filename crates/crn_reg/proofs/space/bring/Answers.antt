@@ -1,9 +1,5 @@
-use Rattle.std.proofs.Common.{◌≡◌, ap, ◌∙◌, arith}
-use Rattle.std.specs.Prelude.{ℤ, pos, ◌*ℤ◌}
-use Rattle.std.proofs.lemmas.Int.{ints}
+use Rattle.crn_reg.proofs.Prelude.{◌≡◌, ap, ◌∙◌, arith, ℤ, pos, ◌*ℤ◌, ints, entry, no_zero}
 use lib.IntN.{zero-*ℤ}
-use Rattle.crn_vec.specs.Vectors.{entry}
-use Rattle.crn_vec.proofs.CallerLemmas.{no_zero}
 use Rattle.crn_reg.proofs.space.bring.Goals as goal
 
 pub pivot-requires-clause-some : goal.pivot-requires-clause-some

@@ -1,6 +1,4 @@
-use Rattle.std.proofs.Common.{◌≡◌, ℕ, ap, sym, subst, ◌∙◌}
-use Rattle.crn_vec.specs.Vectors.{Mat}
-use Rattle.crn_tab.specs.Tableau.{AreEntered}
+use Rattle.crn_reg.proofs.Prelude.{◌≡◌, ℕ, ap, sym, subst, ◌∙◌, Mat, AreEntered}
 use Rattle.crn_reg.proofs.space.find_space.Goals as goal
 
 pub by_columns-requires : goal.by_columns-requires

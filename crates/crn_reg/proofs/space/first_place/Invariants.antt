@@ -1,6 +1,4 @@
-use Rattle.std.proofs.Common.{◌≡◌, ◌<◌, ℕ}
-use Rattle.std.specs.Prelude.{pos}
-use Rattle.crn_vec.specs.Vectors.{entry}
+use Rattle.crn_reg.proofs.Prelude.{◌≡◌, ◌<◌, ℕ, pos, entry}
 use Rattle.crn_reg.proofs.space.first_place.Given as goal
 
 abbrev pub invariant-loop-c : goal.invariant-loop-c

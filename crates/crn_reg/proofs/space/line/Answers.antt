@@ -1,8 +1,4 @@
-use Rattle.std.proofs.Common.{◌≡◌, ◌<◌, List, inl, inr, ap, subst, arith}
-use Rattle.std.specs.Prelude.{ℤ}
-use Rattle.crn_vec.specs.Vectors.{Mat}
-use Rattle.crn_vec.proofs.CallerLemmas.{lt_or, past_end}
-use Rattle.crn_reg.specs.Inner.Spaces.{IsFirstPlace, AreTies}
+use Rattle.crn_reg.proofs.Prelude.{◌≡◌, ◌<◌, List, inl, inr, ap, subst, arith, ℤ, Mat, lt_or, past_end, IsFirstPlace, AreTies}
 use Rattle.crn_reg.proofs.Named.{no_other, one_by}
 use Rattle.crn_reg.proofs.space.line.Goals as goal
 

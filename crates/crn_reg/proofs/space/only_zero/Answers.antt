@@ -1,5 +1,4 @@
-use Rattle.std.proofs.Common.{ℕ, subst, arith}
-use Rattle.crn_reg.specs.Inner.Spaces.{AreTies}
+use Rattle.crn_reg.proofs.Prelude.{ℕ, subst, arith, AreTies}
 use Rattle.crn_reg.proofs.Named.{none_by}
 use Rattle.crn_reg.proofs.space.only_zero.Goals as goal
 

@@ -1,7 +1,4 @@
-use Rattle.std.proofs.Common.{◌≡◌, drop}
-use Rattle.crn_vec.specs.Kept.{KeptInts}
-use Rattle.crn_vec.proofs.CallerLemmas.{if_ok}
-use Rattle.crn_reg.specs.Inner.Spaces.{IsTieOf}
+use Rattle.crn_reg.proofs.Prelude.{◌≡◌, drop, KeptInts, if_ok, IsTieOf}
 use Rattle.crn_reg.proofs.Named.{tie_by}
 use Rattle.crn_reg.proofs.ties.tie_of.Goals as goal
 

@@ -1,7 +1,4 @@
-use Rattle.std.proofs.Common.{◌+◌, List, length, ap, sym, subst, ◌∙◌}
-use Rattle.std.specs.Prelude.{ℤ}
-use Rattle.std.specs.List.{AllZip}
-use Rattle.crn_reg.specs.Inner.Spaces.{IsTieOf, numbers_but}
+use Rattle.crn_reg.proofs.Prelude.{◌+◌, List, length, ap, sym, subst, ◌∙◌, ℤ, AllZip, IsTieOf, numbers_but}
 use Rattle.crn_reg.proofs.Named.{ties_more, ties_same}
 use Rattle.crn_reg.proofs.ties.ties.Goals as goal
 use Rattle.crn_reg.proofs.ties.ties.Goals.{then-c-spared+in_ok-tie_of+in_ok-push, else-c-spared}

@@ -1,7 +1,4 @@
-use Rattle.std.proofs.Common.{◌≡◌, length}
-use Rattle.std.specs.List.{AllZip}
-use Rattle.crn_vec.specs.Elementary.{width}
-use Rattle.crn_reg.specs.Inner.Spaces.{IsTieOf, numbers_but}
+use Rattle.crn_reg.proofs.Prelude.{◌≡◌, length, AllZip, width, IsTieOf, numbers_but}
 use Rattle.crn_reg.proofs.ties.ties.Given as goal
 
 abbrev pub invariant-loop-c : goal.invariant-loop-c

@@ -1,4 +1,4 @@
-use Rattle.std.proofs.Common.{length}
+use Rattle.crn_render.proofs.Prelude.{length}
 use Rattle.crn_render.proofs.classes.+others.Given as goal
 
 abbrev pub decreases-others : goal.decreases-others

@@ -1,6 +1,4 @@
-use Rattle.std.proofs.lemmas.Result.{err_from_is_err_and}
-use Rattle.crn_io.proofs.CallerLemmas.{WroteAll-step, WrotePrefix-step, Wrote-prefix}
-use Rattle.crn_render.specs.Details.{class_line}
+use Rattle.crn_render.proofs.Prelude.{err_from_is_err_and, WroteAll-step, WrotePrefix-step, Wrote-prefix, class_line}
 use Rattle.crn_render.proofs.ClassLines.{lines_step, lines_whole}
 use Rattle.crn_render.proofs.classes.put_classes.Goals as goal
 

@@ -1,5 +1,4 @@
-use Rattle.crn_io.specs.Write.{WroteAll}
-use Rattle.crn_render.specs.Details.{class_line, lines_from}
+use Rattle.crn_render.proofs.Prelude.{WroteAll, class_line, lines_from}
 use Rattle.crn_render.proofs.classes.put_classes.Given as goal
 
 abbrev pub invariant-loop-k : goal.invariant-loop-k

@@ -1,9 +1,4 @@
-use Rattle.std.proofs.Common.{◌≡◌, ◌≢◌, ◌<◌, ◌≤◌, ◌+◌, ℕ, List, length, get_or, take, refl, subst, sym, ◌∙◌, arith, take_all}
-use Rattle.std.specs.List.{AllByRecursion}
-use Rattle.std.proofs.lemmas.Result.{err_from_is_err_and}
-use Rattle.std.proofs.lemmas.List.{get_or-drop, length-drop}
-use Rattle.crn_io.proofs.CallerLemmas.{WroteAll-none, WroteAll-step, WrotePrefix-step, Wrote-all, Wrote-prefix}
-use Rattle.crn_render.specs.Details.{complex_texts}
+use Rattle.crn_render.proofs.Prelude.{◌≡◌, ◌≢◌, ◌<◌, ◌≤◌, ◌+◌, ℕ, List, length, get_or, take, refl, subst, sym, ◌∙◌, arith, take_all, AllByRecursion, err_from_is_err_and, get_or-drop, length-drop, WroteAll-none, WroteAll-step, WrotePrefix-step, Wrote-all, Wrote-prefix, complex_texts}
 use Rattle.crn_render.proofs.ClassLines.{sides_count, members_none, members_skip, members_count, members_step, members_whole}
 use Rattle.crn_render.proofs.classes.put_members.Goals as goal
 

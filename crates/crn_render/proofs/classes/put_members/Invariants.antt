@@ -1,7 +1,4 @@
-use Rattle.std.proofs.Common.{◌≡◌, ◌≤◌, ◌<◌, ◌-◌, take, length, get_or, codes}
-use Rattle.crn_io.specs.Joined.{joined}
-use Rattle.crn_io.specs.Write.{WroteAll}
-use Rattle.crn_render.specs.Details.{of_label, complex_texts}
+use Rattle.crn_render.proofs.Prelude.{◌≡◌, ◌≤◌, ◌<◌, ◌-◌, take, length, get_or, codes, joined, WroteAll, of_label, complex_texts}
 use Rattle.crn_render.proofs.classes.put_members.Given as goal
 
 abbrev pub invariant-loop-c : goal.invariant-loop-c

@@ -1,5 +1,4 @@
-use Rattle.crn_io.specs.Write.{WroteAll}
-use Rattle.crn_render.specs.Details.{strong_line, lines_from}
+use Rattle.crn_render.proofs.Prelude.{WroteAll, strong_line, lines_from}
 use Rattle.crn_render.proofs.classes.put_strong_classes.Given as goal
 
 abbrev pub invariant-loop-k : goal.invariant-loop-k

@@ -1,5 +1,4 @@
-use Rattle.std.proofs.lemmas.Result.{err_from_is_err_and}
-use Rattle.crn_io.proofs.CallerLemmas.{WrotePrefix-more, Wrote-prefix, Wrote-then}
+use Rattle.crn_render.proofs.Prelude.{err_from_is_err_and, WrotePrefix-more, Wrote-prefix, Wrote-then}
 use Rattle.crn_render.proofs.details.put_two_vectors.Goals as goal
 
 pub returns-in_err-put_vector_entry : goal.returns-in_err-put_vector_entry

@@ -1,8 +1,5 @@
-use Rattle.std.proofs.Common.{arith, codes, ◌<◌, length}
-use Rattle.std.proofs.lemmas.Result.{err_from_is_err_and}
-use Rattle.crn_io.proofs.CallerLemmas.{WroteAll-step, WrotePrefix-step, Wrote-all, Wrote-prefix}
+use Rattle.crn_render.proofs.Prelude.{arith, codes, ◌<◌, length, err_from_is_err_and, WroteAll-step, WrotePrefix-step, Wrote-all, Wrote-prefix, side}
 use Rattle.std.specs.Prelude.{[]}
-use Rattle.crn_text.specs.Canonical.{side}
 use Rattle.crn_render.proofs.Texts.{mapped_step, mapped_whole, mapped_all}
 use Rattle.crn_render.proofs.parts.put_complexes.Goals as goal
 

@@ -1,8 +1,4 @@
-use Rattle.std.proofs.Common.{take, codes}
-use Rattle.std.specs.Prelude.{map}
-use Rattle.crn_io.specs.Joined.{joined}
-use Rattle.crn_io.specs.Write.{WroteAll}
-use Rattle.crn_text.specs.Canonical.{side}
+use Rattle.crn_render.proofs.Prelude.{take, codes, map, joined, WroteAll, side}
 use Rattle.crn_render.proofs.parts.put_complexes.Given as goal
 
 abbrev pub invariant-loop-c : goal.invariant-loop-c

@@ -1,8 +1,4 @@
-use Rattle.std.proofs.Common.{take, codes}
-use Rattle.std.specs.Prelude.{map}
-use Rattle.crn_io.specs.Joined.{joined}
-use Rattle.crn_io.specs.Write.{WroteAll}
-use Rattle.std.specs.Prelude.{decimal}
+use Rattle.crn_render.proofs.Prelude.{take, codes, map, joined, WroteAll, decimal}
 use Rattle.crn_render.proofs.parts.put_numbers.Given as goal
 
 abbrev pub invariant-loop-i : goal.invariant-loop-i

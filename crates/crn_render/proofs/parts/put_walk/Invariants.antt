@@ -1,9 +1,5 @@
-use Rattle.std.proofs.Common.{take, codes}
-use Rattle.std.specs.Prelude.{map}
-use Rattle.crn_io.specs.Joined.{joined}
-use Rattle.crn_io.specs.Write.{WroteAll}
+use Rattle.crn_render.proofs.Prelude.{take, codes, map, joined, WroteAll, complex_text}
 use Rattle.std.specs.Prelude.{◌-◌}
-use Rattle.crn_text.specs.Canonical.{complex_text}
 use Rattle.crn_render.proofs.parts.put_walk.Given as goal
 
 abbrev pub invariant-loop-i : goal.invariant-loop-i

@@ -1,5 +1,4 @@
-use Rattle.std.proofs.Common.{◌≡◌, ◌<◌, length, arith, take, ◌+◌}
-use Rattle.crn_render.specs.Report.{open_count, one_if_open}
+use Rattle.crn_render.proofs.Prelude.{◌≡◌, ◌<◌, length, arith, take, ◌+◌, open_count, one_if_open}
 use Rattle.crn_render.proofs.Readings.{got_here, open_step, one_or_none}
 use Rattle.crn_render.proofs.report.open_questions.Goals as goal
 

@@ -1,5 +1,4 @@
-use Rattle.std.proofs.Common.{◌≡◌, ◌≤◌, take}
-use Rattle.crn_render.specs.Report.{open_count}
+use Rattle.crn_render.proofs.Prelude.{◌≡◌, ◌≤◌, take, open_count}
 use Rattle.crn_render.proofs.report.open_questions.Given as goal
 
 abbrev pub invariant-loop-place : goal.invariant-loop-place

@@ -1,6 +1,4 @@
-use Rattle.std.proofs.Common.{arith, codes, ◌<◌, length, take_all}
-use Rattle.std.proofs.lemmas.Result.{err_from_is_err_and}
-use Rattle.crn_io.proofs.CallerLemmas.{WroteAll-step, WrotePrefix-step, Wrote-all, Wrote-prefix, joined_step, joined_whole}
+use Rattle.crn_render.proofs.Prelude.{arith, codes, ◌<◌, length, take_all, err_from_is_err_and, WroteAll-step, WrotePrefix-step, Wrote-all, Wrote-prefix, joined_step, joined_whole}
 use Rattle.crn_render.proofs.report.put_names.Goals as goal
 
 pub loop-s-preserved : goal.loop-s-preserved

@@ -1,6 +1,4 @@
-use Rattle.std.proofs.Common.{take, codes}
-use Rattle.crn_io.specs.Joined.{joined}
-use Rattle.crn_io.specs.Write.{WroteAll}
+use Rattle.crn_render.proofs.Prelude.{take, codes, joined, WroteAll}
 use Rattle.crn_render.proofs.report.put_names.Given as goal
 
 abbrev pub invariant-loop-s : goal.invariant-loop-s

@@ -1,9 +1,4 @@
-use Rattle.std.proofs.Common.{◌≡◌, ◌<◌, ◌+◌, ◌-◌, ℕ, [], length, get_or, ap, arith}
-use Rattle.std.proofs.lemmas.Result.{err_from_is_err_and}
-use Rattle.crn_io.proofs.CallerLemmas.{WroteAll-step, WrotePrefix-step, Wrote-all, Wrote-prefix}
-use Rattle.crn_cert.specs.Built.{built}
-use Rattle.crn_cert.specs.Questions.{Q1}
-use Rattle.crn_cert.proofs.CallerLemmas.{some_number, few_numbers}
+use Rattle.crn_render.proofs.Prelude.{◌≡◌, ◌<◌, ◌+◌, ◌-◌, ℕ, [], length, get_or, ap, arith, err_from_is_err_and, WroteAll-step, WrotePrefix-step, Wrote-all, Wrote-prefix, built, Q1, some_number, few_numbers}
 use Rattle.crn_render.proofs.Readings.{verdicts_count, all_readable, got_here, questions_step, questions_whole, questions_all}
 use Rattle.crn_render.proofs.report.put_questions.Goals as goal
 

@@ -1,8 +1,4 @@
-use Rattle.std.proofs.Common.{take}
-use Rattle.std.specs.List.{flat_map, zip}
-use Rattle.crn_io.specs.Write.{WroteAll}
-use Rattle.crn_cert.specs.Built.{built}
-use Rattle.crn_render.specs.Report.{question_lines}
+use Rattle.crn_render.proofs.Prelude.{take, flat_map, zip, WroteAll, built, question_lines}
 use Rattle.crn_render.proofs.report.put_questions.Given as goal
 
 abbrev pub invariant-loop-place : goal.invariant-loop-place

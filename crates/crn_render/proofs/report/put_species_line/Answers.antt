@@ -1,6 +1,4 @@
-use Rattle.std.proofs.lemmas.Result.{err_from_is_err_and}
-use Rattle.crn_io.proofs.CallerLemmas.{WroteAll-then, WrotePrefix-then, WrotePrefix-more, Wrote-prefix, Wrote-then}
-use Rattle.crn_render.specs.Report.{species_line}
+use Rattle.crn_render.proofs.Prelude.{err_from_is_err_and, WroteAll-then, WrotePrefix-then, WrotePrefix-more, Wrote-prefix, Wrote-then, species_line}
 use Rattle.crn_render.proofs.report.put_species_line.Goals as goal
 
 pub returns-in_err-put_number : goal.returns-in_err-put_number

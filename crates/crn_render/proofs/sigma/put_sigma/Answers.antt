@@ -1,10 +1,4 @@
-use Rattle.std.proofs.Common.{◌≡◌, ◌<◌, ◌∙◌, length, get_or, codes, arith, sym}
-use Rattle.std.specs.Prelude.{pos}
-use Rattle.std.specs.Fmt.{signed_decimal}
-use Rattle.std.proofs.lemmas.Result.{err_from_is_err_and}
-use Rattle.crn_io.proofs.CallerLemmas.{WroteAll-step, WrotePrefix-step, Wrote-all, Wrote-prefix}
-use Rattle.crn_vec.proofs.CallerLemmas.{held}
-use Rattle.crn_render.specs.Details.{sigma}
+use Rattle.crn_render.proofs.Prelude.{◌≡◌, ◌<◌, ◌∙◌, length, get_or, codes, arith, sym, pos, signed_decimal, err_from_is_err_and, WroteAll-step, WrotePrefix-step, Wrote-all, Wrote-prefix, held, sigma}
 use Rattle.crn_render.proofs.Texts.{mapped_step, mapped_whole, mapped_all}
 use Rattle.crn_render.proofs.SumEntries.{sigma_count, sigma_entry}
 use Rattle.crn_render.proofs.sigma.put_sigma.Goals as goal

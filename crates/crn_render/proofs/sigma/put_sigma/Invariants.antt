@@ -1,9 +1,4 @@
-use Rattle.std.proofs.Common.{take, codes}
-use Rattle.std.specs.Prelude.{map}
-use Rattle.std.specs.Fmt.{signed_decimal}
-use Rattle.crn_io.specs.Joined.{joined}
-use Rattle.crn_io.specs.Write.{WroteAll}
-use Rattle.crn_render.specs.Details.{sigma}
+use Rattle.crn_render.proofs.Prelude.{take, codes, map, signed_decimal, joined, WroteAll, sigma}
 use Rattle.crn_render.proofs.sigma.put_sigma.Given as goal
 
 abbrev pub invariant-loop-s : goal.invariant-loop-s

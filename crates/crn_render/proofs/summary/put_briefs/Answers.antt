@@ -1,6 +1,4 @@
-use Rattle.std.proofs.Common.{◌<◌, length, arith, take_all}
-use Rattle.std.proofs.lemmas.Result.{err_from_is_err_and}
-use Rattle.crn_io.proofs.CallerLemmas.{WroteAll-step, WrotePrefix-step, Wrote-all, Wrote-prefix}
+use Rattle.crn_render.proofs.Prelude.{◌<◌, length, arith, take_all, err_from_is_err_and, WroteAll-step, WrotePrefix-step, Wrote-all, Wrote-prefix}
 use Rattle.crn_render.proofs.Briefs.{briefs_step, briefs_whole}
 use Rattle.crn_render.proofs.Readings.{got_here}
 use Rattle.crn_render.proofs.summary.put_briefs.Goals as goal

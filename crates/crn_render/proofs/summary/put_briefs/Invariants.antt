@@ -1,6 +1,4 @@
-use Rattle.std.proofs.Common.{take}
-use Rattle.crn_io.specs.Write.{WroteAll}
-use Rattle.crn_render.specs.Summary.{briefs}
+use Rattle.crn_render.proofs.Prelude.{take, WroteAll, briefs}
 use Rattle.crn_render.proofs.summary.put_briefs.Given as goal
 
 abbrev pub invariant-loop-place : goal.invariant-loop-place

@@ -1,7 +1,4 @@
-use Rattle.std.proofs.Common.{codes}
-use Rattle.std.proofs.lemmas.Result.{err_from_is_err_and}
-use Rattle.crn_io.proofs.CallerLemmas.{WroteAll-then, WrotePrefix-then, WrotePrefix-more, Wrote-prefix, Wrote-then}
-use Rattle.crn_render.specs.Summary.{briefs, verdicts_line}
+use Rattle.crn_render.proofs.Prelude.{codes, err_from_is_err_and, WroteAll-then, WrotePrefix-then, WrotePrefix-more, Wrote-prefix, Wrote-then, briefs, verdicts_line}
 use Rattle.crn_render.proofs.summary.put_verdicts_line.Goals as goal
 
 pub returns-in_err-put_all : goal.returns-in_err-put_all

@@ -1,8 +1,4 @@
-use Rattle.std.proofs.Common.{◌≡◌, ℕ, ◌+◌, ◌-◌, List, sym, ap, subst, ◌∙◌, arith}
-use Rattle.crn_cert.specs.declared.answer.Verdict.{Verdict}
-use Rattle.crn_cert.specs.Questions.{Q2, on, labels_of, exits_of}
-use Rattle.crn_robust.specs.Robust.{IsLeastPair}
-use Rattle.crn_robust.specs.Inner.Pairs.{HasStrong}
+use Rattle.crn_robust.proofs.Prelude.{◌≡◌, ℕ, ◌+◌, ◌-◌, List, sym, ap, subst, ◌∙◌, arith, Verdict, Q2, on, labels_of, exits_of, IsLeastPair, HasStrong}
 use Rattle.crn_robust.proofs.Known.{strong_known}
 use Rattle.crn_robust.proofs.Pairs.{pair_small}
 use Rattle.crn_robust.proofs.case.case_of_one.Goals as goal

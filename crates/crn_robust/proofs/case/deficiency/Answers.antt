@@ -1,6 +1,4 @@
-use Rattle.std.proofs.Common.{◌≡◌, ap, ◌∙◌, arith}
-use Rattle.crn_cert.specs.declared.answer.Verdict.{Verdict}
-use Rattle.crn_cert.specs.Questions.{Q1, on, count_of}
+use Rattle.crn_robust.proofs.Prelude.{◌≡◌, ap, ◌∙◌, arith, Verdict, Q1, on, count_of}
 use Rattle.crn_robust.proofs.Known.{classes_known, classes_leave, deficiency_by}
 use Rattle.crn_robust.proofs.case.deficiency.Goals as goal
 

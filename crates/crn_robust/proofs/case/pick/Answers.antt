@@ -1,6 +1,4 @@
-use Rattle.std.proofs.Common.{inl, refl, sym, subst, ◌∙◌}
-use Rattle.crn_cert.specs.Questions.{Q5, IsOpen}
-use Rattle.crn_cert.specs.Law.{IsTrueOrOpen}
+use Rattle.crn_robust.proofs.Prelude.{inl, refl, sym, subst, ◌∙◌, Q5, IsOpen, IsTrueOrOpen}
 use Rattle.crn_robust.proofs.Known.{rank_known, rank_in, open_if_other}
 use Rattle.crn_robust.proofs.case.pick.Goals as goal
 

@@ -1,5 +1,4 @@
-use Rattle.crn_ctext.proofs.CallerLemmas.{documents_are_judged}
-use Rattle.crn_robust_text.specs.Document.{part, meant}
+use Rattle.crn_robust_text.proofs.Prelude.{documents_are_judged, part, meant}
 use Rattle.crn_robust_text.proofs.Settled.{course_settled}
 use Rattle.crn_robust_text.proofs.Answered.{robust_is_answered}
 use Rattle.crn_robust_text.proofs.laws.documents_on_robustness_are_judged.Goals as goal

@@ -1,8 +1,5 @@
-use Rattle.std.proofs.Common.{ℕ, ap, ◌∙◌}
-use Rattle.crn_ctext.specs.Kinds.{small}
-use Rattle.crn_robust_text.specs.Document.{words, case_forms}
+use Rattle.crn_robust_text.proofs.Prelude.{ℕ, ap, ◌∙◌, small, words, case_forms, forms_named}
 use Rattle.crn_robust_text.proofs.LinesRead.{case_forms_are}
-use Rattle.crn_reading.proofs.CallerLemmas.{forms_named}
 use Rattle.crn_robust_text.proofs.lines.next_case.Goals as goal
 
 pub returns-clause-step : goal.returns-clause-step

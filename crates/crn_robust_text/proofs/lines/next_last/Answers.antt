@@ -1,8 +1,5 @@
-use Rattle.std.proofs.Common.{[], ◌∷◌}
-use Rattle.crn_ctext.specs.Kinds.{end_form}
+use Rattle.crn_robust_text.proofs.Prelude.{[], ◌∷◌, end_form, words, forms_named}
 use Rattle.crn_robust_text.proofs.LinesRead.{last_forms_are}
-use Rattle.crn_robust_text.specs.Document.{words}
-use Rattle.crn_reading.proofs.CallerLemmas.{forms_named}
 use Rattle.crn_robust_text.proofs.lines.next_last.Goals as goal
 
 pub returns-clause-step : goal.returns-clause-step

@@ -1,6 +1,5 @@
-use Rattle.crn_robust_text.specs.Document.{words, line_forms}
+use Rattle.crn_robust_text.proofs.Prelude.{words, line_forms, forms_named}
 use Rattle.crn_robust_text.proofs.LinesRead.{line_forms_are}
-use Rattle.crn_reading.proofs.CallerLemmas.{forms_named}
 use Rattle.crn_robust_text.proofs.lines.next_line.Goals as goal
 
 pub returns-clause-step : goal.returns-clause-step

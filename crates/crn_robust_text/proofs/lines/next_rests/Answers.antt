@@ -1,6 +1,5 @@
-use Rattle.crn_robust_text.specs.Document.{words, rests_forms}
+use Rattle.crn_robust_text.proofs.Prelude.{words, rests_forms, forms_named}
 use Rattle.crn_robust_text.proofs.LinesRead.{rests_forms_are}
-use Rattle.crn_reading.proofs.CallerLemmas.{forms_named}
 use Rattle.crn_robust_text.proofs.lines.next_rests.Goals as goal
 
 pub returns-clause-step : goal.returns-clause-step

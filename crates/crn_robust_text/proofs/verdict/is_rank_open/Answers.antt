@@ -1,6 +1,4 @@
-use Rattle.std.proofs.Common.{sym, ap, ◌∙◌}
-use Rattle.crn_cert.specs.declared.answer.Verdict.{Verdict}
-use Rattle.crn_robust_text.specs.Document.{is_open}
+use Rattle.crn_robust_text.proofs.Prelude.{sym, ap, ◌∙◌, Verdict, is_open}
 use Rattle.crn_robust_text.proofs.VerdictsRead.{is_shut}
 use Rattle.crn_robust_text.proofs.verdict.is_rank_open.Goals as goal
 

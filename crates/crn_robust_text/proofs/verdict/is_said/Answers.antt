@@ -1,4 +1,4 @@
-use Rattle.std.proofs.Common.{◌∙◌, sym}
+use Rattle.crn_robust_text.proofs.Prelude.{◌∙◌, sym}
 use Rattle.crn_robust_text.proofs.verdict.is_said.Goals as goal
 
 pub returns-in-Yes : goal.returns-in-Yes

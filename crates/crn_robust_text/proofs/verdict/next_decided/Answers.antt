@@ -1,10 +1,4 @@
-use Rattle.std.proofs.Common.{◌≡◌, ◌∙◌, List, true, sym, subst}
-use Rattle.std.specs.Prelude.{ℤ, ◌↔◌}
-use Rattle.std.proofs.lemmas.Bool.{false≢true}
-use Rattle.std.proofs.lemmas.Result.{err_from_is_err_and}
-use Rattle.crn_reading.proofs.CallerLemmas.{step_exits}
-use Rattle.crn_robust_text.specs.Document.{case_in}
-use Rattle.crn_robust_text.specs.Inner.LinesRead.{AreSmall, CaseSaid, SaysOne}
+use Rattle.crn_robust_text.proofs.Prelude.{◌≡◌, ◌∙◌, List, true, sym, subst, ℤ, ◌↔◌, false≢true, err_from_is_err_and, step_exits, case_in, AreSmall, CaseSaid, SaysOne}
 use Rattle.crn_robust_text.proofs.VerdictsRead.{line_small, line_stops, case_small, case_said, case_stops, line_differs, line_agrees, line_refused, case_right, case_refused, both_right}
 use Rattle.crn_robust_text.proofs.verdict.next_decided.Goals as goal
 

@@ -1,7 +1,4 @@
-use Rattle.std.proofs.Common.{refl, sym, ◌∙◌}
-use Rattle.std.proofs.lemmas.Result.{err_from_is_err_and}
-use Rattle.crn_document.specs.Facts.{after_facts}
-use Rattle.crn_reading.proofs.CallerLemmas.{step_exits}
+use Rattle.crn_robust_text.proofs.Prelude.{refl, sym, ◌∙◌, err_from_is_err_and, after_facts, step_exits}
 use Rattle.crn_robust_text.proofs.VerdictsRead.{decides, rests_stops, rests_then, decided_stops, decided_then}
 use Rattle.crn_robust_text.proofs.verdict.next_verdict.Goals as goal
 

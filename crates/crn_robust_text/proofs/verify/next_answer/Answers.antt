@@ -1,6 +1,4 @@
-use Rattle.std.proofs.lemmas.Result.{err_from_is_err_and}
-use Rattle.crn_document.specs.Facts.{after_facts}
-use Rattle.crn_reading.proofs.CallerLemmas.{step_exits}
+use Rattle.crn_robust_text.proofs.Prelude.{err_from_is_err_and, after_facts, step_exits}
 use Rattle.crn_robust_text.proofs.DocumentsRead.{blocks_stop, blocks_then}
 use Rattle.crn_robust_text.proofs.verify.next_answer.Goals as goal
 

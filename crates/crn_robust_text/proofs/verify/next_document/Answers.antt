@@ -1,9 +1,4 @@
-use Rattle.std.proofs.Common.{Ok, Err, refl}
-use Rattle.std.proofs.lemmas.Result.{err_from_is_err_and}
-use Rattle.crn_ctext.specs.Parts.{part_course}
-use Rattle.crn_reading.proofs.CallerLemmas.{last_exits, head_stop, head_then, answer_stops, answer_then}
-use Rattle.crn_robust_text.specs.Document.{IsReadAs, part}
-use Rattle.crn_robust_text.specs.declared.verify.Verified.{Verified}
+use Rattle.crn_robust_text.proofs.Prelude.{Ok, Err, refl, err_from_is_err_and, part_course, last_exits, head_stop, head_then, answer_stops, answer_then, IsReadAs, part, Verified}
 use Rattle.crn_robust_text.proofs.DocumentsRead.{line_told}
 use Rattle.crn_robust_text.proofs.verify.next_document.Goals as goal
 

@@ -1,15 +1,5 @@
-use Rattle.std.proofs.Common.{◌≡◌, ◌∙◌, ◌++◌, ◌∷◌, [], List, map, refl, ap, Ok, Err}
-use Rattle.std.proofs.lemmas.Result.{err_from_is_err_and}
-use Rattle.crn_cert.specs.declared.answer.Verdict.{Verdict}
-use Rattle.crn_cert.specs.Questions.{Earlier, Question, Q1, Q2, Q5}
-use Rattle.crn_ctext.specs.Blocks.{AfterBlocks}
-use Rattle.crn_ctext.specs.Meaning.{Known}
-use Rattle.crn_check.specs.Facts.{KeptFacts}
-use Rattle.crn_document.specs.Facts.{IsAfterFacts, after_facts, with_next}
+use Rattle.crn_robust_text.proofs.Prelude.{◌≡◌, ◌∙◌, ◌++◌, ◌∷◌, [], List, map, refl, ap, Ok, Err, err_from_is_err_and, Verdict, Earlier, Question, Q1, Q2, Q5, AfterBlocks, Known, KeptFacts, IsAfterFacts, after_facts, with_next, step_exits, stops_here, HoldsBlocks, before}
 use Rattle.crn_reading.specs.declared.fault.CheckStop.TheVariants as stop
-use Rattle.crn_reading.proofs.CallerLemmas.{step_exits, stops_here}
-use Rattle.crn_robust.specs.Pick.{HoldsBlocks}
-use Rattle.crn_robust_text.specs.Document.{before}
 use Rattle.crn_robust_text.proofs.BlocksRead.{Nothing, block_stops, block_then, block_last, first_step, later_step, first_known, second_known, third_known, all_held, if_answered}
 use Rattle.crn_robust_text.proofs.verify.next_facts.Goals as goal
 

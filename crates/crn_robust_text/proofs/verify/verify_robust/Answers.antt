@@ -1,5 +1,4 @@
-use Rattle.crn_reading.proofs.CallerLemmas.{document_gives, document_answered}
-use Rattle.crn_robust_text.specs.Document.{IsReadAs, part}
+use Rattle.crn_robust_text.proofs.Prelude.{document_gives, document_answered, IsReadAs, part}
 use Rattle.crn_robust_text.proofs.Settled.{course_settled}
 use Rattle.crn_robust_text.proofs.verify.verify_robust.Goals as goal
 

@@ -1,10 +1,4 @@
-use Rattle.std.proofs.Common.{refl, subst, arith}
-use Rattle.std.proofs.lemmas.Result.{err_from_is_err_and}
-use Rattle.crn_cert.specs.declared.answer.Answer.{Answer}
-use Rattle.crn_cert.specs.Questions.{Q1, Q2, Q5}
-use Rattle.crn_io.proofs.CallerLemmas.{WroteAll-then}
-use Rattle.crn_ctext.specs.PartBlocks.{HoldsNoSides}
-use Rattle.crn_ctext.proofs.CallerLemmas.{stops_first, stops_later, ends_with}
+use Rattle.crn_robust_text.proofs.Prelude.{refl, subst, arith, err_from_is_err_and, Answer, Q1, Q2, Q5, WroteAll-then, HoldsNoSides, stops_first, stops_later, ends_with}
 use Rattle.crn_robust_text.proofs.Written.{three, is_first, is_second, is_rank, full, first_lines, second_lines, three_lines}
 use Rattle.crn_robust_text.proofs.write.put_blocks.Goals as goal
 

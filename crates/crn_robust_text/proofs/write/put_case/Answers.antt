@@ -1,6 +1,5 @@
-use Rattle.std.proofs.Common.{codes, map, pos, [], ◌∷◌}
-use Rattle.std.proofs.lemmas.Result.{err_from_is_err_and}
-use Rattle.crn_ctext.proofs.CallerLemmas.{stops_first, ends_with, wrote_as, line_of_word, lines_two}
+use Rattle.crn_robust_text.proofs.Prelude.{map, [], ◌∷◌, err_from_is_err_and, stops_first, ends_with, wrote_as, line_of_word, lines_two}
+use Rattle.std.proofs.Common.{codes, pos}
 use Rattle.crn_robust_text.proofs.write.put_case.Goals as goal
 
 pub returns-in_err-put_small-in-Yes : goal.returns-in_err-put_small-in-Yes

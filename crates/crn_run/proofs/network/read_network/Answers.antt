@@ -1,4 +1,4 @@
-use Rattle.std.proofs.Common.{inr, arith}
+use Rattle.crn_run.proofs.Prelude.{inr, arith}
 use Rattle.crn_run.proofs.Runs.{too_long}
 use Rattle.crn_run.proofs.network.read_network.Goals as goal
 

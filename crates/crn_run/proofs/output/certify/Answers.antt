@@ -1,5 +1,4 @@
-use Rattle.crn_vec.specs.declared.limits.TheConstants.{MAX_BUDGET}
-use Rattle.crn_cert.proofs.CallerLemmas.{have_more}
+use Rattle.crn_run.proofs.Prelude.{MAX_BUDGET, have_more}
 use Rattle.crn_run.proofs.Certificates.{same_document}
 use Rattle.crn_run.proofs.Outputs.{certificate_gives, certificate_broken}
 use Rattle.crn_run.proofs.output.certify.Goals as goal

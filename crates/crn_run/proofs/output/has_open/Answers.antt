@@ -1,5 +1,4 @@
-use Rattle.std.proofs.Common.{refl, arith}
-use Rattle.crn_cert.specs.declared.answer.Answer.{Answer}
+use Rattle.crn_run.proofs.Prelude.{refl, arith, Answer}
 use Rattle.crn_run.proofs.OpenAnswers.{open_at, none_more, none_at_all}
 use Rattle.crn_run.proofs.output.has_open.Goals as goal
 

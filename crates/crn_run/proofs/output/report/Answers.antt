@@ -1,10 +1,4 @@
-use Rattle.std.proofs.Common.{[], List, subst, sym}
-use Rattle.crn_cert.specs.declared.answer.Verdict.{Verdict}
-use Rattle.crn_cert.specs.Built.{built}
-use Rattle.crn_cert.specs.FormedVerdicts.{AreFormedVerdicts}
-use Rattle.crn_cert.specs.Licensed.{AllTrueOrLicensed}
-use Rattle.crn_solve.specs.Spent.{AreOpenIfSpent}
-use Rattle.crn_solve.specs.Turns.{PreferTheVector}
+use Rattle.crn_run.proofs.Prelude.{[], List, subst, sym, Verdict, built, AreFormedVerdicts, AllTrueOrLicensed, AreOpenIfSpent, PreferTheVector}
 use Rattle.crn_run.proofs.Outputs.{answers_formed, report_broken, report_gives}
 use Rattle.crn_run.proofs.output.report.Goals as goal
 

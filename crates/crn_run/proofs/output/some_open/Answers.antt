@@ -1,4 +1,4 @@
-use Rattle.std.proofs.Common.{refl, arith}
+use Rattle.crn_run.proofs.Prelude.{refl, arith}
 use Rattle.crn_run.proofs.OpenAnswers.{verdict_at, no_more_verdicts, no_verdict}
 use Rattle.crn_run.proofs.output.some_open.Goals as goal
 

@@ -1,5 +1,4 @@
-use Rattle.std.proofs.Common.{take}
-use Rattle.crn_run.specs.Run.{HasOpen}
+use Rattle.crn_run.proofs.Prelude.{take, HasOpen}
 use Rattle.crn_run.proofs.output.some_open.Given as goal
 
 abbrev pub invariant-loop-question : goal.invariant-loop-question

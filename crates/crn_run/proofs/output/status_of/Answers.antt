@@ -1,6 +1,4 @@
-use Rattle.std.specs.Prelude.{IsTrue}
-use Rattle.crn_cert.specs.Answers.{verdicts_of}
-use Rattle.crn_run.specs.Run.{HasOpen}
+use Rattle.crn_run.proofs.Prelude.{IsTrue, verdicts_of, HasOpen}
 use Rattle.crn_run.proofs.Statuses.{left_as}
 use Rattle.crn_run.proofs.output.status_of.Goals as goal
 

@@ -1,8 +1,5 @@
-use Rattle.std.proofs.Common.{◌↔◌, List, subst}
-use Rattle.std.specs.Prelude.{IsTrue}
-use Rattle.crn_cert.specs.declared.answer.Verdict.{Verdict}
-use Rattle.crn_cert.specs.Answers.{verdicts_of}
-use Rattle.crn_run.specs.Run.{HasOpen}
+use Rattle.crn_run.proofs.Prelude.{List, subst, IsTrue, Verdict, verdicts_of, HasOpen}
+use Rattle.std.proofs.Common.{◌↔◌}
 use Rattle.crn_run.proofs.Statuses.{left_as}
 use Rattle.crn_run.proofs.output.status_of_verdicts.Goals as goal
 

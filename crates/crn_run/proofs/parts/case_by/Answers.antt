@@ -1,7 +1,5 @@
-use Rattle.std.proofs.Common.{[], ◌∷◌, ◌++◌, ◌∙◌, ap, sym, subst}
+use Rattle.crn_run.proofs.Prelude.{[], ◌∷◌, ◌++◌, ◌∙◌, ap, sym, subst, Earlier, Q1, Q2, Q5, tight}
 use Rattle.crn_cert.specs.Formed.{IsFormed}
-use Rattle.crn_cert.specs.Questions.{Earlier, Q1, Q2, Q5}
-use Rattle.crn_cert.specs.Verdicts.{tight}
 use Rattle.crn_run.proofs.Robustness.{three_formed}
 use Rattle.crn_run.proofs.parts.case_by.Goals as goal
 

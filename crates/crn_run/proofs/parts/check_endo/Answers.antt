@@ -1,7 +1,4 @@
-use Rattle.std.proofs.Common.{ap, sym}
-use Rattle.crn_run.specs.Parts.{endo_verdict}
-use Rattle.crn_endo_text.specs.Document.{IsSeenOf}
-use Rattle.crn_run.specs.declared.words.PartName.TheVariants.{Endo}
+use Rattle.crn_run.proofs.Prelude.{ap, sym, endo_verdict, IsSeenOf, Endo}
 use Rattle.crn_run.proofs.Verified.{stop_named, verdict_ends, verify_stop_ends}
 use Rattle.crn_run.proofs.parts.check_endo.Goals as goal
 

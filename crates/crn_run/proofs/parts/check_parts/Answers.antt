@@ -1,7 +1,5 @@
-use Rattle.std.proofs.Common.{ap, sym}
-use Rattle.crn_run.specs.Parts.{parts_verdict}
+use Rattle.crn_run.proofs.Prelude.{ap, sym, parts_verdict, Decomposition}
 use Rattle.crn_indep_text.specs.Document.{IsSeenOf}
-use Rattle.crn_run.specs.declared.words.PartName.TheVariants.{Decomposition}
 use Rattle.crn_run.proofs.Verified.{stop_named, verdict_ends, verify_stop_ends}
 use Rattle.crn_run.proofs.parts.check_parts.Goals as goal
 

@@ -1,7 +1,4 @@
-use Rattle.std.proofs.Common.{ap, sym}
-use Rattle.crn_run.specs.Parts.{persist_verdict}
-use Rattle.crn_siphon_text.specs.Document.{IsOutcomeOf}
-use Rattle.crn_run.specs.declared.words.PartName.TheVariants.{Persist}
+use Rattle.crn_run.proofs.Prelude.{ap, sym, persist_verdict, IsOutcomeOf, Persist}
 use Rattle.crn_run.proofs.Verified.{stop_named, verdict_ends, verify_stop_ends}
 use Rattle.crn_run.proofs.parts.check_persist.Goals as goal
 

@@ -1,7 +1,4 @@
-use Rattle.std.proofs.Common.{ap₂}
-use Rattle.crn_run.specs.Parts.{robust_verdict}
-use Rattle.crn_robust_text.specs.Document.{IsReadAs}
-use Rattle.crn_run.specs.declared.words.PartName.TheVariants.{Robust}
+use Rattle.crn_run.proofs.Prelude.{ap₂, robust_verdict, IsReadAs, Robust}
 use Rattle.crn_run.proofs.Robustness.{inside_read, robustness_true}
 use Rattle.crn_run.proofs.Verified.{stop_named, verdict_ends, verify_stop_ends}
 use Rattle.crn_run.proofs.parts.check_robust.Goals as goal

@@ -1,6 +1,6 @@
 use Rattle.crn_run.proofs.Endotactic.{endotactic_documented}
 use Rattle.crn_run.proofs.Outputs.{proof_broken, proof_gives, proof_of}
-use Rattle.crn_run.specs.declared.words.PartName.TheVariants.{Endo}
+use Rattle.crn_run.proofs.Prelude.{Endo}
 use Rattle.crn_run.proofs.parts.prove_endo.Goals as goal
 
 pub write_endo-requires : goal.write_endo-requires

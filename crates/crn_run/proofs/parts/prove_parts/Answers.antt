@@ -1,5 +1,5 @@
 use Rattle.crn_run.proofs.Outputs.{proof_broken, proof_gives, proof_of}
-use Rattle.crn_run.specs.declared.words.PartName.TheVariants.{Decomposition}
+use Rattle.crn_run.proofs.Prelude.{Decomposition}
 use Rattle.crn_run.proofs.parts.prove_parts.Goals as goal
 
 pub write_parts-requires : goal.write_parts-requires

@@ -1,6 +1,6 @@
 use Rattle.crn_run.proofs.Persistence.{persistence_documented}
 use Rattle.crn_run.proofs.Outputs.{proof_broken, proof_gives, proof_of}
-use Rattle.crn_run.specs.declared.words.PartName.TheVariants.{Persist}
+use Rattle.crn_run.proofs.Prelude.{Persist}
 use Rattle.crn_run.proofs.parts.prove_persist.Goals as goal
 
 pub write_persist-requires : goal.write_persist-requires

@@ -1,6 +1,6 @@
 use Rattle.crn_run.proofs.Outputs.{proof_broken, proof_gives, proof_of}
 use Rattle.crn_run.proofs.Robustness.{blocks_formed, blocks_valid, rank_licensed, robustness_true}
-use Rattle.crn_run.specs.declared.words.PartName.TheVariants.{Robust}
+use Rattle.crn_run.proofs.Prelude.{Robust}
 use Rattle.crn_run.proofs.parts.prove_robust.Goals as goal
 
 pub case_by-requires-clause-formed : goal.case_by-requires-clause-formed

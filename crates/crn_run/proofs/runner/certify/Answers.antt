@@ -1,4 +1,4 @@
-use Rattle.crn_run.specs.declared.words.Command.TheVariants.{Certify}
+use Rattle.crn_run.proofs.Prelude.{Certify}
 use Rattle.crn_run.proofs.Runs.{read_ends, stop_ends}
 use Rattle.crn_run.proofs.runner.certify.Goals as goal
 

@@ -1,4 +1,4 @@
-use Rattle.std.proofs.Common.{refl}
+use Rattle.crn_run.proofs.Prelude.{refl}
 use Rattle.crn_run.proofs.Checked.{accept_ends, accepted_formed, failed_ends, reject_ends, read_formed}
 use Rattle.crn_run.proofs.runner.check.Goals as goal
 

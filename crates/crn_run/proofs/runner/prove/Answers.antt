@@ -1,4 +1,4 @@
-use Rattle.crn_run.specs.declared.words.Command.TheVariants.{Prove}
+use Rattle.crn_run.proofs.Prelude.{Prove}
 use Rattle.crn_run.proofs.Runs.{read_ends, stop_ends}
 use Rattle.crn_run.proofs.runner.prove.Goals as goal
 

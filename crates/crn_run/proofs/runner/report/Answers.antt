@@ -1,4 +1,4 @@
-use Rattle.crn_run.specs.declared.words.Command.TheVariants.{Report}
+use Rattle.crn_run.proofs.Prelude.{Report}
 use Rattle.crn_run.proofs.Runs.{read_ends, stop_ends}
 use Rattle.crn_run.proofs.runner.report.Goals as goal
 

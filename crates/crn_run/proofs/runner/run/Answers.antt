@@ -1,4 +1,4 @@
-use Rattle.std.proofs.Common.{refl}
+use Rattle.crn_run.proofs.Prelude.{refl}
 use Rattle.crn_run.proofs.Runs.{sample_ends, usage_ends}
 use Rattle.crn_run.proofs.Complete.{run_complete}
 use Rattle.crn_run.proofs.WordsSaid.{certify_is_no_sample, check_is_no_sample, prove_is_no_sample, report_is_no_sample, verify_is_no_sample}

@@ -1,4 +1,4 @@
-use Rattle.std.proofs.Common.{Some, ap, refl}
+use Rattle.crn_run.proofs.Prelude.{Some, ap, refl}
 use Rattle.crn_run.proofs.Accepted.{only_memory}
 use Rattle.crn_run.proofs.summary.accept_document.Goals as goal
 

@@ -1,5 +1,4 @@
-use Rattle.crn_vec.specs.declared.limits.TheConstants.{MAX_BUDGET}
-use Rattle.crn_cert.proofs.CallerLemmas.{have_more}
+use Rattle.crn_run.proofs.Prelude.{MAX_BUDGET, have_more}
 use Rattle.crn_run.proofs.Outputs.{summary_broken, summary_gives}
 use Rattle.crn_run.proofs.summary.summarize.Goals as goal
 

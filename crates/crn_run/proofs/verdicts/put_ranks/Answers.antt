@@ -1,9 +1,5 @@
-use Rattle.std.proofs.Common.{◌++◌, codes, decimal, length, map, pos, refl}
-use Rattle.std.proofs.lemmas.List.{append_assoc}
-use Rattle.std.proofs.lemmas.Result.{err_from_is_err_and}
-use Rattle.crn_io.proofs.CallerLemmas.{WroteAll-then}
-use Rattle.crn_ctext.specs.Records.{numbers_text}
-use Rattle.crn_ctext.proofs.CallerLemmas.{ends_with, stops_first, stops_later}
+use Rattle.crn_run.proofs.Prelude.{◌++◌, codes, length, map, refl, append_assoc, err_from_is_err_and, WroteAll-then, numbers_text, ends_with, stops_first, stops_later}
+use Rattle.std.proofs.Common.{decimal, pos}
 use Rattle.crn_run.proofs.verdicts.put_ranks.Goals as goal
 
 pub returns-in_err-put_number : goal.returns-in_err-put_number

@@ -1,4 +1,4 @@
-use Rattle.std.proofs.Common.{sym}
+use Rattle.crn_run.proofs.Prelude.{sym}
 use Rattle.crn_run.proofs.verdicts.write_robustness.Goals as goal
 
 pub returns-in-Yes : goal.returns-in-Yes

@@ -1,4 +1,4 @@
-use Rattle.std.proofs.Common.{◌≡◌, true, false, sym, ◌∙◌}
+use Rattle.crn_run.proofs.Prelude.{◌≡◌, true, false, sym, ◌∙◌}
 use Rattle.crn_run.proofs.WordsSaid.{meant_is_said, said_is_read}
 use Rattle.crn_run.proofs.words.command_of.Goals as goal
 

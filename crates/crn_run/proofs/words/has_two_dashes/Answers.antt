@@ -1,10 +1,5 @@
-use Rattle.std.proofs.Common.{◌≡◌, ◌-◌, List, [], ◌∷◌, ◌||◌, length, take, drop, map, take_all, rules, tests, arith, refl, ap, ◌∙◌}
-use Rattle.std.specs.Prelude.{String, string_bytes}
-use Rattle.std.specs.List.{list_any}
-use Rattle.std.specs.declared.alloc.Global.{Global}
-use Rattle.std.proofs.lemmas.Iterator.{YieldsList-from_slice}
-use Rattle.std.proofs.lemmas.Iterator.Search.{any_from_yields_List}
-use Rattle.crn_run.specs.Inner.Parse.{is_two_dashes}
+use Rattle.crn_run.proofs.Prelude.{◌≡◌, ◌-◌, List, [], ◌∷◌, ◌||◌, length, take, drop, map, rules, tests, arith, refl, ap, ◌∙◌, String, string_bytes, list_any, Global, YieldsList-from_slice, any_from_yields_List, is_two_dashes}
+use Rattle.std.proofs.Common.{take_all}
 use Rattle.crn_run.proofs.words.has_two_dashes.Goals as goal
 
 any_is : (ws : List (String Global)) → list_any (λ w. is_two_dashes (string_bytes w)) ws ≡ list_any is_two_dashes (map string_bytes ws)

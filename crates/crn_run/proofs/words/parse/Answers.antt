@@ -1,5 +1,4 @@
-use Rattle.std.proofs.Common.{◌≡◌, true, ap, ◌∙◌}
-use Rattle.clap.specs.Words.{app_of, is_simple_and_free}
+use Rattle.crn_run.proofs.Prelude.{◌≡◌, true, ap, ◌∙◌, app_of, is_simple_and_free}
 use Rattle.crn_run.proofs.WordsSaid.{crnt_is_free, given, read_of, unread_of}
 use Rattle.crn_run.proofs.words.parse.Goals as goal
 

@@ -1,8 +1,5 @@
-use Rattle.std.proofs.Common.{rules, ap₂, codes, true, Some, ◌≡◌, ◌∙◌}
-use Rattle.std.proofs.lemmas.Result.{IfOk-weaker}
-use Rattle.clap.specs.Words.{new_rule, rule_of, with_rule}
-use Rattle.clap.specs.declared.builder.action.ArgAction.TheVariants.{Set}
-use Rattle.crn_run.specs.Inner.Parse.{crnt_app}
+use Rattle.crn_run.proofs.Prelude.{rules, ap₂, codes, true, Some, ◌≡◌, ◌∙◌, IfOk-weaker, rule_of, Set, crnt_app}
+use Rattle.clap.specs.Words.{new_rule, with_rule}
 use Rattle.crn_run.proofs.words.parser.Goals as goal
 
 pub returns : goal.returns

@@ -1,5 +1,4 @@
-use Rattle.std.proofs.Common.{◌≡◌, ◌∙◌}
-use Rattle.crn_sample.specs.Sample.{sample_text}
+use Rattle.crn_sample.proofs.Prelude.{◌≡◌, ◌∙◌, sample_text}
 use Rattle.crn_sample.proofs.Spelled.{only_memory}
 use Rattle.crn_sample.proofs.samples.sample.Goals as goal
 

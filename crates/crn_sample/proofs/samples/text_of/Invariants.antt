@@ -1,5 +1,5 @@
-use Rattle.std.specs.Prelude.{◌≡◌, string_bytes}
-use Rattle.crn_sample.specs.Sample.{sample_text}
+use Rattle.crn_sample.proofs.Prelude.{string_bytes, sample_text}
+use Rattle.std.specs.Prelude.{◌≡◌}
 use Rattle.crn_sample.proofs.samples.text_of.Given as goal
 
 abbrev pub invariant-loop-before : goal.invariant-loop-before

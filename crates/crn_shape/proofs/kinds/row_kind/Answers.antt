@@ -1,6 +1,5 @@
-use Rattle.std.proofs.Common.{◌∙◌, arith}
+use Rattle.crn_shape.proofs.Prelude.{◌∙◌, arith, row_chosen, row_open}
 use Rattle.crn_shape.proofs.kinds.row_kind.Goals as goal
-use Rattle.crn_vec.proofs.CallerLemmas.{row_chosen, row_open}
 
 pub returns-then-s-prefix : goal.returns-then-s-prefix
 returns-then-s-prefix c = λ n lt. c.kind_of_sign.ensures ∙ row_chosen n c.args.s c.args.prefix.now lt c.if-s-prefix.true

@@ -1,5 +1,4 @@
-use Rattle.std.proofs.Common.{ℕ, ◌<◌}
-use Rattle.crn_shape.specs.Inner.Pairs.{GoesAcross}
+use Rattle.crn_shape.proofs.Prelude.{ℕ, ◌<◌, GoesAcross}
 use Rattle.crn_shape.proofs.pairs.first_across.Given as goal
 
 abbrev pub invariant-loop-r : goal.invariant-loop-r

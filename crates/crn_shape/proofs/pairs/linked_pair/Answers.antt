@@ -1,8 +1,4 @@
-use Rattle.std.proofs.Common.{◌≡◌, sym, ap, ◌∙◌, ℕ, subst, arith}
-use Rattle.std.specs.Prelude.{Some}
-use Rattle.std.specs.Int.{w128}
-use Rattle.std.proofs.lemmas.Int.{to_z-of_z}
-use Rattle.crn_vec.specs.NetSignals.{top_at}
+use Rattle.crn_shape.proofs.Prelude.{◌≡◌, sym, ap, ◌∙◌, ℕ, subst, arith, Some, w128, to_z-of_z, top_at}
 use Rattle.crn_shape.proofs.PairSides.{side_across, top_there, pair_for, pair_in, narrow_within, marks_within}
 use Rattle.crn_shape.proofs.pairs.linked_pair.Goals as goal
 

@@ -1,11 +1,5 @@
-use Rattle.std.proofs.Common.{[], sym, subst, arith, ◌++◌, ◌∷◌, take, List, get_or}
-use Rattle.std.specs.Prelude.{ℤ}
-use Rattle.std.specs.List.{AllZip, AllByRecursion}
-use Rattle.std.proofs.lemmas.List.{take_more}
-use Rattle.crn_shape.specs.Shapes.{IsPairIn}
-use Rattle.crn_shape.specs.Inner.Pairs.{IsPairFor}
+use Rattle.crn_shape.proofs.Prelude.{[], sym, subst, arith, ◌++◌, ◌∷◌, take, List, get_or, ℤ, AllZip, AllByRecursion, take_more, IsPairIn, IsPairFor, zip_push, all_push}
 use Rattle.crn_shape.proofs.pairs.linked_pairs.Goals as goal
-use Rattle.crn_vec.proofs.CallerLemmas.{zip_push, all_push}
 
 pub loop-i-preserved : goal.loop-i-preserved
 loop-i-preserved c =

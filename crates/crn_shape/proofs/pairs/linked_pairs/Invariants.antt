@@ -1,7 +1,4 @@
-use Rattle.std.proofs.Common.{take}
-use Rattle.std.specs.List.{AllZip, AllByRecursion}
-use Rattle.crn_shape.specs.Shapes.{IsPairIn}
-use Rattle.crn_shape.specs.Inner.Pairs.{IsPairFor}
+use Rattle.crn_shape.proofs.Prelude.{take, AllZip, AllByRecursion, IsPairIn, IsPairFor}
 use Rattle.crn_shape.proofs.pairs.linked_pairs.Given as goal
 
 abbrev pub invariant-loop-i : goal.invariant-loop-i

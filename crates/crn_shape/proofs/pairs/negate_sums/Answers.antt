@@ -1,9 +1,4 @@
-use Rattle.std.proofs.Common.{◌<◌, ◌^◌, sym, ap, subst, ◌∙◌, arith}
-use Rattle.std.specs.Prelude.{unsigned_abs}
-use Rattle.std.proofs.lemmas.List.{length-set}
-use Rattle.crn_vec.proofs.CallerLemmas.{all_at}
-use Rattle.crn_shape.specs.Inner.Pairs.{opposite_linked}
-use Rattle.crn_shape.specs.declared.pairs.LinkedPair.{LinkedPair}
+use Rattle.crn_shape.proofs.Prelude.{◌<◌, ◌^◌, sym, ap, subst, ◌∙◌, arith, unsigned_abs, length-set, all_at, opposite_linked, LinkedPair}
 use Rattle.crn_shape.proofs.Opposites.{no_linked, done_more, rest_more, all_opposite}
 use Rattle.crn_shape.proofs.pairs.negate_sums.Goals as goal
 

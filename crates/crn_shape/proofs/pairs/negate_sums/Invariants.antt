@@ -1,5 +1,4 @@
-use Rattle.std.proofs.Common.{◌≡◌, ℕ, ◌<◌, ◌≤◌, length, get_or}
-use Rattle.crn_shape.specs.Inner.Pairs.{opposite_linked}
+use Rattle.crn_shape.proofs.Prelude.{◌≡◌, ℕ, ◌<◌, ◌≤◌, length, get_or, opposite_linked}
 use Rattle.crn_shape.proofs.Opposites.{no_linked}
 use Rattle.crn_shape.proofs.pairs.negate_sums.Given as goal
 

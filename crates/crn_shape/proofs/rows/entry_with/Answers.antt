@@ -1,8 +1,4 @@
-use Rattle.std.proofs.Common.{◌≤◌, arith}
-use Rattle.std.specs.Prelude.{unsigned_abs}
-use Rattle.crn_vec.specs.declared.limits.TheConstants.{MAX_AMOUNT}
-use Rattle.crn_vec.specs.Vectors.{entry}
-use Rattle.crn_vec.proofs.CallerLemmas.{held, within_at}
+use Rattle.crn_shape.proofs.Prelude.{◌≤◌, arith, unsigned_abs, MAX_AMOUNT, entry, held, within_at}
 use Rattle.crn_shape.proofs.rows.entry_with.Goals as goal
 
 pub returns-then-place-values-clause-small : goal.returns-then-place-values-clause-small

@@ -1,4 +1,4 @@
-use Rattle.std.proofs.Common.{arith}
+use Rattle.crn_shape.proofs.Prelude.{arith}
 use Rattle.crn_shape.proofs.TopNumbers.{tops_by, tops_few}
 use Rattle.crn_shape.proofs.tops.terminal_classes.Goals as goal
 

@@ -1,7 +1,5 @@
-use Rattle.std.proofs.Common.{arith}
-use Rattle.crn_shape.specs.Inner.Tops.{top_for}
+use Rattle.crn_shape.proofs.Prelude.{arith, top_for, map_more}
 use Rattle.crn_shape.proofs.tops.tops_of.Goals as goal
-use Rattle.crn_vec.proofs.CallerLemmas.{map_more}
 
 pub loop-c-preserved : goal.loop-c-preserved
 loop-c-preserved c =

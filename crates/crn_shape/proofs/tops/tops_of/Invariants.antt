@@ -1,5 +1,4 @@
-use Rattle.std.proofs.Common.{◌≡◌, map, take}
-use Rattle.crn_shape.specs.Inner.Tops.{top_for}
+use Rattle.crn_shape.proofs.Prelude.{◌≡◌, map, take, top_for}
 use Rattle.crn_shape.proofs.tops.tops_of.Given as goal
 
 abbrev pub invariant-loop-c : goal.invariant-loop-c

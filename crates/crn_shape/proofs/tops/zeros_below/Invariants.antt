@@ -1,5 +1,4 @@
-use Rattle.std.proofs.Common.{◌≡◌, ◌≤◌}
-use Rattle.crn_shape.specs.Inner.Tops.{zeros_below}
+use Rattle.crn_shape.proofs.Prelude.{◌≡◌, ◌≤◌, zeros_below}
 use Rattle.crn_shape.proofs.tops.zeros_below.Given as goal
 
 abbrev pub invariant-loop-k : goal.invariant-loop-k

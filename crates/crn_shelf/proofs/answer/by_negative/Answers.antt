@@ -1,21 +1,4 @@
-use Rattle.std.proofs.Common.{true, inr, length, refl, sym, subst}
-use Rattle.std.specs.Prelude.{negsuc}
-use Rattle.crn_vec.specs.Confluence.{negative}
-use Rattle.crn_vec.specs.Signals.{Shape, signals}
-use Rattle.crn_vec.specs.NetSignals.{IsShapeOf}
-use Rattle.crn_vec.specs.NetSystems.{reaction_system}
-use Rattle.crn_vec.proofs.CallerLemmas.{if_ok, negatives_have_opposite_shapes}
-use Rattle.crn_cert.specs.declared.answer.Answer.{Answer}
-use Rattle.crn_cert.specs.Questions.{Earlier, IsOpen, Q13}
-use Rattle.crn_cert.specs.Licensed.{PassForSignals}
-use Rattle.crn_cert.specs.Answered.{IsAnswer}
-use Rattle.crn_cert.specs.TreeSizes.{HasFewNodes}
-use Rattle.crn_sign.specs.Search.{IsSearchEnd}
-use Rattle.crn_sign.specs.declared.end.SearchEnd.TheVariants.{Found, Refuted, Spent}
-use Rattle.crn_shelf.specs.Given.{GiveVector}
-use Rattle.crn_shelf.specs.Visits.{ListSignalVisits}
-use Rattle.crn_shelf.specs.Inner.Shapes.{EndsFor}
-use Rattle.crn_shelf.specs.Inner.Answers.{IsFoundAnswer, IsStopAnswer}
+use Rattle.crn_shelf.proofs.Prelude.{true, inr, length, refl, sym, subst, negsuc, negative, Shape, signals, IsShapeOf, reaction_system, if_ok, negatives_have_opposite_shapes, Answer, Earlier, IsOpen, Q13, PassForSignals, IsAnswer, HasFewNodes, IsSearchEnd, Found, Refuted, Spent, GiveVector, ListSignalVisits, EndsFor, IsFoundAnswer, IsStopAnswer}
 use Rattle.crn_shelf.proofs.Answered.{found_is, two_is, spent_is, stopped, stops_for, stops_negative, negative_too, no_signal, few_two, found_visits, stop_visits, visits_one}
 use Rattle.crn_shelf.proofs.Budgets.{found_within, refuted_within, stop_open}
 use Rattle.crn_shelf.proofs.answer.by_negative.Goals as goal

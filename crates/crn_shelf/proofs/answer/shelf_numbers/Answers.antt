@@ -1,9 +1,4 @@
-use Rattle.std.proofs.Common.{arith, ◌∙◌}
-use Rattle.std.specs.Int.{w128}
-use Rattle.std.proofs.lemmas.Int.{to_z-of_z}
-use Rattle.crn_vec.specs.declared.signs.Sign.TheVariants.{Zero}
-use Rattle.crn_vec.proofs.CallerLemmas.{map_more}
-use Rattle.crn_shelf.specs.Inner.Answers.{shelf_number}
+use Rattle.crn_shelf.proofs.Prelude.{arith, ◌∙◌, w128, to_z-of_z, Zero, map_more, shelf_number}
 use Rattle.crn_shelf.proofs.answer.shelf_numbers.Goals as goal
 
 pub loop-k-preserved : goal.loop-k-preserved

@@ -1,5 +1,4 @@
-use Rattle.std.proofs.Common.{◌≡◌, map, take}
-use Rattle.crn_shelf.specs.Inner.Answers.{shelf_number}
+use Rattle.crn_shelf.proofs.Prelude.{◌≡◌, map, take, shelf_number}
 use Rattle.crn_shelf.proofs.answer.shelf_numbers.Given as goal
 
 abbrev pub invariant-loop-k : goal.invariant-loop-k

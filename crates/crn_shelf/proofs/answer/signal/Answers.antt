@@ -1,27 +1,7 @@
-use Rattle.std.proofs.Common.{true, inl, length, refl, sym, subst, ◌∙◌, arith}
-use Rattle.std.specs.Prelude.{pos, IsTrue}
-use Rattle.crn_vec.specs.Confluence.{negative}
-use Rattle.std.proofs.lemmas.Bool.{false≢true}
-use Rattle.std.proofs.lemmas.Int.{ints}
-use Rattle.crn_vec.specs.NetSystems.{reaction_system}
-use Rattle.crn_vec.specs.NetSignals.{HasNoSignal}
-use Rattle.crn_vec.specs.Signals.{Shape, signals}
-use Rattle.crn_sign.specs.Search.{IsSearchEnd}
-use Rattle.crn_sign.specs.declared.end.SearchEnd.TheVariants.{Found, Spent}
-use Rattle.crn_cert.specs.declared.answer.Answer.{Answer}
-use Rattle.crn_cert.specs.Questions.{Earlier, IsOpen, Q13}
-use Rattle.crn_cert.specs.Licensed.{PassForSignals}
-use Rattle.crn_cert.specs.Answered.{IsAnswer}
-use Rattle.crn_cert.specs.TreeSizes.{HasFewNodes}
-use Rattle.crn_shelf.specs.Given.{GiveVector}
-use Rattle.crn_shelf.specs.Visits.{ListSignalVisits}
-use Rattle.crn_shelf.specs.Inner.Shapes.{EndsFor}
-use Rattle.crn_shelf.specs.Inner.Answers.{IsFoundAnswer, IsStopAnswer}
-use Rattle.crn_shelf.specs.Order.{IsForNegative}
+use Rattle.crn_shelf.proofs.Prelude.{true, inl, length, refl, sym, subst, ◌∙◌, arith, pos, IsTrue, negative, false≢true, ints, reaction_system, HasNoSignal, Shape, signals, IsSearchEnd, Found, Spent, Answer, Earlier, IsOpen, Q13, PassForSignals, IsAnswer, HasFewNodes, GiveVector, ListSignalVisits, EndsFor, IsFoundAnswer, IsStopAnswer, IsForNegative, if_ok}
 use Rattle.crn_shelf.proofs.Answered.{found_is, found_has_signal, one_is, spent_is, stopped, stops_for, few_one, classes_by, no_signal, found_visits, stop_visits, visits_one}
 use Rattle.crn_shelf.proofs.Budgets.{found_within, refuted_within, stop_open, open_is_no_yes, found_is_first}
 use Rattle.crn_shelf.proofs.answer.signal.Goals as goal
-use Rattle.crn_vec.proofs.CallerLemmas.{if_ok}
 
 pub new-requires-clause-classes : goal.new-requires-clause-classes
 new-requires-clause-classes c =

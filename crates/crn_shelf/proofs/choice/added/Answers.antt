@@ -1,15 +1,4 @@
-use Rattle.std.proofs.Common.{◌≡◌, ◌<◌, ◌++◌, ℕ, List, [], ◌∷◌, length, take, drop, sym, ap, subst, ◌∙◌, arith}
-use Rattle.std.proofs.lemmas.List.{length-replicate}
-use Rattle.crn_vec.specs.declared.signs.Sign.{Sign}
-use Rattle.crn_vec.specs.declared.signs.Kind.{Kind}
-use Rattle.crn_vec.specs.Vectors.{Mat}
-use Rattle.crn_vec.specs.Elementary.{width}
-use Rattle.crn_vec.specs.Signals.{Shape, shelf_kinds, shelf_matrix}
-use Rattle.crn_vec.specs.Systems.{kind_at}
-use Rattle.crn_vec.proofs.CallerLemmas.{written}
-use Rattle.crn_sign.specs.declared.bits.Bits.{Bits}
-use Rattle.crn_sign.specs.Options.{kind_in, word_count}
-use Rattle.crn_shelf.specs.Inner.Choices.{IsAdded, IsWith, added_kind}
+use Rattle.crn_shelf.proofs.Prelude.{◌≡◌, ◌<◌, ◌++◌, ℕ, List, [], ◌∷◌, length, take, drop, sym, ap, subst, ◌∙◌, arith, length-replicate, Sign, Kind, Mat, width, Shape, shelf_kinds, shelf_matrix, kind_at, written, Bits, kind_in, word_count, IsAdded, IsWith, added_kind}
 use Rattle.crn_shelf.proofs.Gradual.{adds}
 use Rattle.crn_shelf.proofs.Joins.{blank_kind}
 use Rattle.crn_shelf.proofs.choice.added.Goals as goal

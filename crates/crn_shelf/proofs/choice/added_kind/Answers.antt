@@ -1,8 +1,4 @@
-use Rattle.std.proofs.Common.{sym, ap, ◌∙◌}
-use Rattle.crn_vec.specs.declared.signs.Kind.{Kind}
-use Rattle.crn_vec.specs.Signals.{shelf_kinds}
-use Rattle.crn_vec.specs.Systems.{kind_at}
-use Rattle.crn_shelf.specs.Inner.Choices.{added_kind}
+use Rattle.crn_shelf.proofs.Prelude.{sym, ap, ◌∙◌, Kind, shelf_kinds, kind_at, added_kind}
 use Rattle.crn_shelf.proofs.Gradual.{added_none}
 use Rattle.crn_shelf.proofs.choice.added_kind.Goals as goal
 

@@ -1,8 +1,4 @@
-use Rattle.std.proofs.Common.{◌≡◌, ◌+◌, ℕ, List, length, sym, ap, subst, ◌∙◌, arith}
-use Rattle.std.proofs.lemmas.List.{length-append}
-use Rattle.crn_vec.specs.declared.signs.Sign.{Sign}
-use Rattle.crn_shelf.specs.declared.choice.Choice.{Choice}
-use Rattle.crn_shelf.specs.Inner.Choices.{IsChoice}
+use Rattle.crn_shelf.proofs.Prelude.{◌≡◌, ◌+◌, ℕ, List, length, sym, ap, subst, ◌∙◌, arith, length-append, Sign, Choice, IsChoice}
 use Rattle.crn_shelf.proofs.Joins.{all_choices, choice_more}
 use Rattle.crn_shelf.proofs.choice.choices_of.Goals as goal
 

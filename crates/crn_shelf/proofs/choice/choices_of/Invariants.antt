@@ -1,4 +1,4 @@
-use Rattle.std.proofs.Common.{◌≡◌, length}
+use Rattle.crn_shelf.proofs.Prelude.{◌≡◌, length}
 use Rattle.crn_shelf.proofs.Joins.{AreFrom}
 use Rattle.crn_shelf.proofs.choice.choices_of.Given as goal
 

@@ -1,11 +1,4 @@
-use Rattle.std.proofs.Common.{◌≡◌, ◌<◌, ℕ, inl, inr, sym, subst, ◌∙◌, arith}
-use Rattle.crn_vec.specs.Vectors.{Mat}
-use Rattle.crn_vec.specs.Elementary.{width}
-use Rattle.crn_vec.specs.Signals.{shelf_kinds}
-use Rattle.crn_vec.specs.Systems.{kind_at}
-use Rattle.crn_vec.proofs.CallerLemmas.{eq_or}
-use Rattle.crn_sign.specs.Options.{kind_in}
-use Rattle.crn_shelf.specs.Inner.Choices.{added_kind}
+use Rattle.crn_shelf.proofs.Prelude.{◌≡◌, ◌<◌, ℕ, inl, inr, sym, subst, ◌∙◌, arith, Mat, width, shelf_kinds, kind_at, eq_or, kind_in, added_kind}
 use Rattle.crn_shelf.proofs.Gradual.{added_strict}
 use Rattle.crn_shelf.proofs.ShelfKinds.{shelf_strict}
 use Rattle.crn_shelf.proofs.choice.put_added.Goals as goal

@@ -1,4 +1,4 @@
-use Rattle.std.proofs.Common.{arith}
+use Rattle.crn_shelf.proofs.Prelude.{arith}
 use Rattle.crn_shelf.proofs.Joins.{joining_all, joining_none, joining_word}
 use Rattle.crn_shelf.proofs.choice.put_joined.Goals as goal
 

@@ -1,5 +1,4 @@
-use Rattle.std.proofs.Common.{◌∙◌, sym, refl}
-use Rattle.crn_sign.proofs.CallerLemmas.{put_here, put_other}
+use Rattle.crn_shelf.proofs.Prelude.{◌∙◌, sym, refl, put_here, put_other}
 use Rattle.crn_shelf.proofs.choice.put_kind.Goals as goal
 
 pub returns-in-Free : goal.returns-in-Free

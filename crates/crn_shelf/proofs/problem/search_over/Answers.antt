@@ -1,8 +1,4 @@
-use Rattle.std.proofs.Common.{length, ap, ◌∙◌, sym}
-use Rattle.crn_vec.specs.Vectors.{Mat}
-use Rattle.crn_vec.specs.Signals.{signals}
-use Rattle.crn_vec.proofs.CallerLemmas.{rows_count}
-use Rattle.crn_sign.specs.Search.{IsSearchEnd, IsSearchStop}
+use Rattle.crn_shelf.proofs.Prelude.{length, ap, ◌∙◌, sym, Mat, signals, rows_count, IsSearchEnd, IsSearchStop}
 use Rattle.crn_shelf.proofs.Searched.{matched, end_by, stop_by}
 use Rattle.crn_shelf.proofs.problem.search_over.Goals as goal
 

@@ -1,8 +1,4 @@
-use Rattle.std.proofs.Common.{◌≡◌, ◌++◌, take}
-use Rattle.std.specs.List.{flat_map}
-use Rattle.crn_vec.specs.Vectors.{AreWithin}
-use Rattle.crn_vec.specs.Signals.{complex_row}
-use Rattle.crn_vec.specs.declared.limits.TheConstants.{MAX_AMOUNT}
+use Rattle.crn_shelf.proofs.Prelude.{◌≡◌, ◌++◌, take, flat_map, AreWithin, complex_row, MAX_AMOUNT}
 use Rattle.crn_shelf.proofs.system.put_complexes.Given as goal
 
 abbrev pub invariant-loop-c : goal.invariant-loop-c

@@ -1,8 +1,4 @@
-use Rattle.std.proofs.Common.{◌≡◌, ◌++◌, take}
-use Rattle.std.specs.List.{flat_map}
-use Rattle.crn_vec.specs.Signals.{pair_row}
-use Rattle.crn_vec.specs.Vectors.{AreWithin}
-use Rattle.crn_vec.specs.declared.limits.TheConstants.{MAX_AMOUNT}
+use Rattle.crn_shelf.proofs.Prelude.{◌≡◌, ◌++◌, take, flat_map, pair_row, AreWithin, MAX_AMOUNT}
 use Rattle.crn_shelf.proofs.system.put_pairs.Given as goal
 
 abbrev pub invariant-loop-i : goal.invariant-loop-i

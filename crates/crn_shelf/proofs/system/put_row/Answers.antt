@@ -1,10 +1,5 @@
-use Rattle.std.proofs.Common.{◌≡◌, ◌++◌, List, [], ◌∷◌, take, ap, sym, subst, ◌∙◌, arith, to_z, of_z}
-use Rattle.std.specs.Prelude.{ℤ, pos}
-use Rattle.std.specs.Int.{w128}
-use Rattle.std.proofs.lemmas.List.{take_more, take_all, append_assoc}
-use Rattle.crn_vec.specs.Vectors.{AreWithin, entry}
-use Rattle.crn_vec.specs.declared.limits.TheConstants.{MAX_AMOUNT}
-use Rattle.crn_vec.proofs.CallerLemmas.{within_at, held, within_append}
+use Rattle.crn_shelf.proofs.Prelude.{◌≡◌, ◌++◌, List, [], ◌∷◌, take, ap, sym, subst, ◌∙◌, arith, to_z, of_z, ℤ, pos, w128, take_more, take_all, AreWithin, entry, MAX_AMOUNT, within_at, held, within_append}
+use Rattle.std.proofs.lemmas.List.{append_assoc}
 use Rattle.crn_shelf.proofs.system.put_row.Goals as goal
 
 pub loop-s-preserved : goal.loop-s-preserved

@@ -1,6 +1,4 @@
-use Rattle.std.proofs.Common.{◌≡◌, ◌++◌, take}
-use Rattle.crn_vec.specs.Vectors.{AreWithin}
-use Rattle.crn_vec.specs.declared.limits.TheConstants.{MAX_AMOUNT}
+use Rattle.crn_shelf.proofs.Prelude.{◌≡◌, ◌++◌, take, AreWithin, MAX_AMOUNT}
 use Rattle.crn_shelf.proofs.system.put_row.Given as goal
 
 abbrev pub invariant-loop-s : goal.invariant-loop-s

@@ -1,10 +1,4 @@
-use Rattle.std.proofs.Common.{◌≡◌, ◌+◌, ◌*◌, ◌++◌, ℕ, List, length, ap, ap₂, sym, ◌∙◌}
-use Rattle.std.specs.Prelude.{ℤ}
-use Rattle.std.specs.List.{flat_map}
-use Rattle.crn_vec.specs.Vectors.{Mat}
-use Rattle.crn_vec.specs.Matrices.{mat_of}
-use Rattle.crn_vec.specs.Signals.{complex_row, pair_row, shelf_matrix}
-use Rattle.crn_vec.proofs.CallerLemmas.{if_ok}
+use Rattle.crn_shelf.proofs.Prelude.{◌≡◌, ◌+◌, ◌*◌, ◌++◌, ℕ, List, length, ap, ap₂, sym, ◌∙◌, ℤ, flat_map, Mat, mat_of, complex_row, pair_row, shelf_matrix, if_ok}
 use Rattle.crn_shelf.proofs.SystemRows.{entries_long, matrix_is}
 use Rattle.crn_shelf.proofs.system.shelf_matrix.Goals as goal
 

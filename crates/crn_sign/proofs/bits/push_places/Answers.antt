@@ -1,5 +1,4 @@
-use Rattle.std.proofs.Common.{◌-◌, arith}
-use Rattle.std.proofs.lemmas.Nat.{and_le_r}
+use Rattle.crn_sign.proofs.Prelude.{◌-◌, arith, and_le_r}
 use Rattle.crn_sign.proofs.bits.push_places.Goals as goal
 
 pub bits-smaller : goal.bits-smaller

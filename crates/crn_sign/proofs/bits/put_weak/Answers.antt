@@ -1,5 +1,4 @@
-use Rattle.std.proofs.Common.{◌/◌}
-use Rattle.std.proofs.lemmas.List.{length-set}
+use Rattle.crn_sign.proofs.Prelude.{◌/◌, length-set}
 use Rattle.crn_sign.proofs.BitLaws.{other_bits, word_put}
 use Rattle.crn_sign.proofs.bits.put_weak.Goals as goal
 

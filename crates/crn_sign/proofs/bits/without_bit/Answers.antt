@@ -1,6 +1,4 @@
-use Rattle.std.proofs.Common.{w64}
-use Rattle.std.proofs.lemmas.Nat.{and_le_l}
-use Rattle.std.proofs.lemmas.Nat.Bits.{bit_at_clear_same, bit_at_clear_other}
+use Rattle.crn_sign.proofs.Prelude.{w64, and_le_l, bit_at_clear_same, bit_at_clear_other}
 use Rattle.crn_sign.proofs.bits.without_bit.Goals as goal
 
 pub returns : goal.returns

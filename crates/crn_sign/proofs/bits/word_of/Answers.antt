@@ -1,5 +1,4 @@
-use Rattle.std.proofs.Common.{sym, arith}
-use Rattle.std.proofs.lemmas.List.{get_or_past}
+use Rattle.crn_sign.proofs.Prelude.{sym, arith, get_or_past}
 use Rattle.crn_sign.proofs.bits.word_of.Goals as goal
 
 pub returns-else-w-words : goal.returns-else-w-words

@@ -1,9 +1,4 @@
-use Rattle.std.proofs.Common.{◌++◌, ◌∷◌, [], List, ℤ, length, get_or, ap, sym, subst, ◌∙◌, ◌<◌, arith}
-use Rattle.std.specs.Int.{w128}
-use Rattle.std.proofs.lemmas.Int.{to_z-of_z}
-use Rattle.crn_vec.specs.Vectors.{entry, AreWithin}
-use Rattle.crn_vec.specs.declared.limits.TheConstants.{MAX_AMOUNT}
-use Rattle.crn_vec.proofs.CallerLemmas.{within_append}
+use Rattle.crn_sign.proofs.Prelude.{◌++◌, ◌∷◌, [], List, ℤ, length, get_or, ap, sym, subst, ◌∙◌, ◌<◌, arith, w128, to_z-of_z, entry, AreWithin, MAX_AMOUNT, within_append}
 use Rattle.crn_sign.proofs.PastLaws.{column_step}
 use Rattle.crn_sign.proofs.columns.column_of.Goals as goal
 

@@ -1,4 +1,4 @@
-use Rattle.crn_sign.specs.Inner.Columns.{AreColumns}
+use Rattle.crn_sign.proofs.Prelude.{AreColumns}
 use Rattle.crn_sign.proofs.columns.columns_of.Given as goal
 
 abbrev pub invariant-loop-number : goal.invariant-loop-number

@@ -1,8 +1,4 @@
-use Rattle.std.proofs.Common.{◌∙◌, List, ℤ, length, ap, sym}
-use Rattle.std.specs.Int.{w128}
-use Rattle.std.proofs.lemmas.Int.{to_z-of_z}
-use Rattle.crn_vec.specs.Vectors.{dot}
-use Rattle.crn_vec.proofs.CallerLemmas.{length-column}
+use Rattle.crn_sign.proofs.Prelude.{◌∙◌, List, ℤ, length, ap, sym, w128, to_z-of_z, dot, length-column}
 use Rattle.crn_sign.proofs.columns.formed_product.Goals as goal
 
 pub dot-requires-clause-same : goal.dot-requires-clause-same

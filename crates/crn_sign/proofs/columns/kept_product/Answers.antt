@@ -1,10 +1,4 @@
-use Rattle.std.proofs.Common.{◌∙◌, List, ℤ, inr, length, ap, sym, subst}
-use Rattle.std.specs.Int.{w128}
-use Rattle.std.proofs.lemmas.Int.{to_z-of_z}
-use Rattle.crn_vec.specs.Skips.{AreSkips}
-use Rattle.crn_vec.specs.Vectors.{AreWithin, dot}
-use Rattle.crn_vec.specs.declared.limits.TheConstants.{MAX_AMOUNT}
-use Rattle.crn_vec.proofs.CallerLemmas.{length-column}
+use Rattle.crn_sign.proofs.Prelude.{◌∙◌, List, ℤ, inr, length, ap, sym, subst, w128, to_z-of_z, AreSkips, AreWithin, dot, MAX_AMOUNT, length-column}
 use Rattle.crn_sign.proofs.columns.kept_product.Goals as goal
 
 pub returns : goal.returns

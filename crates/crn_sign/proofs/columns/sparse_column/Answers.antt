@@ -1,5 +1,4 @@
-use Rattle.std.proofs.Common.{List, ℤ, length, ap, ◌∙◌, arith}
-use Rattle.crn_vec.proofs.CallerLemmas.{length-column}
+use Rattle.crn_sign.proofs.Prelude.{List, ℤ, length, ap, ◌∙◌, arith, length-column}
 use Rattle.crn_sign.proofs.columns.sparse_column.Goals as goal
 
 pub skips_of-skips-requires : goal.skips_of-skips-requires

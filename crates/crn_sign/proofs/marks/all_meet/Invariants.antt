@@ -1,6 +1,4 @@
-use Rattle.std.proofs.Common.{◌<◌, ◌*◌, ℕ}
-use Rattle.crn_sign.specs.Inner.Bits.{mark_at}
-use Rattle.crn_sign.specs.Inner.Marks.{Suits, kind_there}
+use Rattle.crn_sign.proofs.Prelude.{◌<◌, ◌*◌, ℕ, mark_at, Suits, kind_there}
 use Rattle.crn_sign.proofs.marks.all_meet.Given as goal
 
 abbrev pub invariant-loop-w : goal.invariant-loop-w

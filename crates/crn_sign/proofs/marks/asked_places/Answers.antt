@@ -1,9 +1,4 @@
-use Rattle.std.proofs.Common.{◌≡◌, ℕ, zero, suc, max, refl, sym, ◌∙◌, arith}
-use Rattle.std.specs.Int.{bit_at}
-use Rattle.std.proofs.lemmas.Nat.Bits.{bit_at_or}
-use Rattle.crn_vec.specs.declared.signs.Kind.TheVariants.{Free}
-use Rattle.crn_sign.specs.Inner.Bits.{mark_of}
-use Rattle.crn_sign.specs.Inner.Marks.{kind_of_mark}
+use Rattle.crn_sign.proofs.Prelude.{◌≡◌, ℕ, zero, suc, max, refl, sym, ◌∙◌, arith, bit_at, bit_at_or, Free, mark_of, kind_of_mark}
 use Rattle.crn_sign.proofs.marks.asked_places.Goals as goal
 
 -- a coordinate of neither bit is free

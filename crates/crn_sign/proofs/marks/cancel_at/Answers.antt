@@ -1,7 +1,4 @@
-use Rattle.std.proofs.Common.{refl, subst}
-use Rattle.crn_sign.specs.declared.marks.Mark.{Mark}
-use Rattle.crn_sign.specs.Inner.Bits.{mark_at}
-use Rattle.crn_sign.specs.Inner.Marks.{AreOpposite}
+use Rattle.crn_sign.proofs.Prelude.{refl, subst, Mark, mark_at, AreOpposite}
 use Rattle.crn_sign.proofs.MarkLaws.{cleared}
 use Rattle.crn_sign.proofs.marks.cancel_at.Goals as goal
 

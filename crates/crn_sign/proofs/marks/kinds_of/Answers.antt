@@ -1,16 +1,5 @@
-use Rattle.std.proofs.Common.{◌≡◌, ◌<◌, ◌+◌, ◌*◌, ◌/◌, ◌%◌, ℕ, List, length, inl, inr, sym, ap, ◌∙◌, arith}
-use Rattle.std.specs.Int.{bit_at}
-use Rattle.std.proofs.lemmas.List.{length-replicate, get_or-replicate}
-use Rattle.std.proofs.lemmas.List.FromFn.{fill_by_all}
+use Rattle.crn_sign.proofs.Prelude.{◌≡◌, ◌<◌, ◌+◌, ◌*◌, ◌/◌, ◌%◌, ℕ, List, length, inl, inr, sym, ap, ◌∙◌, arith, bit_at, length-replicate, get_or-replicate, fill_by_all, Kind, Free, width, kind_at, eq_or, weakened, word_of, mark_in, word_at, kind_of_mark, kind_there}
 use lib.ListN.{replicate}
-use Rattle.crn_vec.specs.declared.signs.Kind.{Kind}
-use Rattle.crn_vec.specs.declared.signs.Kind.TheVariants.{Free}
-use Rattle.crn_vec.specs.Elementary.{width}
-use Rattle.crn_vec.specs.Systems.{kind_at}
-use Rattle.crn_vec.proofs.CallerLemmas.{eq_or}
-use Rattle.crn_sign.specs.Options.{weakened, word_of}
-use Rattle.crn_sign.specs.Inner.Bits.{mark_in, word_at}
-use Rattle.crn_sign.specs.Inner.Marks.{kind_of_mark, kind_there}
 use Rattle.crn_sign.proofs.MarkLaws.{kinds_by}
 use Rattle.crn_sign.proofs.marks.kinds_of.Goals as goal
 

@@ -1,8 +1,4 @@
-use Rattle.std.proofs.Common.{◌≡◌, ◌<◌, ◌≤◌, ◌/◌, ℕ, length}
-use Rattle.crn_vec.specs.declared.signs.Kind.TheVariants.{Free}
-use Rattle.crn_vec.specs.Systems.{kind_at}
-use Rattle.crn_vec.specs.Elementary.{width}
-use Rattle.crn_sign.specs.Inner.Marks.{kind_there}
+use Rattle.crn_sign.proofs.Prelude.{◌≡◌, ◌<◌, ◌≤◌, ◌/◌, ℕ, length, Free, kind_at, width, kind_there}
 use Rattle.crn_sign.proofs.marks.kinds_of.Given as goal
 
 abbrev pub invariant-loop-w : goal.invariant-loop-w

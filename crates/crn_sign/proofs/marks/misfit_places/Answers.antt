@@ -1,5 +1,4 @@
-use Rattle.std.specs.Int.{bit_at}
-use Rattle.std.proofs.lemmas.Nat.Bits.{bit_at-lt, bit_at_and, bit_at_or, bit_at_xor}
+use Rattle.crn_sign.proofs.Prelude.{bit_at, bit_at-lt, bit_at_and, bit_at_or, bit_at_xor}
 use Rattle.crn_sign.proofs.BitLaws.{fits}
 use Rattle.crn_sign.proofs.marks.misfit_places.Goals as goal
 

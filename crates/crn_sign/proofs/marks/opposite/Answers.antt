@@ -1,5 +1,4 @@
-use Rattle.std.specs.Int.{bit_at}
-use Rattle.std.proofs.lemmas.Nat.Bits.{bit_at-lt}
+use Rattle.crn_sign.proofs.Prelude.{bit_at, bit_at-lt}
 use Rattle.crn_sign.proofs.BitLaws.{swaps}
 use Rattle.crn_sign.proofs.marks.opposite.Goals as goal
 

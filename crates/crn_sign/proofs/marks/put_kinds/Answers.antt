@@ -1,12 +1,4 @@
-use Rattle.std.proofs.Common.{◌≡◌, ◌≢◌, ◌+◌, ◌*◌, ℕ, inl, inr, refl, sym, ap, ap₂, ◌∙◌, w64, arith}
-use Rattle.std.specs.Int.{bit_at, trailing_zeros}
-use Rattle.std.proofs.lemmas.Nat.Bits.{bit_at-zero, bit_at-trailing_zeros}
-use Rattle.crn_vec.specs.declared.signs.Kind.{Kind}
-use Rattle.crn_vec.specs.Systems.{kind_at}
-use Rattle.crn_vec.proofs.CallerLemmas.{eq_or}
-use Rattle.crn_sign.specs.Options.{weakened}
-use Rattle.crn_sign.specs.Inner.Bits.{mark_in}
-use Rattle.crn_sign.specs.Inner.Marks.{kind_of_mark}
+use Rattle.crn_sign.proofs.Prelude.{◌≡◌, ◌≢◌, ◌+◌, ◌*◌, ℕ, inl, inr, refl, sym, ap, ap₂, ◌∙◌, w64, arith, bit_at, trailing_zeros, bit_at-zero, bit_at-trailing_zeros, Kind, kind_at, eq_or, weakened, mark_in, kind_of_mark}
 use Rattle.crn_sign.proofs.marks.put_kinds.Goals as goal
 
 pub bits-init : goal.bits-init

@@ -1,9 +1,4 @@
-use Rattle.std.proofs.Common.{◌≡◌, ◌≢◌, ◌<◌, ◌+◌, ◌*◌, ◌/◌, ℕ, length}
-use Rattle.std.specs.Int.{bit_at}
-use Rattle.crn_vec.specs.Systems.{kind_at}
-use Rattle.crn_sign.specs.Options.{weakened}
-use Rattle.crn_sign.specs.Inner.Bits.{mark_in}
-use Rattle.crn_sign.specs.Inner.Marks.{kind_of_mark}
+use Rattle.crn_sign.proofs.Prelude.{◌≡◌, ◌≢◌, ◌<◌, ◌+◌, ◌*◌, ◌/◌, ℕ, length, bit_at, kind_at, weakened, mark_in, kind_of_mark}
 use Rattle.crn_sign.proofs.marks.put_kinds.Given as goal
 
 abbrev pub invariant-bits : goal.invariant-bits

@@ -1,5 +1,4 @@
-use Rattle.std.proofs.Common.{arith}
-use Rattle.crn_sign.specs.Inner.Marks.{laid}
+use Rattle.crn_sign.proofs.Prelude.{arith, laid}
 use Rattle.crn_sign.proofs.BitLaws.{made_none, made_step}
 use Rattle.crn_sign.proofs.marks.put_laid.Goals as goal
 

@@ -1,4 +1,4 @@
-use Rattle.crn_sign.specs.Inner.Marks.{laid}
+use Rattle.crn_sign.proofs.Prelude.{laid}
 use Rattle.crn_sign.proofs.BitLaws.{IsMade}
 use Rattle.crn_sign.proofs.marks.put_laid.Given as goal
 

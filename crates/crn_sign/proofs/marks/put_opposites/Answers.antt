@@ -1,5 +1,4 @@
-use Rattle.std.proofs.Common.{arith}
-use Rattle.crn_sign.specs.Inner.Marks.{negative}
+use Rattle.crn_sign.proofs.Prelude.{arith, negative}
 use Rattle.crn_sign.proofs.BitLaws.{made_none, made_step}
 use Rattle.crn_sign.proofs.MarkLaws.{negatives}
 use Rattle.crn_sign.proofs.marks.put_opposites.Goals as goal

@@ -1,4 +1,4 @@
-use Rattle.crn_sign.specs.Inner.Marks.{negative}
+use Rattle.crn_sign.proofs.Prelude.{negative}
 use Rattle.crn_sign.proofs.BitLaws.{IsMade}
 use Rattle.crn_sign.proofs.marks.put_opposites.Given as goal
 

@@ -1,7 +1,4 @@
-use Rattle.std.proofs.Common.{◌≡◌, ℕ, ◌∙◌, inl, inr, sym, ap, arith}
-use Rattle.crn_vec.proofs.CallerLemmas.{eq_or}
-use Rattle.crn_sign.specs.Inner.Bits.{mark_at}
-use Rattle.crn_sign.specs.Inner.Marks.{sign_mark, sign_there}
+use Rattle.crn_sign.proofs.Prelude.{◌≡◌, ℕ, ◌∙◌, inl, inr, sym, ap, arith, eq_or, mark_at, sign_mark, sign_there}
 use Rattle.crn_sign.proofs.MarkLaws.{from_signs}
 use Rattle.crn_sign.proofs.marks.put_signs.Goals as goal
 

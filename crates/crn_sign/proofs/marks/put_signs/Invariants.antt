@@ -1,6 +1,4 @@
-use Rattle.std.proofs.Common.{◌≡◌, ◌<◌, ℕ, length}
-use Rattle.crn_sign.specs.Inner.Bits.{mark_at}
-use Rattle.crn_sign.specs.Inner.Marks.{sign_mark, sign_there}
+use Rattle.crn_sign.proofs.Prelude.{◌≡◌, ◌<◌, ℕ, length, mark_at, sign_mark, sign_there}
 use Rattle.crn_sign.proofs.marks.put_signs.Given as goal
 
 abbrev pub invariant-loop-k : goal.invariant-loop-k

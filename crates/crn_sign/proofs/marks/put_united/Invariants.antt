@@ -1,4 +1,4 @@
-use Rattle.crn_sign.specs.Inner.Marks.{united}
+use Rattle.crn_sign.proofs.Prelude.{united}
 use Rattle.crn_sign.proofs.BitLaws.{IsMade}
 use Rattle.crn_sign.proofs.marks.put_united.Given as goal
 

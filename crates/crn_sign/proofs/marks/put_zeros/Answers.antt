@@ -1,6 +1,4 @@
-use Rattle.std.proofs.Common.{arith}
-use Rattle.crn_sign.specs.declared.marks.Mark.TheVariants.{Zero}
-use Rattle.crn_sign.specs.Inner.Bits.{none}
+use Rattle.crn_sign.proofs.Prelude.{arith, Zero, none}
 use Rattle.crn_sign.proofs.BitLaws.{made_none, made_step, none_in}
 use Rattle.crn_sign.proofs.MarkLaws.{none_marked}
 use Rattle.crn_sign.proofs.marks.put_zeros.Goals as goal

@@ -1,4 +1,4 @@
-use Rattle.crn_sign.specs.declared.marks.Mark.TheVariants.{Zero}
+use Rattle.crn_sign.proofs.Prelude.{Zero}
 use Rattle.crn_sign.proofs.BitLaws.{IsMade}
 use Rattle.crn_sign.proofs.marks.put_zeros.Given as goal
 

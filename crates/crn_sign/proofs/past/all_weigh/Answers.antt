@@ -1,10 +1,4 @@
-use Rattle.std.proofs.Common.{ℕ, ◌≡◌, ◌/◌, ◌%◌, ◌∙◌, inl, inr, ap, sym, subst, arith}
-use Rattle.std.specs.Int.{bit_at}
-use Rattle.std.proofs.lemmas.Nat.Bits.{bit_at-zero}
-use Rattle.crn_vec.proofs.CallerLemmas.{eq_or}
-use Rattle.crn_sign.specs.declared.marks.Mark.{Mark}
-use Rattle.crn_sign.specs.Inner.Bits.{mark_at, mark_in, word_at}
-use Rattle.crn_sign.specs.Inner.Past.{Weighs, mark_of_multiple}
+use Rattle.crn_sign.proofs.Prelude.{ℕ, ◌≡◌, ◌/◌, ◌%◌, ◌∙◌, inl, inr, ap, sym, subst, arith, bit_at, bit_at-zero, eq_or, Mark, mark_at, mark_in, word_at, Weighs, mark_of_multiple}
 use Rattle.crn_sign.proofs.past.all_weigh.Goals as goal
 
 pub loop-w-preserved : goal.loop-w-preserved

@@ -1,6 +1,4 @@
-use Rattle.std.proofs.Common.{◌<◌, ◌*◌, ℕ}
-use Rattle.crn_sign.specs.Inner.Bits.{mark_at}
-use Rattle.crn_sign.specs.Inner.Past.{Weighs, mark_of_multiple}
+use Rattle.crn_sign.proofs.Prelude.{◌<◌, ◌*◌, ℕ, mark_at, Weighs, mark_of_multiple}
 use Rattle.crn_sign.proofs.past.all_weigh.Given as goal
 
 abbrev pub invariant-loop-w : goal.invariant-loop-w

@@ -1,4 +1,4 @@
-use Rattle.crn_sign.specs.Inner.PastCuts.{ArePastCuts}
+use Rattle.crn_sign.proofs.Prelude.{ArePastCuts}
 use Rattle.crn_sign.proofs.past.empty_cuts.Given as goal
 
 abbrev pub invariant-loop : goal.invariant-loop

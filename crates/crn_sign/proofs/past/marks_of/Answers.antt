@@ -1,4 +1,4 @@
-use Rattle.std.proofs.Common.{arith}
+use Rattle.crn_sign.proofs.Prelude.{arith}
 use Rattle.crn_sign.proofs.PastLaws.{marked_all, marked_more}
 use Rattle.crn_sign.proofs.past.marks_of.Goals as goal
 

@@ -1,6 +1,4 @@
-use Rattle.std.proofs.Common.{Bool, ap, sym, ◌∙◌}
-use Rattle.crn_sign.specs.Inner.Bits.{mark_in}
-use Rattle.crn_sign.specs.Inner.Past.{mark_of_multiple}
+use Rattle.crn_sign.proofs.Prelude.{Bool, ap, sym, ◌∙◌, mark_in, mark_of_multiple}
 use Rattle.crn_sign.proofs.past.marks_of_multiple.Goals as goal
 
 pub returns-then-stays : goal.returns-then-stays

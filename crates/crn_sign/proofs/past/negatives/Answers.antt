@@ -1,10 +1,4 @@
-use Rattle.std.proofs.Common.{◌++◌, ◌∷◌, [], List, ℤ, ap, sym, ◌∙◌, false}
-use Rattle.std.specs.Int.{w128}
-use Rattle.std.proofs.lemmas.Int.{to_z-of_z}
-use Rattle.crn_vec.specs.Vectors.{entry}
-use Rattle.std.specs.Prelude.{◌*ℤ◌}
-use Rattle.crn_farkas.specs.Decision.{factor}
-use Rattle.crn_farkas.proofs.CallerLemmas.{scale_step}
+use Rattle.crn_sign.proofs.Prelude.{◌++◌, ◌∷◌, [], List, ℤ, ap, sym, ◌∙◌, false, w128, to_z-of_z, entry, ◌*ℤ◌, factor, scale_step}
 use Rattle.crn_sign.proofs.past.negatives.Goals as goal
 
 pub loop-x-preserved : goal.loop-x-preserved

@@ -1,6 +1,4 @@
-use Rattle.std.proofs.Common.{◌≡◌, take, false}
-use Rattle.crn_vec.specs.Vectors.{scale}
-use Rattle.crn_farkas.specs.Decision.{factor}
+use Rattle.crn_sign.proofs.Prelude.{◌≡◌, take, false, scale, factor}
 use Rattle.crn_sign.proofs.past.negatives.Given as goal
 
 abbrev pub invariant-loop-x : goal.invariant-loop-x

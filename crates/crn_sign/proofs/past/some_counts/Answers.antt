@@ -1,9 +1,4 @@
-use Rattle.std.proofs.Common.{ℕ, ◌≡◌, ◌+◌, ◌*◌, ◌/◌, ◌%◌, sym, subst, w64, arith}
-use Rattle.std.specs.Int.{bit_at, trailing_zeros}
-use Rattle.std.proofs.lemmas.Nat.Bits.{bit_at-trailing_zeros}
-use Rattle.crn_sign.specs.Options.{word_of}
-use Rattle.crn_sign.specs.Inner.Bits.{mark_in, word_at}
-use Rattle.crn_sign.specs.Inner.Past.{Counts}
+use Rattle.crn_sign.proofs.Prelude.{ℕ, ◌≡◌, ◌+◌, ◌*◌, ◌/◌, ◌%◌, sym, subst, w64, arith, bit_at, trailing_zeros, bit_at-trailing_zeros, word_of, mark_in, word_at, Counts}
 use Rattle.crn_sign.proofs.past.some_counts.Goals as goal
 
 pub returns-then-places-ne0 : goal.returns-then-places-ne0

@@ -1,9 +1,4 @@
-use Rattle.std.proofs.Common.{◌≡◌, ◌++◌, List, [], length, take, drop, ap, subst, ◌∙◌, arith}
-use Rattle.crn_vec.specs.Vectors.{Mat}
-use Rattle.crn_vec.specs.Problems.{Signed}
-use Rattle.crn_vec.proofs.CallerLemmas.{written}
-use Rattle.crn_sign.specs.declared.bits.Bits.{Bits}
-use Rattle.crn_sign.specs.Inner.Marks.{AreRowMarks, kinds_of}
+use Rattle.crn_sign.proofs.Prelude.{◌≡◌, ◌++◌, List, [], length, take, drop, ap, subst, ◌∙◌, arith, Mat, Signed, written, Bits, AreRowMarks, kinds_of}
 use Rattle.crn_sign.proofs.PlaceLaws.{asked_kinds}
 use Rattle.crn_sign.proofs.place.begin_a.Goals as goal
 

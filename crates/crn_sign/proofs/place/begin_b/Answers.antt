@@ -1,9 +1,4 @@
-use Rattle.std.proofs.Common.{◌<◌, List, [], length, ap, subst, ◌∙◌, arith}
-use Rattle.crn_vec.specs.Vectors.{Mat}
-use Rattle.crn_vec.specs.Problems.{Signed}
-use Rattle.crn_vec.specs.Elementary.{width}
-use Rattle.crn_sign.specs.declared.bits.Bits.{Bits}
-use Rattle.crn_sign.specs.Inner.Marks.{AreRowMarks}
+use Rattle.crn_sign.proofs.Prelude.{◌<◌, List, [], length, ap, subst, ◌∙◌, arith, Mat, Signed, width, Bits, AreRowMarks}
 use Rattle.crn_sign.proofs.PlaceLaws.{begun_room, begun_step, kinds_are}
 use Rattle.crn_sign.proofs.place.begin_b.Goals as goal
 

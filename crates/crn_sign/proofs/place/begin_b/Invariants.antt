@@ -1,4 +1,4 @@
-use Rattle.std.proofs.Common.{[]}
+use Rattle.crn_sign.proofs.Prelude.{[]}
 use Rattle.crn_sign.proofs.PlaceLaws.{IsBegun}
 use Rattle.crn_sign.proofs.place.begin_b.Given as goal
 

@@ -1,5 +1,4 @@
-use Rattle.std.proofs.Common.{length, refl}
-use Rattle.crn_vec.specs.Problems.{Signed}
+use Rattle.crn_sign.proofs.Prelude.{length, refl, Signed}
 use Rattle.crn_sign.proofs.PlaceLaws.{around_settling}
 use Rattle.crn_sign.proofs.place.enter_b.Goals as goal
 

@@ -1,4 +1,4 @@
-use Rattle.crn_sign.specs.Inner.Marks.{kinds_of}
+use Rattle.crn_sign.proofs.Prelude.{kinds_of}
 use Rattle.crn_sign.proofs.MarkLaws.{kinds_long, met_suited, suited_solution}
 use Rattle.crn_sign.proofs.place.is_met.Goals as goal
 

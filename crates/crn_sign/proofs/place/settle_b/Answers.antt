@@ -1,5 +1,4 @@
-use Rattle.std.proofs.Common.{◌+◌, drop, arith}
-use Rattle.crn_vec.specs.Problems.{Signed}
+use Rattle.crn_sign.proofs.Prelude.{◌+◌, drop, arith, Signed}
 use Rattle.crn_sign.proofs.PlaceLaws.{all_settled, first_of, none_left, one_settled, settling_room}
 use Rattle.crn_sign.proofs.place.settle_b.Goals as goal
 

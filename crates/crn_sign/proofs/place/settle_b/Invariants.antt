@@ -1,5 +1,4 @@
-use Rattle.std.proofs.Common.{drop}
-use Rattle.crn_sign.specs.Inner.Places.{IsSettling}
+use Rattle.crn_sign.proofs.Prelude.{drop, IsSettling}
 use Rattle.crn_sign.proofs.place.settle_b.Given as goal
 
 abbrev pub invariant-loop-i : goal.invariant-loop-i

@@ -1,4 +1,4 @@
-use Rattle.std.proofs.Common.{refl, sym, ◌∙◌, arith}
+use Rattle.crn_sign.proofs.Prelude.{refl, sym, ◌∙◌, arith}
 use Rattle.crn_sign.proofs.PlaceLaws.{put_here, put_other}
 use Rattle.crn_sign.proofs.place.settle_one_b.Goals as goal
 

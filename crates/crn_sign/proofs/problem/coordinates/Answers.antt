@@ -1,5 +1,4 @@
-use Rattle.std.proofs.Common.{◌++◌, ◌∷◌, [], ℕ, List, sym, ap, ◌∙◌, arith}
-use Rattle.crn_vec.proofs.CallerLemmas.{range_more}
+use Rattle.crn_sign.proofs.Prelude.{◌++◌, ◌∷◌, [], ℕ, List, sym, ap, ◌∙◌, arith, range_more}
 use Rattle.crn_sign.proofs.problem.coordinates.Goals as goal
 
 pub loop-k-preserved : goal.loop-k-preserved

@@ -1,13 +1,5 @@
-use Rattle.std.proofs.Common.{◌≡◌, ◌+◌, List, [], ◌∷◌, ◌++◌, length, refl, sym, ◌∙◌, ap, subst, arith, rules}
+use Rattle.crn_sign.proofs.Prelude.{◌≡◌, ◌+◌, List, [], ◌∷◌, ◌++◌, length, refl, sym, ◌∙◌, ap, subst, arith, rules, Bits, Flat, Listing, ListedSplitTwo, ListedSplitThree, listed, EndsAt, EndsBelow, IsFoundAt, split_node, Sign, Signed, IsFeasible, all_zero, AreAround, AreRoomsBelow}
 use Rattle.crn_vec.specs.declared.signs.Sign.TheVariants.{Zero, Plus, Minus}
-use Rattle.crn_sign.specs.declared.bits.Bits.{Bits}
-use Rattle.crn_cert.specs.declared.tree_node.TreeNode.TheVariants.{Flat}
-use Rattle.crn_sign.specs.declared.walk.Listing.{Listing}
-use Rattle.crn_cert.specs.Preorder.{ListedSplitTwo, ListedSplitThree, listed}
-use Rattle.crn_sign.specs.Inner.Walk.{EndsAt, EndsBelow, IsFoundAt, split_node}
-use Rattle.crn_vec.specs.declared.signs.Sign.{Sign}
-use Rattle.crn_vec.specs.Problems.{Signed, IsFeasible, all_zero}
-use Rattle.crn_sign.specs.Inner.Ready.{AreAround, AreRoomsBelow}
 use Rattle.crn_sign.proofs.PlaceLaws.{asked_around, level_moved, taken_back}
 use Rattle.crn_sign.proofs.Walks.{run_out, feasible_from, leaf_flat, leaf_at, AppendsOne, appends_one, found_at, opened_at, child_tree, first_child, second_child, third_child, both_trees}
 use Rattle.crn_sign.proofs.walk.+walk.Goals as goal

@@ -1,4 +1,4 @@
-use Rattle.std.proofs.Common.{◌+◌, ◌-◌, ◌*◌, length}
+use Rattle.crn_sign.proofs.Prelude.{◌+◌, ◌-◌, ◌*◌, length}
 use Rattle.crn_sign.proofs.walk.+walk.Given as goal
 
 abbrev pub decreases-child : goal.decreases-child

@@ -1,8 +1,4 @@
-use Rattle.std.proofs.Common.{List, refl, subst}
-use Rattle.crn_vec.specs.declared.signs.Sign.{Sign}
-use Rattle.crn_vec.specs.Problems.{Signed}
-use Rattle.crn_farkas.specs.Decision.{IsSmallCut}
-use Rattle.crn_sign.specs.Inner.Ready.{AreAsked}
+use Rattle.crn_sign.proofs.Prelude.{List, refl, subst, Sign, Signed, IsSmallCut, AreAsked}
 use Rattle.crn_sign.proofs.PlaceLaws.{level_asked, taken_level}
 use Rattle.crn_sign.proofs.Walks.{leaf_a, leaf_b}
 use Rattle.crn_sign.proofs.walk.arrive.Goals as goal

@@ -1,8 +1,4 @@
-use Rattle.std.proofs.Common.{◌≡◌, ◌++◌, List, length, take, drop, sym, ap, subst, ◌∙◌, arith}
-use Rattle.crn_vec.specs.Problems.{Signed}
-use Rattle.crn_vec.proofs.CallerLemmas.{written}
-use Rattle.crn_sign.specs.declared.bits.Bits.{Bits}
-use Rattle.crn_sign.specs.Inner.Marks.{kinds_of}
+use Rattle.crn_sign.proofs.Prelude.{◌≡◌, ◌++◌, List, length, take, drop, sym, ap, subst, ◌∙◌, arith, Signed, written, Bits, kinds_of}
 use Rattle.crn_sign.proofs.PlaceLaws.{asked_kinds}
 use Rattle.crn_sign.proofs.walk.enter.Goals as goal
 

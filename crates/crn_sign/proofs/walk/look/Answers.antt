@@ -1,9 +1,4 @@
-use Rattle.std.proofs.Common.{ℕ, List, [], refl, sym, ap, subst, ◌∙◌}
-use Rattle.crn_vec.specs.Vectors.{Mat}
-use Rattle.crn_vec.specs.Problems.{Signed}
-use Rattle.crn_sign.specs.declared.bits.Bits.{Bits}
-use Rattle.crn_sign.specs.Inner.Marks.{AreRowMarks, kinds_of}
-use Rattle.crn_sign.specs.Inner.Places.{HasRoom, IsFor}
+use Rattle.crn_sign.proofs.Prelude.{ℕ, List, [], refl, sym, ap, subst, ◌∙◌, Mat, Signed, Bits, AreRowMarks, kinds_of, HasRoom, IsFor}
 use Rattle.crn_sign.proofs.walk.look.Goals as goal
 
 pub look-requires : goal.look-requires

@@ -1,4 +1,4 @@
-use Rattle.std.proofs.Common.{arith}
+use Rattle.crn_sign.proofs.Prelude.{arith}
 use Rattle.crn_sign.proofs.walk.rooms.Goals as goal
 
 pub returns : goal.returns

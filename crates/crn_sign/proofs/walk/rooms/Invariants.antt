@@ -1,6 +1,4 @@
-use Rattle.std.proofs.Common.{◌≡◌, length}
-use Rattle.std.specs.List.{AllByRecursion}
-use Rattle.crn_sign.specs.Inner.Ready.{HasRooms}
+use Rattle.crn_sign.proofs.Prelude.{◌≡◌, length, AllByRecursion, HasRooms}
 use Rattle.crn_sign.proofs.walk.rooms.Given as goal
 
 abbrev pub invariant-loop : goal.invariant-loop

@@ -1,9 +1,4 @@
-use Rattle.std.proofs.Common.{List, [], ℤ, ◌∙◌, refl, sym, subst}
-use Rattle.crn_vec.specs.declared.signs.Sign.{Sign}
-use Rattle.crn_vec.specs.Problems.{Signed, SolvesA, SolvesB}
-use Rattle.crn_farkas.specs.Decision.{IsSmallCut}
-use Rattle.crn_sign.specs.declared.walk.Level.{Level}
-use Rattle.crn_sign.specs.Inner.Places.{IsHere}
+use Rattle.crn_sign.proofs.Prelude.{List, [], ℤ, ◌∙◌, refl, sym, subst, Sign, Signed, SolvesA, SolvesB, IsSmallCut, Level, IsHere}
 use Rattle.crn_sign.proofs.PlaceLaws.{asked_at, level_asked, level_at}
 use Rattle.crn_sign.proofs.Walks.{leaf_a, leaf_b}
 use Rattle.crn_sign.proofs.walk.rule_out.Goals as goal

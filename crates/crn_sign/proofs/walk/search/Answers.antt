@@ -1,6 +1,4 @@
-use Rattle.std.proofs.Common.{true, refl}
-use Rattle.crn_vec.specs.Problems.{Signed}
-use Rattle.crn_sign.specs.declared.walk.Listing.{Listing}
+use Rattle.crn_sign.proofs.Prelude.{true, refl, Signed, Listing}
 use Rattle.crn_sign.proofs.Walks.{has_tree, search_end}
 use Rattle.crn_sign.proofs.walk.search.Goals as goal
 

@@ -1,7 +1,4 @@
-use Rattle.std.proofs.Common.{sym, subst}
-use Rattle.crn_vec.specs.Problems.{Signed}
-use Rattle.crn_sign.specs.declared.end.SearchOutcome.{SearchOutcome}
-use Rattle.crn_sign.specs.Search.{IsOutcome}
+use Rattle.crn_sign.proofs.Prelude.{sym, subst, Signed, SearchOutcome, IsOutcome}
 use Rattle.crn_sign.proofs.Walks.{search_outcome}
 use Rattle.crn_sign.proofs.walk.search_outcome.Goals as goal
 

@@ -1,6 +1,4 @@
-use Rattle.std.proofs.Common.{List, length, sym, ap, ◌∙◌}
-use Rattle.crn_vec.specs.Problems.{Signed}
-use Rattle.crn_sign.specs.declared.bits.Bits.{Bits}
+use Rattle.crn_sign.proofs.Prelude.{List, length, sym, ap, ◌∙◌, Signed, Bits}
 use Rattle.crn_sign.proofs.PlaceLaws.{around_above}
 use Rattle.crn_sign.proofs.walk.surround.Goals as goal
 

@@ -1,7 +1,4 @@
-use Rattle.std.proofs.Common.{ℕ, List, [], refl, sym, subst}
-use Rattle.crn_vec.specs.Vectors.{Mat}
-use Rattle.crn_sign.specs.Inner.Marks.{AreRowMarks}
-use Rattle.crn_sign.specs.Inner.Places.{IsFor, IsPlace}
+use Rattle.crn_sign.proofs.Prelude.{ℕ, List, [], refl, sym, subst, Mat, AreRowMarks, IsFor, IsPlace}
 use Rattle.crn_sign.proofs.walk.take.Goals as goal
 
 pub take-requires : goal.take-requires

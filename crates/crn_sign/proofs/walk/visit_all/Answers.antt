@@ -1,7 +1,4 @@
-use Rattle.std.proofs.Common.{ℕ, List, subst}
-use Rattle.crn_vec.specs.declared.signs.Sign.{Sign}
-use Rattle.crn_vec.specs.Problems.{Signed}
-use Rattle.crn_sign.specs.Inner.Walk.{EndsAt}
+use Rattle.crn_sign.proofs.Prelude.{ℕ, List, subst, Sign, Signed, EndsAt}
 use Rattle.crn_sign.proofs.walk.visit_all.Goals as goal
 
 pub returns : goal.returns

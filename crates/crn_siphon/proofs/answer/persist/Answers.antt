@@ -1,10 +1,4 @@
-use Rattle.std.proofs.Common.{subst}
-use Rattle.crn_conc.proofs.CallerLemmas.{if_ok}
-use Rattle.crn_farkas.specs.declared.decision.Decision.{Decision}
-use Rattle.crn_solve.specs.Laws.{IsLawDecision}
-use Rattle.crn_siphon_check.specs.Answers.{IsAnswer, said_of}
-use Rattle.crn_siphon_check.specs.declared.answer.Persist.{Persist}
-use Rattle.crn_siphon.specs.Inner.Ends.{IsStopAnswer}
+use Rattle.crn_siphon.proofs.Prelude.{subst, if_ok, Decision, IsLawDecision, IsAnswer, said_of, Persist, IsStopAnswer}
 use Rattle.crn_siphon.proofs.EndLaws.{first_stop, cut_answer}
 use Rattle.crn_siphon.proofs.answer.persist.Goals as goal
 

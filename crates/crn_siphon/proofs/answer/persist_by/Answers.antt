@@ -1,9 +1,4 @@
-use Rattle.std.proofs.Common.{subst}
-use Rattle.crn_siphon_check.specs.Answers.{IsAnswer, said_of}
-use Rattle.crn_siphon.specs.declared.search.End.{End}
-use Rattle.crn_siphon.specs.Inner.Ends.{IsEndOfVisits, IsStopAnswer}
-use Rattle.crn_conc.proofs.CallerLemmas.{if_ok}
-use Rattle.crn_siphon_check.specs.declared.answer.Persist.{Persist}
+use Rattle.crn_siphon.proofs.Prelude.{subst, IsAnswer, said_of, End, IsEndOfVisits, IsStopAnswer, if_ok, Persist}
 use Rattle.crn_siphon.proofs.EndLaws.{yes_answer, no_answer, stop_answer}
 use Rattle.crn_siphon.proofs.answer.persist_by.Goals as goal
 

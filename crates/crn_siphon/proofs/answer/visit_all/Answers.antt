@@ -1,4 +1,4 @@
-use Rattle.std.proofs.Common.{[], refl}
+use Rattle.crn_siphon.proofs.Prelude.{[], refl}
 use Rattle.crn_siphon.proofs.Stops.{root_place}
 use Rattle.crn_siphon.proofs.EndLaws.{all_visited_or}
 use Rattle.crn_siphon.proofs.answer.visit_all.Goals as goal

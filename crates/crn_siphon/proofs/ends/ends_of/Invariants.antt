@@ -1,4 +1,4 @@
-use Rattle.crn_siphon.specs.Inner.Places.{AreEnds}
+use Rattle.crn_siphon.proofs.Prelude.{AreEnds}
 use Rattle.crn_siphon.proofs.ends.ends_of.Given as goal
 
 abbrev pub invariant-loop-r : goal.invariant-loop-r

@@ -1,7 +1,4 @@
-use Rattle.std.proofs.Common.{◌≡◌, ◌-◌, ℕ, suc, inl, inr, sym, subst, ◌∙◌, arith}
-use Rattle.std.proofs.lemmas.Bool.{false≢true}
-use Rattle.crn_vec.proofs.CallerLemmas.{lt_or}
-use Rattle.crn_siphon_check.specs.Prefixes.{IsBad}
+use Rattle.crn_siphon.proofs.Prelude.{◌≡◌, ◌-◌, ℕ, suc, inl, inr, sym, subst, ◌∙◌, arith, false≢true, lt_or, IsBad}
 use Rattle.crn_siphon.proofs.Stops.{stops_by}
 use Rattle.crn_siphon.proofs.ends.stopping.Goals as goal
 

@@ -1,6 +1,4 @@
-use Rattle.std.proofs.Common.{◌<◌, ℕ, suc, Bool, List}
-use Rattle.crn_siphon_check.specs.Prefixes.{IsBad}
-use Rattle.crn_siphon.specs.Inner.Places.{IsPlace}
+use Rattle.crn_siphon.proofs.Prelude.{◌<◌, ℕ, suc, Bool, List, IsBad, IsPlace}
 use Rattle.crn_siphon.proofs.ends.stopping.Given as goal
 
 -- no reaction so far stops the prefix

@@ -1,15 +1,5 @@
-use Rattle.std.proofs.Common.{◌≡◌, List, length, ap, sym, subst, ◌∙◌, arith}
-use Rattle.std.specs.Prelude.{ℤ}
-use Rattle.crn_vec.specs.Vectors.{Mat, entry}
-use Rattle.crn_vec.specs.Elementary.{width}
-use Rattle.crn_vec.specs.Systems.{signed_count}
-use Rattle.crn_vec.specs.declared.signs.Kind.{Kind}
-use Rattle.crn_vec.proofs.CallerLemmas.{all_push}
-use Rattle.crn_cert.specs.Ranges.{AreFree}
-use Rattle.crn_farkas.specs.declared.decision.Decision.TheVariants.{Feasible, Infeasible}
+use Rattle.crn_siphon.proofs.Prelude.{◌≡◌, List, length, ap, sym, subst, ◌∙◌, arith, ℤ, Mat, entry, width, signed_count, Kind, all_push, AreFree, Feasible, Infeasible, siphon_kinds, AreIncreased, AreLaws, IsCoverIn, IsLawIn}
 use Rattle.crn_siphon.specs.declared.known.Law.{Law}
-use Rattle.crn_siphon.specs.Inner.Systems.{siphon_kinds}
-use Rattle.crn_siphon.specs.Inner.Known.{AreIncreased, AreLaws, IsCoverIn, IsLawIn}
 use Rattle.crn_siphon.proofs.Systems.{kinds_long, few_signed, decided, solution_formed, solution_increases, cut_is_law}
 use Rattle.crn_siphon.proofs.known.ask.Goals as goal
 

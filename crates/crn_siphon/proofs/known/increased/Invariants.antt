@@ -1,8 +1,5 @@
-use Rattle.std.proofs.Common.{ℕ, pos}
-use Rattle.std.specs.Prelude.{◌≤ℤ◌}
-use Rattle.crn_vec.specs.Rank.{combination_at}
-use Rattle.crn_vec.specs.Deficiency.{vectors}
-use Rattle.crn_siphon.specs.Inner.Sets.{Has}
+use Rattle.crn_siphon.proofs.Prelude.{ℕ, ◌≤ℤ◌, combination_at, vectors, Has}
+use Rattle.std.proofs.Common.{pos}
 use Rattle.crn_siphon.proofs.known.increased.Given as goal
 
 -- each species of the set so far is increased

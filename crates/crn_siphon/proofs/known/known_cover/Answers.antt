@@ -1,4 +1,4 @@
-use Rattle.std.proofs.Common.{arith}
+use Rattle.crn_siphon.proofs.Prelude.{arith}
 use Rattle.crn_siphon.proofs.Covers.{cover_at}
 use Rattle.crn_siphon.proofs.known.known_cover.Goals as goal
 

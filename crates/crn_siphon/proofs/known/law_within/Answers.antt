@@ -1,6 +1,4 @@
-use Rattle.std.proofs.Common.{List, subst}
-use Rattle.crn_siphon.specs.declared.known.Cover.{Cover}
-use Rattle.crn_siphon.specs.Inner.Known.{IsCoverAt}
+use Rattle.crn_siphon.proofs.Prelude.{List, subst, Cover, IsCoverAt}
 use Rattle.crn_siphon.proofs.known.law_within.Goals as goal
 
 pub recall-requires-clause-cover : goal.recall-requires-clause-cover

@@ -1,7 +1,4 @@
-use Rattle.std.proofs.Common.{List, sym, subst}
-use Rattle.crn_vec.proofs.CallerLemmas.{all_push}
-use Rattle.crn_siphon.specs.declared.known.Cover.{Cover}
-use Rattle.crn_siphon.specs.Inner.Known.{AreCovers, IsCoverIn}
+use Rattle.crn_siphon.proofs.Prelude.{List, sym, subst, all_push, Cover, AreCovers, IsCoverIn}
 use Rattle.crn_siphon.proofs.known.put_cover.Goals as goal
 
 pub returns : goal.returns

@@ -1,9 +1,4 @@
-use Rattle.std.proofs.Common.{◌≡◌, List, length, get_or, sym, subst, ◌∙◌}
-use Rattle.std.specs.Prelude.{ℤ}
-use Rattle.crn_cert.specs.Ranges.{AreFree}
-use Rattle.crn_siphon.specs.declared.known.Cover.{Cover}
-use Rattle.crn_siphon.specs.Inner.Known.{AreIncreased, IsCoverIn}
-use Rattle.std.proofs.lemmas.List.{get_or_read}
+use Rattle.crn_siphon.proofs.Prelude.{◌≡◌, List, length, get_or, sym, subst, ◌∙◌, ℤ, AreFree, Cover, AreIncreased, IsCoverIn, get_or_read}
 use Rattle.crn_siphon.proofs.known.recall.Goals as goal
 
 pub returns-clause-known : goal.returns-clause-known

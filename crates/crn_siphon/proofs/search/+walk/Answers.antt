@@ -1,10 +1,4 @@
-use Rattle.std.proofs.Common.{◌≡◌, ◌++◌, List, [], ◌∷◌, length, map, true, false, Bool, ap, sym, subst, ◌∙◌, arith}
-use Rattle.std.specs.Prelude.{ℤ, Option}
-use Rattle.crn_siphon_check.specs.Trees.{plan_of}
-use Rattle.crn_siphon_check.specs.declared.tree.SiphonTree.{SiphonTree}
-use Rattle.crn_siphon.specs.declared.search.End.{End}
-use Rattle.crn_siphon.specs.Inner.Sets.{mark}
-use Rattle.crn_siphon.specs.Inner.Search.{EndsAt, EndsWithTree, IsStanding, IsVisit}
+use Rattle.crn_siphon.proofs.Prelude.{◌≡◌, ◌++◌, List, [], ◌∷◌, length, map, true, false, Bool, ap, sym, subst, ◌∙◌, arith, ℤ, Option, plan_of, SiphonTree, End, mark, EndsAt, EndsWithTree, IsStanding, IsVisit}
 use Rattle.crn_siphon.proofs.SetLaws.{members_are}
 use Rattle.crn_siphon.proofs.EndLaws.{run_out, leaf_at, found_at, opened_at, first_child, second_child, both_trees}
 use Rattle.crn_siphon.proofs.search.+walk.Goals as goal

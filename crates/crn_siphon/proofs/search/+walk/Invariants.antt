@@ -1,4 +1,4 @@
-use Rattle.std.proofs.Common.{◌+◌, ◌-◌, ◌*◌, length}
+use Rattle.crn_siphon.proofs.Prelude.{◌+◌, ◌-◌, ◌*◌, length}
 use Rattle.crn_siphon.proofs.search.+walk.Given as goal
 
 abbrev pub decreases-fork : goal.decreases-fork

@@ -1,8 +1,4 @@
-use Rattle.std.proofs.Common.{sym, subst, ◌∙◌}
-use Rattle.std.specs.Prelude.{Option}
-use Rattle.std.proofs.lemmas.Bool.{false≢true}
-use Rattle.crn_vec.specs.Kept.{KeptInts}
-use Rattle.crn_siphon.specs.Inner.Known.{IsLawOrCover}
+use Rattle.crn_siphon.proofs.Prelude.{sym, subst, ◌∙◌, Option, false≢true, KeptInts, IsLawOrCover}
 use Rattle.crn_siphon.proofs.Places.{law_leaf, cover_stands}
 use Rattle.crn_siphon.proofs.search.visit.Goals as goal
 

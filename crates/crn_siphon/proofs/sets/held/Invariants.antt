@@ -1,6 +1,5 @@
-use Rattle.std.specs.Prelude.{◌<◌, ◌↔◌, ℕ}
-use Rattle.crn_vec.specs.Network.{Holds}
-use Rattle.crn_siphon.specs.Inner.Sets.{Has}
+use Rattle.crn_siphon.proofs.Prelude.{◌↔◌, Holds, Has}
+use Rattle.std.specs.Prelude.{◌<◌, ℕ}
 use Rattle.crn_siphon.proofs.sets.held.Given as goal
 
 -- so far the set has the species that the complex holds

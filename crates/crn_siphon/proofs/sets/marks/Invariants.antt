@@ -1,5 +1,4 @@
-use Rattle.std.proofs.Common.{◌≡◌}
-use Rattle.crn_siphon.specs.Inner.Sets.{marks}
+use Rattle.crn_siphon.proofs.Prelude.{◌≡◌, marks}
 use Rattle.crn_siphon.proofs.sets.marks.Given as goal
 
 abbrev pub invariant-loop-s : goal.invariant-loop-s

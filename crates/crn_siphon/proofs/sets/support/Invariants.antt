@@ -1,6 +1,5 @@
-use Rattle.std.specs.Prelude.{◌≢◌, ◌<◌, ◌↔◌, ℕ, pos}
-use Rattle.crn_vec.specs.Vectors.{entry}
-use Rattle.crn_siphon.specs.Inner.Sets.{Has}
+use Rattle.crn_siphon.proofs.Prelude.{◌↔◌, pos, entry, Has}
+use Rattle.std.specs.Prelude.{◌≢◌, ◌<◌, ℕ}
 use Rattle.crn_siphon.proofs.sets.support.Given as goal
 
 -- so far the set has the species that have a weight

@@ -1,8 +1,4 @@
-use Rattle.std.proofs.Common.{ℕ, ap, ◌∙◌}
-use Rattle.crn_ctext.specs.Kinds.{small}
-use Rattle.crn_ctext.specs.Records.{Free}
-use Rattle.crn_siphon_text.specs.Document.{words, no_forms}
-use Rattle.crn_reading.proofs.CallerLemmas.{forms_named}
+use Rattle.crn_siphon_text.proofs.Prelude.{ℕ, ap, ◌∙◌, small, Free, words, no_forms, forms_named}
 use Rattle.crn_siphon_text.proofs.LinesRead.{no_forms_are}
 use Rattle.crn_siphon_text.proofs.lines.next_denial.Goals as goal
 

@@ -1,7 +1,4 @@
-use Rattle.std.proofs.Common.{[], ◌∷◌}
-use Rattle.crn_ctext.specs.Kinds.{end_form}
-use Rattle.crn_reading.proofs.CallerLemmas.{forms_named}
-use Rattle.crn_siphon_text.specs.Document.{words}
+use Rattle.crn_siphon_text.proofs.Prelude.{[], ◌∷◌, end_form, forms_named, words}
 use Rattle.crn_siphon_text.proofs.LinesRead.{last_forms_are}
 use Rattle.crn_siphon_text.proofs.lines.next_last.Goals as goal
 

@@ -1,7 +1,4 @@
-use Rattle.std.proofs.Common.{ℕ, ap, ◌∙◌}
-use Rattle.crn_ctext.specs.Records.{Free}
-use Rattle.crn_siphon_text.specs.Document.{words, cover_forms}
-use Rattle.crn_reading.proofs.CallerLemmas.{forms_named}
+use Rattle.crn_siphon_text.proofs.Prelude.{ℕ, ap, ◌∙◌, Free, words, cover_forms, forms_named}
 use Rattle.crn_siphon_text.proofs.LinesRead.{cover_forms_are}
 use Rattle.crn_siphon_text.proofs.lines.next_multipliers.Goals as goal
 

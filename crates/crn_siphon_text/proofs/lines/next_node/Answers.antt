@@ -1,8 +1,4 @@
-use Rattle.std.proofs.Common.{ℕ, ap, ◌∙◌}
-use Rattle.crn_ctext.specs.Kinds.{small}
-use Rattle.crn_ctext.specs.Records.{Free}
-use Rattle.crn_siphon_text.specs.Document.{words, node_forms}
-use Rattle.crn_reading.proofs.CallerLemmas.{forms_named}
+use Rattle.crn_siphon_text.proofs.Prelude.{ℕ, ap, ◌∙◌, small, Free, words, node_forms, forms_named}
 use Rattle.crn_siphon_text.proofs.LinesRead.{node_forms_are}
 use Rattle.crn_siphon_text.proofs.lines.next_node.Goals as goal
 

@@ -1,7 +1,4 @@
-use Rattle.std.proofs.Common.{◌+◌, ℕ, ap, ◌∙◌, arith}
-use Rattle.crn_ctext.specs.Records.{Rising}
-use Rattle.crn_siphon_text.specs.Document.{words, verdict_forms}
-use Rattle.crn_reading.proofs.CallerLemmas.{forms_named}
+use Rattle.crn_siphon_text.proofs.Prelude.{◌+◌, ℕ, ap, ◌∙◌, arith, Rising, words, verdict_forms, forms_named}
 use Rattle.crn_siphon_text.proofs.LinesRead.{verdict_forms_are}
 use Rattle.crn_siphon_text.proofs.lines.next_verdict.Goals as goal
 

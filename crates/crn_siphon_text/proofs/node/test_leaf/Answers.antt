@@ -1,8 +1,4 @@
-use Rattle.std.proofs.Common.{◌≡◌, ℕ, List, ap, sym, subst, ◌∙◌, arith}
-use Rattle.std.specs.Prelude.{ℤ, pos, nat_abs, unsigned_abs, slice_index_or}
-use Rattle.std.proofs.lemmas.Bool.{false≢true}
-use Rattle.crn_siphon_check.specs.Prefixes.{IsBad}
-use Rattle.crn_siphon_text.specs.Document.{Forks, IsBadBy, HasLaw, Voids, node_of}
+use Rattle.crn_siphon_text.proofs.Prelude.{◌≡◌, ℕ, List, ap, sym, subst, ◌∙◌, arith, ℤ, pos, nat_abs, unsigned_abs, slice_index_or, false≢true, IsBad, Forks, IsBadBy, HasLaw, Voids, node_of}
 use Rattle.crn_siphon_text.proofs.NodesRead.{fork_said, bad_said, law_said, void_said, node_gives, node_fails}
 use Rattle.crn_siphon_text.proofs.node.test_leaf.Goals as goal
 

@@ -1,13 +1,4 @@
-use Rattle.std.proofs.Common.{◌≡◌, ◌+◌, ◌++◌, ℕ, suc, Bool, true, false, List, [], ◌∷◌, length, sym, ap, subst, arith, Ok}
-use Rattle.std.specs.Prelude.{ℤ}
-use Rattle.std.proofs.lemmas.Result.{err_from_is_err_and}
-use Rattle.std.proofs.lemmas.List.{length-append}
-use Rattle.crn_io.specs.Lines.{Place}
-use Rattle.crn_ctext.specs.Course.{Gives, FailsFirst}
-use Rattle.crn_reading.specs.Steps.{StepIs}
-use Rattle.crn_reading.specs.Records.{IsPartSaid}
-use Rattle.crn_reading.proofs.CallerLemmas.{step_exits, stop_first, step_then_is}
-use Rattle.crn_siphon_text.specs.Document.{words, node_forms, node_of, leaf, asks_tree}
+use Rattle.crn_siphon_text.proofs.Prelude.{◌≡◌, ◌+◌, ◌++◌, ℕ, suc, Bool, true, false, List, [], ◌∷◌, length, sym, ap, subst, arith, Ok, ℤ, err_from_is_err_and, length-append, Place, Gives, FailsFirst, StepIs, IsPartSaid, step_exits, stop_first, step_then_is, words, node_forms, node_of, leaf, asks_tree}
 use Rattle.crn_siphon_text.proofs.NodesRead.{fork_said}
 use Rattle.crn_siphon_text.proofs.TreesRead.{tree_stop, tree_leaf, tree_refused, tree_fork_at, fork_place}
 use Rattle.crn_siphon_text.proofs.tree.+tree.Goals.{next_tree-then-place-eq8+else-len-species, next_tree-else-place-eq8}

@@ -1,4 +1,4 @@
-use Rattle.std.proofs.Common.{◌+◌, ◌-◌, ◌*◌, length}
+use Rattle.crn_siphon_text.proofs.Prelude.{◌+◌, ◌-◌, ◌*◌, length}
 use Rattle.crn_siphon_text.proofs.tree.+tree.Given as goal
 
 abbrev pub decreases-next_child : goal.decreases-next_child

@@ -1,6 +1,4 @@
-use Rattle.std.proofs.Common.{arith}
-use Rattle.std.proofs.lemmas.Result.{err_from_is_err_and}
-use Rattle.crn_reading.proofs.CallerLemmas.{step_exits}
+use Rattle.crn_siphon_text.proofs.Prelude.{arith, err_from_is_err_and, step_exits}
 use Rattle.crn_siphon_text.proofs.VerdictsRead.{answer_stop, answer_yes, answer_no, answer_open}
 use Rattle.crn_siphon_text.proofs.verify.next_answer.Goals as goal
 

@@ -1,9 +1,4 @@
-use Rattle.std.proofs.Common.{◌∙◌, List, Bool, subst, sym}
-use Rattle.std.proofs.lemmas.Bool.{false≢true}
-use Rattle.std.proofs.lemmas.Result.{err_from_is_err_and}
-use Rattle.crn_cert.specs.Ranges.{AreFree}
-use Rattle.crn_reading.proofs.CallerLemmas.{step_exits}
-use Rattle.crn_siphon_check.specs.Siphons.{IsSiphon, Covers}
+use Rattle.crn_siphon_text.proofs.Prelude.{◌∙◌, List, Bool, subst, sym, false≢true, err_from_is_err_and, AreFree, step_exits, IsSiphon, Covers}
 use Rattle.crn_siphon_text.proofs.VerdictsRead.{cover_stop, cover_free, cover_no_siphon, cover_refused, cover_then}
 use Rattle.crn_siphon_text.proofs.verify.next_cover.Goals as goal
 

@@ -1,8 +1,4 @@
-use Rattle.std.proofs.Common.{Ok, Err, refl}
-use Rattle.std.proofs.lemmas.Result.{err_from_is_err_and}
-use Rattle.crn_ctext.specs.Parts.{part_course}
-use Rattle.crn_reading.proofs.CallerLemmas.{last_exits, head_stop, head_then, answer_stops, answer_then}
-use Rattle.crn_siphon_text.specs.Document.{IsOutcomeOf, part}
+use Rattle.crn_siphon_text.proofs.Prelude.{Ok, Err, refl, err_from_is_err_and, part_course, last_exits, head_stop, head_then, answer_stops, answer_then, IsOutcomeOf, part}
 use Rattle.crn_siphon_text.proofs.verify.next_document.Goals as goal
 
 pub returns-in_err-net : goal.returns-in_err-net

@@ -1,14 +1,5 @@
-use Rattle.std.proofs.Common.{◌∙◌, List, subst, sym, ap, arith}
-use Rattle.std.specs.Prelude.{ℤ}
-use Rattle.std.proofs.lemmas.Bool.{false≢true}
-use Rattle.std.proofs.lemmas.Result.{err_from_is_err_and}
-use Rattle.crn_cert.specs.Ranges.{AreFree}
-use Rattle.crn_cert.specs.Says.{RuleOutConservation}
-use Rattle.crn_ctext.specs.Parts.{asks_part}
+use Rattle.crn_siphon_text.proofs.Prelude.{◌∙◌, List, subst, sym, ap, arith, ℤ, false≢true, err_from_is_err_and, AreFree, RuleOutConservation, asks_part, step_exits, memory_stops, set_of, words, no_forms}
 use Rattle.crn_reading.specs.declared.fault.CheckStop.TheVariants as stop
-use Rattle.crn_reading.proofs.CallerLemmas.{step_exits, memory_stops}
-use Rattle.crn_siphon_check.specs.Siphons.{set_of}
-use Rattle.crn_siphon_text.specs.Document.{words, no_forms}
 use Rattle.crn_siphon_text.proofs.VerdictsRead.{no_stop, marks_said, cut_said, marks_long, no_covered, no_refused, no_cut}
 use Rattle.crn_siphon_text.proofs.verify.next_no.Goals as goal
 

@@ -1,13 +1,5 @@
-use Rattle.std.proofs.Common.{◌≡◌, ◌∙◌, Bool, List, length, subst, sym, ap, arith, Ok}
-use Rattle.std.proofs.lemmas.Bool.{false≢true}
-use Rattle.std.proofs.lemmas.Result.{err_from_is_err_and}
-use Rattle.crn_cert.specs.Ranges.{AreFree}
-use Rattle.crn_vec.specs.Deficiency.{IsConservationLaw}
-use Rattle.crn_ctext.specs.Parts.{asks_part}
+use Rattle.crn_siphon_text.proofs.Prelude.{◌≡◌, ◌∙◌, Bool, List, length, subst, sym, ap, arith, Ok, false≢true, err_from_is_err_and, AreFree, IsConservationLaw, asks_part, StepIs, StopIs, step_exits, memory_stops, words, law_forms, asks_tree}
 use Rattle.crn_reading.specs.declared.fault.CheckStop.TheVariants as stop
-use Rattle.crn_reading.specs.Steps.{StepIs, StopIs}
-use Rattle.crn_reading.proofs.CallerLemmas.{step_exits, memory_stops}
-use Rattle.crn_siphon_text.specs.Document.{words, law_forms, asks_tree}
 use Rattle.crn_siphon_text.proofs.VerdictsRead.{law_free, yes_stop, yes_refused, yes_then, yes_stops}
 use Rattle.crn_siphon_text.proofs.verify.next_yes.Goals as goal
 

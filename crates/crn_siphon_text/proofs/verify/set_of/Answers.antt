@@ -1,10 +1,4 @@
-use Rattle.std.proofs.Common.{◌≡◌, get_or, ◌∙◌, arith}
-use Rattle.std.specs.Prelude.{ℤ, pos}
-use Rattle.std.specs.Ordering.{int_eq}
-use Rattle.std.proofs.lemmas.Bool.Decides.{Decides-int_eq}
-use Rattle.std.proofs.lemmas.List.{take_all, length-map}
-use Rattle.crn_vec.proofs.CallerLemmas.{map_more, same_test}
-use Rattle.crn_siphon_check.specs.Siphons.{set_of}
+use Rattle.crn_siphon_text.proofs.Prelude.{◌≡◌, get_or, ◌∙◌, arith, ℤ, pos, int_eq, Decides-int_eq, take_all, length-map, map_more, same_test, set_of}
 use Rattle.crn_siphon_text.proofs.verify.set_of.Goals as goal
 
 pub loop-s-preserved : goal.loop-s-preserved

@@ -1,5 +1,4 @@
-use Rattle.std.proofs.Common.{◌≡◌, take}
-use Rattle.crn_siphon_check.specs.Siphons.{set_of}
+use Rattle.crn_siphon_text.proofs.Prelude.{◌≡◌, take, set_of}
 use Rattle.crn_siphon_text.proofs.verify.set_of.Given as goal
 
 abbrev pub invariant-loop-s : goal.invariant-loop-s

@@ -1,5 +1,4 @@
-use Rattle.crn_reading.proofs.CallerLemmas.{document_gives, document_answered}
-use Rattle.crn_siphon_text.specs.Document.{IsOutcomeOf, part}
+use Rattle.crn_siphon_text.proofs.Prelude.{document_gives, document_answered, IsOutcomeOf, part}
 use Rattle.crn_siphon_text.proofs.Settled.{course_settled}
 use Rattle.crn_siphon_text.proofs.verify.verify_persist.Goals as goal
 

@@ -1,6 +1,4 @@
-use Rattle.std.proofs.Common.{refl, arith}
-use Rattle.std.specs.Prelude.{pos, ◌≤ℤ◌}
-use Rattle.crn_vec.proofs.CallerLemmas.{all_given}
+use Rattle.crn_siphon_text.proofs.Prelude.{refl, arith, pos, ◌≤ℤ◌, all_given}
 use Rattle.crn_siphon_text.proofs.weights.are_weights.Goals as goal
 
 pub returns : goal.returns

@@ -1,6 +1,5 @@
-use Rattle.std.proofs.Common.{◌<◌, ℕ, pos}
-use Rattle.std.specs.Prelude.{◌≤ℤ◌}
-use Rattle.crn_vec.specs.Vectors.{entry}
+use Rattle.crn_siphon_text.proofs.Prelude.{◌<◌, ℕ, ◌≤ℤ◌, entry}
+use Rattle.std.proofs.Common.{pos}
 use Rattle.crn_siphon_text.proofs.weights.are_weights.Given as goal
 
 abbrev pub invariant-loop-weight : goal.invariant-loop-weight

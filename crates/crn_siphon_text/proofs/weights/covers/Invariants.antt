@@ -1,8 +1,5 @@
-use Rattle.std.proofs.Common.{◌<◌, ℕ, pos}
-use Rattle.std.specs.Prelude.{◌≤ℤ◌}
-use Rattle.crn_vec.specs.Rank.{combination_at}
-use Rattle.crn_vec.specs.Deficiency.{vectors}
-use Rattle.crn_siphon_check.specs.Siphons.{HasMember}
+use Rattle.crn_siphon_text.proofs.Prelude.{◌<◌, ℕ, ◌≤ℤ◌, combination_at, vectors, HasMember}
+use Rattle.std.proofs.Common.{pos}
 use Rattle.crn_siphon_text.proofs.weights.covers.Given as goal
 
 abbrev pub invariant-loop-s : goal.invariant-loop-s

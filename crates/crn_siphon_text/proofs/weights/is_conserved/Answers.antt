@@ -1,9 +1,4 @@
-use Rattle.std.proofs.Common.{◌≡◌, ◌<◌, [], length, ap, sym, ◌∙◌, refl, arith, of_z}
-use Rattle.std.specs.Prelude.{pos}
-use Rattle.std.specs.Int.{w128}
-use Rattle.crn_vec.specs.Vectors.{dot}
-use Rattle.crn_vec.specs.Deficiency.{vectors}
-use Rattle.crn_vec.proofs.CallerLemmas.{all_at, all_given, refused, vector_at, vectors_count}
+use Rattle.crn_siphon_text.proofs.Prelude.{◌≡◌, ◌<◌, [], length, ap, sym, ◌∙◌, refl, arith, of_z, pos, w128, dot, vectors, all_at, all_given, refused, vector_at, vectors_count}
 use Rattle.crn_siphon_text.proofs.weights.is_conserved.Goals as goal
 
 pub returns-then-weight_change-ne0 : goal.returns-then-weight_change-ne0

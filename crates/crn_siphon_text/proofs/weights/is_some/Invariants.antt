@@ -1,5 +1,5 @@
-use Rattle.std.proofs.Common.{◌≡◌, ◌<◌, ℕ, pos}
-use Rattle.crn_vec.specs.Vectors.{entry}
+use Rattle.crn_siphon_text.proofs.Prelude.{◌≡◌, ◌<◌, ℕ, entry}
+use Rattle.std.proofs.Common.{pos}
 use Rattle.crn_siphon_text.proofs.weights.is_some.Given as goal
 
 abbrev pub invariant-loop-weight : goal.invariant-loop-weight

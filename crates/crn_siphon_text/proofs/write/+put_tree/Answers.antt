@@ -1,8 +1,5 @@
+use Rattle.crn_siphon_text.proofs.Prelude.{err_from_is_err_and, WroteAll-then, stops_first, stops_later, ends_with, wrote_as, line_of_word, plan_of}
 use Rattle.std.proofs.Common.{codes}
-use Rattle.std.proofs.lemmas.Result.{err_from_is_err_and}
-use Rattle.crn_io.proofs.CallerLemmas.{WroteAll-then}
-use Rattle.crn_ctext.proofs.CallerLemmas.{stops_first, stops_later, ends_with, wrote_as, line_of_word}
-use Rattle.crn_siphon_check.specs.Trees.{plan_of}
 use Rattle.crn_siphon_text.proofs.Written.{fork_first, fork_lines}
 use Rattle.crn_siphon_text.proofs.write.+put_tree.Goals as goal
 

@@ -1,10 +1,5 @@
-use Rattle.std.proofs.Common.{codes, map, pos, [], ◌∷◌}
-use Rattle.std.proofs.lemmas.Result.{err_from_is_err_and}
-use Rattle.crn_io.proofs.CallerLemmas.{WroteAll-then}
-use Rattle.crn_ctext.specs.Documents.{one_word}
-use Rattle.crn_ctext.proofs.CallerLemmas.{stops_first, stops_later, ends_with, wrote_as, line_of_word, word_then, lines_two, lines_three}
-use Rattle.crn_siphon_check.specs.Trees.{plan_of}
-use Rattle.crn_siphon_text.specs.Document.{tree_records}
+use Rattle.crn_siphon_text.proofs.Prelude.{map, [], ◌∷◌, err_from_is_err_and, WroteAll-then, one_word, stops_first, stops_later, ends_with, wrote_as, line_of_word, word_then, lines_two, lines_three, plan_of, tree_records}
+use Rattle.std.proofs.Common.{codes, pos}
 use Rattle.crn_siphon_text.proofs.Written.{yes_lines}
 use Rattle.crn_siphon_text.proofs.write.put_answer.Goals as goal
 

@@ -1,8 +1,4 @@
-use Rattle.std.proofs.lemmas.Result.{err_from_is_err_and}
-use Rattle.crn_io.proofs.CallerLemmas.{WroteAll-then}
-use Rattle.crn_ctext.proofs.CallerLemmas.{stops_first, stops_later, ends_with}
-use Rattle.crn_siphon_check.specs.Answers.{said_of}
-use Rattle.crn_siphon_text.specs.Document.{records}
+use Rattle.crn_siphon_text.proofs.Prelude.{err_from_is_err_and, WroteAll-then, stops_first, stops_later, ends_with, said_of, records}
 use Rattle.crn_siphon_text.proofs.Written.{document_first, document_parts}
 use Rattle.crn_siphon_text.proofs.write.write_persist.Goals as goal
 

@@ -1,16 +1,4 @@
-use Rattle.std.proofs.Common.{◌≡◌, [], ◌∷◌, ◌++◌, ◌∙◌, List, sym, refl}
-use Rattle.std.specs.Prelude.{zip}
-use Rattle.crn_cert.specs.Answers.{verdicts_of}
-use Rattle.crn_cert.specs.Built.{built}
-use Rattle.crn_cert.specs.declared.answer.Answer.{Answer}
-use Rattle.crn_cert.specs.Questions.{Earlier, Q1, Q2, Q3, Q4, Q5, Q6, Q7, Q8, Q9, Q10, Q11, Q12, Q13}
-use Rattle.crn_cert.specs.declared.answer.Verdict.TheVariants.{Classes, Strong}
-use Rattle.crn_cert.specs.Given.{GiveClasses}
-use Rattle.crn_cert.specs.Verdicts.{tight}
-use Rattle.crn_cert.proofs.CallerLemmas.{labels_tight, count_tight, exits_tight, is_true_tight}
-use Rattle.crn_defi.proofs.CallerLemmas.{true_or_open, strong_right}
-use Rattle.crn_solve.specs.Inner.ClassData.{AreLinkageData, AreStrongData}
-use Rattle.crn_solve.specs.Inner.Solved.{AreAnswers, first_questions}
+use Rattle.crn_solve.proofs.Prelude.{◌≡◌, [], ◌∷◌, ◌++◌, ◌∙◌, List, sym, refl, zip, verdicts_of, built, Answer, Earlier, Q1, Q2, Q3, Q4, Q5, Q6, Q7, Q8, Q9, Q10, Q11, Q12, Q13, Classes, Strong, GiveClasses, tight, labels_tight, count_tight, exits_tight, is_true_tight, true_or_open, strong_right, AreLinkageData, AreStrongData, AreAnswers, first_questions}
 use Rattle.crn_solve.proofs.AllAnswers.{answer_of}
 use Rattle.crn_solve.proofs.Deficiencies.{rank_or_open}
 use Rattle.crn_solve.proofs.FewNodes.{first_few}

@@ -1,7 +1,4 @@
-use Rattle.std.proofs.Common.{[], List, sym, subst, arith}
-use Rattle.crn_cert.specs.declared.answer.Answer.{Answer}
-use Rattle.crn_solve.specs.Inner.Solved.{first_questions}
-use Rattle.crn_solve.specs.Visits.{HaveNodeForEachVisit}
+use Rattle.crn_solve.proofs.Prelude.{[], List, sym, subst, arith, Answer, first_questions, HaveNodeForEachVisit}
 use Rattle.crn_solve.proofs.Solved.{AreSolved, answers_counted, one_more, solved_after, two_more, visits_after}
 use Rattle.crn_solve.proofs.answers.solve.Goals as goal
 

@@ -1,8 +1,4 @@
-use Rattle.std.proofs.Common.{◌≡◌, [], ◌∷◌, List, refl}
-use Rattle.crn_cert.specs.declared.answer.Answer.{Answer}
-use Rattle.crn_cert.specs.Questions.{Earlier, Q1, Q2, Q5}
-use Rattle.crn_cert.specs.Verdicts.{tight}
-use Rattle.crn_solve.specs.Inner.ClassData.{AreLinkageData, AreStrongData}
+use Rattle.crn_solve.proofs.Prelude.{◌≡◌, [], ◌∷◌, List, refl, Answer, Earlier, Q1, Q2, Q5, tight, AreLinkageData, AreStrongData}
 use Rattle.crn_solve.proofs.AllAnswers.{answer_of}
 use Rattle.crn_solve.proofs.answers.solve_rank.Goals as goal
 

@@ -1,10 +1,4 @@
-use Rattle.std.proofs.Common.{[], ◌∷◌, ◌++◌, List, sym, subst, arith}
-use Rattle.crn_cert.specs.declared.answer.Verdict.{Verdict}
-use Rattle.crn_cert.specs.Questions.{IsOpen}
-use Rattle.crn_cert.specs.Built.{built}
-use Rattle.crn_cert.specs.Licensed.{AllTrueOrLicensed}
-use Rattle.crn_solve.specs.Spent.{AreOpenIfSpent}
-use Rattle.crn_solve.specs.Inner.Solved.{FirstAreDecided, IsVectorFirst}
+use Rattle.crn_solve.proofs.Prelude.{[], ◌∷◌, ◌++◌, List, sym, subst, arith, Verdict, IsOpen, built, AllTrueOrLicensed, AreOpenIfSpent, FirstAreDecided, IsVectorFirst}
 use Rattle.crn_solve.proofs.Solved.{one_more, solved_after, verdicts_counted, verdicts_with}
 use Rattle.crn_solve.proofs.answers.solve_verdicts.Goals as goal
 

@@ -1,13 +1,5 @@
-use Rattle.std.proofs.Common.{◌≡◌, ◌∙◌, ℕ, ap, sym, subst}
-use Rattle.std.specs.Prelude.{◌↔◌, IsTrue}
-use Rattle.std.proofs.lemmas.Bool.{false≢true}
-use Rattle.crn_cert.specs.declared.answer.Answer.{Answer}
-use Rattle.crn_cert.specs.Questions.{Earlier, Q4, Q11, Q12, IsYes, on}
-use Rattle.crn_cert.specs.Given.{GiveClasses}
-use Rattle.crn_cert.specs.Answered.{IsAnswer}
-use Rattle.crn_cert.specs.Verdicts.{tight}
-use Rattle.crn_cert.proofs.CallerLemmas.{yes_tight}
-use Rattle.crn_conc.proofs.CallerLemmas.{if_ok}
+use Rattle.crn_solve.proofs.Prelude.{◌≡◌, ◌∙◌, ℕ, ap, sym, subst, IsTrue, false≢true, Answer, Earlier, Q4, Q11, Q12, IsYes, on, GiveClasses, IsAnswer, tight, yes_tight, if_ok}
+use Rattle.std.specs.Prelude.{◌↔◌}
 use Rattle.crn_solve.proofs.Theorems.{weak_is, weak_known}
 use Rattle.crn_solve.proofs.Regularity.{regular_yes, irregular_given, confluence_rests}
 use Rattle.crn_solve.proofs.confluence_answer.confluence_answer.Goals as goal

@@ -1,11 +1,4 @@
-use Rattle.std.proofs.Common.{◌≡◌, ℕ, sym, subst}
-use Rattle.crn_cert.specs.declared.answer.Answer.{Answer}
-use Rattle.crn_cert.specs.Questions.{Earlier, Q5, Q6, on}
-use Rattle.crn_cert.specs.Valid.{linkage, linkage_count}
-use Rattle.crn_cert.specs.Given.{GiveRank}
-use Rattle.crn_cert.specs.Answered.{IsAnswer}
-use Rattle.crn_cert.specs.Verdicts.{tight}
-use Rattle.crn_conc.proofs.CallerLemmas.{if_ok}
+use Rattle.crn_solve.proofs.Prelude.{◌≡◌, ℕ, sym, subst, Answer, Earlier, Q5, Q6, on, linkage, linkage_count, GiveRank, IsAnswer, tight, if_ok}
 use Rattle.crn_solve.proofs.Deficiencies.{gives_rank, rests_given}
 use Rattle.crn_solve.proofs.deficiency_answer.deficiency_answer.Goals as goal
 

@@ -1,10 +1,4 @@
-use Rattle.std.proofs.Common.{subst, sym}
-use Rattle.crn_vec.specs.Vectors.{Mat}
-use Rattle.crn_vec.specs.NetSystems.{positive_kinds}
-use Rattle.crn_cert.specs.Questions.{Q8}
-use Rattle.crn_farkas.specs.declared.fault.Stop.TheVariants.{Wide}
-use Rattle.crn_farkas.specs.Decision.{IsDecision, IsStop}
-use Rattle.crn_cert.specs.Answered.{IsAnswer}
+use Rattle.crn_solve.proofs.Prelude.{subst, sym, Mat, positive_kinds, Q8, Wide, IsDecision, IsStop, IsAnswer}
 use Rattle.crn_solve.proofs.PositiveAnswers.{law_decided, law_wide}
 use Rattle.crn_solve.proofs.positive.conservative.Goals as goal
 

@@ -1,15 +1,5 @@
-use Rattle.std.proofs.Common.{◌≡◌, ◌<◌, ℕ, ◌↔◌, List, Result, ap, sym, subst, ◌∙◌, arith}
-use Rattle.std.specs.Result.{MatchResult}
-use Rattle.crn_vec.specs.Lists.{IsIn}
-use Rattle.crn_vec.specs.Vectors.{Mat}
-use Rattle.crn_vec.specs.Systems.{HasOneRowCut, signed_count}
-use Rattle.crn_vec.specs.declared.signs.Kind.{Kind}
-use Rattle.crn_vec.specs.NetSystems.{positive_kinds}
-use Rattle.crn_farkas.specs.declared.decision.Decision.{Decision}
-use Rattle.crn_farkas.specs.declared.fault.Stop.{Stop}
-use Rattle.crn_farkas.specs.Decision.{IsDecision, IsStop, IsTargetStop}
-use Rattle.crn_farkas.specs.Solver.{IsRuledOut}
-use Rattle.crn_farkas.proofs.CallerLemmas.{decision_from}
+use Rattle.crn_solve.proofs.Prelude.{◌≡◌, ◌<◌, ℕ, ◌↔◌, List, ap, sym, subst, ◌∙◌, arith, MatchResult, IsIn, Mat, HasOneRowCut, signed_count, Kind, positive_kinds, Decision, Stop, IsDecision, IsStop, IsTargetStop, IsRuledOut, decision_from}
+use Rattle.std.proofs.Common.{Result}
 use Rattle.crn_solve.proofs.PositiveKinds.{kinds_signed}
 use Rattle.crn_solve.proofs.positive.decide_positive.Goals as goal
 

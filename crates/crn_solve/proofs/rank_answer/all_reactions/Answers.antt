@@ -1,5 +1,4 @@
-use Rattle.std.proofs.Common.{◌++◌, ◌+◌, ◌∷◌, [], ℕ, List, sym, ap, ◌∙◌, arith}
-use Rattle.crn_vec.proofs.CallerLemmas.{range_more}
+use Rattle.crn_solve.proofs.Prelude.{◌++◌, ◌+◌, ◌∷◌, [], ℕ, List, sym, ap, ◌∙◌, arith, range_more}
 use Rattle.crn_solve.proofs.rank_answer.all_reactions.Goals as goal
 
 pub loop-r-preserved : goal.loop-r-preserved

@@ -1,5 +1,4 @@
-use Rattle.std.proofs.Common.{◌≡◌}
-use Rattle.std.specs.List.{range_with_len}
+use Rattle.crn_solve.proofs.Prelude.{◌≡◌, range_with_len}
 use Rattle.crn_solve.proofs.rank_answer.all_reactions.Given as goal
 
 abbrev pub invariant-loop-r : goal.invariant-loop-r

@@ -1,13 +1,4 @@
-use Rattle.std.proofs.Common.{◌∙◌, ℕ, List, ap, sym, subst}
-use Rattle.crn_vec.specs.Elementary.{NamesWide}
-use Rattle.crn_cert.specs.declared.answer.Answer.{Answer}
-use Rattle.crn_cert.specs.Questions.{Earlier, Q5}
-use Rattle.crn_farkas.specs.declared.fault.Stop.TheVariants.{Wide}
-use Rattle.crn_rank.specs.Rank.{AreMembers, IsWideStop, ProvesRank, member_matrix}
-use Rattle.crn_cert.specs.Answered.{IsAnswer}
-use Rattle.crn_solve.specs.Inner.Given.{IsRankAnswer}
-use Rattle.crn_conc.proofs.CallerLemmas.{if_ok}
-use Rattle.crn_defi.proofs.CallerLemmas.{are_members}
+use Rattle.crn_solve.proofs.Prelude.{◌∙◌, ℕ, List, ap, sym, subst, NamesWide, Answer, Earlier, Q5, Wide, AreMembers, IsWideStop, ProvesRank, member_matrix, IsAnswer, IsRankAnswer, if_ok, are_members}
 use Rattle.crn_solve.proofs.RankAnswers.{all_members, base_few, rank_given, rank_wide}
 use Rattle.crn_solve.proofs.rank_answer.rank_answer.Goals as goal
 

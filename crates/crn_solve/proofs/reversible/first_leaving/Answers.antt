@@ -1,4 +1,4 @@
-use Rattle.std.proofs.Common.{◌+◌, ap, sym, below_more, arith}
+use Rattle.crn_solve.proofs.Prelude.{◌+◌, ap, sym, below_more, arith}
 use Rattle.crn_solve.proofs.Leaving.{joins_one, joins_two, even_if_none}
 use Rattle.crn_solve.proofs.reversible.first_leaving.Goals as goal
 

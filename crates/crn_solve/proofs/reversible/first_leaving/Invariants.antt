@@ -1,5 +1,4 @@
-use Rattle.std.proofs.Common.{ℕ, ◌+◌, ◌<◌}
-use Rattle.crn_solve.specs.Inner.Answered.{JoinsTwoLabels}
+use Rattle.crn_solve.proofs.Prelude.{ℕ, ◌+◌, ◌<◌, JoinsTwoLabels}
 use Rattle.crn_solve.proofs.reversible.first_leaving.Given as goal
 
 abbrev pub invariant-loop-r : goal.invariant-loop-r

@@ -1,21 +1,5 @@
-use Rattle.crn_shelf.specs.Visits.{ListSignalVisits}
-use Rattle.crn_cert.specs.declared.answer.Proof.TheVariants.{Nothing}
-use Rattle.crn_vec.specs.Network.{Net}
-use Rattle.std.proofs.Common.{◌≡◌, ◌∙◌, List, ap, sym, subst, refl}
-use Rattle.std.specs.Prelude.{ℤ, IsSomeAnd, IsTrue, IfSome, None, Option, Some}
-use Rattle.crn_vec.specs.Confluence.{IsNormalVector, negative}
-use Rattle.crn_vec.specs.NetSignals.{HasNoSignal}
-use Rattle.crn_cert.specs.declared.answer.Answer.{Answer}
-use Rattle.crn_cert.specs.declared.answer.Verdict.{Verdict}
-use Rattle.crn_cert.specs.Questions.{Earlier, IsOpen, Q2, Q4, Q12, Q13, on, vector_given}
-use Rattle.crn_cert.specs.Says.{IsTrueOf}
-use Rattle.crn_cert.specs.Law.{IsTrueOrOpen}
-use Rattle.crn_cert.specs.Answered.{IsAnswer}
-use Rattle.crn_cert.specs.Licensed.{IsLicensedBudget, PassForSignals}
-use Rattle.crn_cert.specs.Verdicts.{tight}
-use Rattle.crn_conc.proofs.CallerLemmas.{if_ok}
-use Rattle.crn_shelf.specs.Given.{GiveVector}
-use Rattle.crn_shelf.specs.Order.{IsForNegative}
+use Rattle.crn_solve.proofs.Prelude.{ListSignalVisits, Nothing, Net, ◌≡◌, ◌∙◌, List, ap, sym, subst, refl, ℤ, IsTrue, IfSome, Option, IsNormalVector, negative, HasNoSignal, Answer, Verdict, Earlier, IsOpen, Q2, Q4, Q12, Q13, on, vector_given, IsTrueOf, IsTrueOrOpen, IsAnswer, IsLicensedBudget, PassForSignals, tight, if_ok, GiveVector, IsForNegative}
+use Rattle.std.specs.Prelude.{IsSomeAnd, None, Some}
 use Rattle.crn_solve.proofs.Theorems.{weak_is}
 use Rattle.crn_solve.proofs.Signals.{if_both, signal_rests, spent_either, vector_is_given}
 use Rattle.crn_solve.proofs.signal_answer.signal_answer.Goals as goal

@@ -1,11 +1,4 @@
-use Rattle.std.proofs.Common.{refl}
-use Rattle.crn_cert.specs.declared.answer.Answer.{Answer}
-use Rattle.crn_cert.specs.declared.answer.Verdict.TheVariants.{Strong}
-use Rattle.crn_cert.specs.declared.answer.Proof.TheVariants.{Strong as StrongTrees}
-use Rattle.crn_cert.specs.Questions.{Q2}
-use Rattle.crn_cert.specs.Formed.{IsFormed}
-use Rattle.crn_cert.specs.Valid.{IsValid}
-use Rattle.crn_cert.proofs.CallerLemmas.{valid_answers_are_true}
+use Rattle.crn_solve.proofs.Prelude.{refl, Answer, Strong, StrongTrees, Q2, IsFormed, IsValid, valid_answers_are_true}
 use Rattle.crn_solve.proofs.strong_answer.strong_answer.Goals as goal
 
 pub returns-clause-answer : goal.returns-clause-answer

@@ -1,12 +1,4 @@
-use Rattle.std.proofs.Common.{◌++◌, ◌<◌, List, length, take, ap, sym, subst, ◌∙◌, arith}
-use Rattle.std.specs.Prelude.{ℤ, slice_index_or}
-use Rattle.std.specs.List.{flat_map}
-use Rattle.std.proofs.lemmas.List.{take_more}
-use Rattle.crn_vec.specs.Network.{reaction_vector}
-use Rattle.crn_vec.specs.Vectors.{AreWithin}
-use Rattle.crn_vec.specs.declared.limits.TheConstants.{MAX_AMOUNT}
-use Rattle.crn_vec.proofs.CallerLemmas.{flat_map_push}
-use Rattle.crn_conc.proofs.CallerLemmas.{within_append}
+use Rattle.crn_solve.proofs.Prelude.{◌++◌, ◌<◌, List, length, take, ap, sym, subst, ◌∙◌, arith, ℤ, slice_index_or, flat_map, take_more, reaction_vector, AreWithin, MAX_AMOUNT, flat_map_push, within_append}
 use Rattle.crn_solve.proofs.systems.entries_by_reaction.Goals as goal
 
 pub loop-r-preserved : goal.loop-r-preserved

@@ -1,8 +1,4 @@
-use Rattle.std.proofs.Common.{◌≡◌, take}
-use Rattle.std.specs.List.{flat_map}
-use Rattle.crn_vec.specs.Network.{reaction_vector}
-use Rattle.crn_vec.specs.Vectors.{AreWithin}
-use Rattle.crn_vec.specs.declared.limits.TheConstants.{MAX_AMOUNT}
+use Rattle.crn_solve.proofs.Prelude.{◌≡◌, take, flat_map, reaction_vector, AreWithin, MAX_AMOUNT}
 use Rattle.crn_solve.proofs.systems.entries_by_reaction.Given as goal
 
 abbrev pub invariant-loop-r : goal.invariant-loop-r

@@ -1,11 +1,4 @@
-use Rattle.std.proofs.Common.{◌≡◌, ◌*◌, ℕ, List, length, ap, ap₂, sym, ◌∙◌, arith}
-use Rattle.std.specs.Prelude.{ℤ}
-use Rattle.crn_vec.specs.Network.{reaction_vector}
-use Rattle.crn_vec.specs.Vectors.{Mat}
-use Rattle.crn_vec.specs.Matrices.{mat_of}
-use Rattle.crn_vec.specs.NetSystems.{species_system}
-use Rattle.crn_conc.proofs.CallerLemmas.{length-rows_after, rows_after, if_ok}
-use Rattle.crn_conc.proofs.CallerLemmas.{reaction_long, some_species}
+use Rattle.crn_solve.proofs.Prelude.{◌≡◌, ◌*◌, ℕ, List, length, ap, ap₂, sym, ◌∙◌, arith, ℤ, reaction_vector, Mat, mat_of, species_system, length-rows_after, rows_after, if_ok, reaction_long, some_species}
 use Rattle.crn_solve.proofs.systems.species_matrix.Goals as goal
 
 pub from_entries-requires-clause-count : goal.from_entries-requires-clause-count

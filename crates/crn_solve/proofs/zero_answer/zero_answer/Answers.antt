@@ -1,6 +1,4 @@
-use Rattle.std.proofs.Common.{sym, subst}
-use Rattle.crn_cert.specs.Questions.{Q9}
-use Rattle.crn_cert.specs.Answered.{IsAnswer}
+use Rattle.crn_solve.proofs.Prelude.{sym, subst, Q9, IsAnswer}
 use Rattle.crn_solve.proofs.Deficiencies.{gives_rank}
 use Rattle.crn_solve.proofs.Theorems.{weak_is, weak_known, zero_rests_given}
 use Rattle.crn_solve.proofs.zero_answer.zero_answer.Goals as goal

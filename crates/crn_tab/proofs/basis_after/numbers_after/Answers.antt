@@ -1,6 +1,4 @@
-use Rattle.std.proofs.Common.{◌+◌, sym, subst, ap, ◌∙◌, arith, List, ℕ}
-use Rattle.std.proofs.lemmas.Bool.{false≢true}
-use Rattle.crn_vec.specs.Kept.{KeptNums}
+use Rattle.crn_tab.proofs.Prelude.{◌+◌, sym, subst, ap, ◌∙◌, arith, List, ℕ, false≢true, KeptNums}
 use Rattle.crn_tab.proofs.Numbers.{NumberedBelow, none_yet, one_more, none_more, numbered_all}
 use Rattle.crn_tab.proofs.basis_after.numbers_after.Goals as goal
 use Rattle.crn_tab.proofs.basis_after.numbers_after.Goals.{then-is_next+in_ok-push, else-is_next}

@@ -1,7 +1,4 @@
-use Rattle.std.proofs.Common.{ℕ, List, sym, subst}
-use Rattle.std.specs.Prelude.{ℤ, ◌*ℤ◌, ◌-ℤ◌, unsigned_abs}
-use Rattle.std.specs.Int.{◌∣◌}
-use Rattle.crn_vec.specs.Vectors.{entry}
+use Rattle.crn_tab.proofs.Prelude.{ℕ, List, sym, subst, ℤ, ◌*ℤ◌, ◌-ℤ◌, unsigned_abs, ◌∣◌, entry}
 use Rattle.crn_tab.proofs.change.change.Goals as goal
 
 pub change_low-requires-clause-known : goal.change_low-requires-clause-known

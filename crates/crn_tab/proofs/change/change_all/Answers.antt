@@ -1,4 +1,4 @@
-use Rattle.std.proofs.Common.{arith}
+use Rattle.crn_tab.proofs.Prelude.{arith}
 use Rattle.crn_tab.proofs.Divided.{each_difference}
 use Rattle.crn_tab.proofs.Primitive.{combined_of}
 use Rattle.crn_tab.proofs.change.change_all.Goals as goal

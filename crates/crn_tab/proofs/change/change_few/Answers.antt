@@ -1,9 +1,4 @@
-use Rattle.std.proofs.Common.{◌≡◌, ◌∙◌, ◌<◌, ℕ, List, length, ap, sym, subst, arith, to_z}
-use Rattle.std.specs.Prelude.{ℤ, pos, ◌*ℤ◌, ◌-ℤ◌, unsigned_abs}
-use Rattle.std.specs.Int.{w64, ◌∣◌}
-use Rattle.std.proofs.Math.Nat.{one-dvd}
-use Rattle.std.proofs.lemmas.Int.{ints}
-use Rattle.crn_vec.specs.Vectors.{entry}
+use Rattle.crn_tab.proofs.Prelude.{◌≡◌, ◌∙◌, ◌<◌, ℕ, List, length, ap, sym, subst, arith, to_z, ℤ, pos, ◌*ℤ◌, ◌-ℤ◌, unsigned_abs, w64, ◌∣◌, one-dvd, ints, entry}
 use Rattle.crn_tab.proofs.Cross.{read}
 use Rattle.crn_tab.proofs.Divided.{each_difference}
 use Rattle.crn_tab.proofs.Primitive.{combined_of}

@@ -1,6 +1,4 @@
-use Rattle.std.proofs.Common.{◌≡◌, ◌∙◌, ap, arith, to_z, of_z}
-use Rattle.std.specs.Prelude.{unsigned_abs}
-use Rattle.std.specs.Int.{w32}
+use Rattle.crn_tab.proofs.Prelude.{◌≡◌, ◌∙◌, ap, arith, to_z, of_z, unsigned_abs, w32}
 use Rattle.crn_tab.proofs.ShortCross.{read_short}
 use Rattle.crn_tab.proofs.change.change_if_short.Goals as goal
 

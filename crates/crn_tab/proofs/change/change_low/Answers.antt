@@ -1,7 +1,4 @@
-use Rattle.std.proofs.Common.{◌≡◌, ◌∙◌, ap, sym, subst, to_z}
-use Rattle.std.specs.Prelude.{ℤ, pos, ◌*ℤ◌, ◌-ℤ◌, unsigned_abs}
-use Rattle.std.specs.Int.{w64, ◌∣◌}
-use Rattle.crn_vec.specs.Vectors.{entry}
+use Rattle.crn_tab.proofs.Prelude.{◌≡◌, ◌∙◌, ap, sym, subst, to_z, ℤ, pos, ◌*ℤ◌, ◌-ℤ◌, unsigned_abs, w64, ◌∣◌, entry}
 use Rattle.crn_tab.proofs.LowCross.{read_low}
 use Rattle.crn_tab.proofs.change.change_low.Goals as goal
 

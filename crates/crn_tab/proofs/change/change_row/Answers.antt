@@ -1,6 +1,4 @@
-use Rattle.std.proofs.Common.{◌++◌, List, length, ap, ◌∙◌, sym}
-use Rattle.std.specs.Prelude.{ℤ}
-use Rattle.crn_tab.specs.Slots.{row_at}
+use Rattle.crn_tab.proofs.Prelude.{◌++◌, List, length, ap, ◌∙◌, sym, ℤ, row_at}
 use Rattle.crn_tab.proofs.Flat.{row_other}
 use Rattle.crn_tab.proofs.change.change_row.Goals as goal
 

@@ -1,7 +1,4 @@
-use Rattle.std.proofs.Common.{◌≡◌, ◌≢◌, ℕ, ◌<◌, ◌≤◌, ◌-◌, ◌^◌, length}
-use Rattle.std.specs.Prelude.{IsTrue, slice_set}
-use Rattle.crn_tab.specs.Slots.{row_at}
-use Rattle.crn_tab.specs.Inner.Rows.{AreBelow, IsRowChanged}
+use Rattle.crn_tab.proofs.Prelude.{◌≡◌, ◌≢◌, ℕ, ◌<◌, ◌≤◌, ◌-◌, ◌^◌, length, IsTrue, slice_set, row_at, AreBelow, IsRowChanged}
 use Rattle.crn_tab.proofs.change.change_rows.Given as goal
 
 abbrev pub invariant-loop-i : goal.invariant-loop-i

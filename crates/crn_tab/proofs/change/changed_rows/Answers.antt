@@ -1,9 +1,4 @@
-use Rattle.std.proofs.Common.{◌≡◌, ◌≢◌, ◌<◌, ◌≤◌, ◌-◌, ◌^◌, ◌⊎◌, inl, inr, ℕ, List, length, set, refl, ap, ◌∙◌, sym, subst, arith}
-use Rattle.std.specs.Prelude.{ℤ, pos}
-use Rattle.std.proofs.Math.ListN.{length-set}
-use Rattle.crn_vec.proofs.CallerLemmas.{eq_or}
-use Rattle.crn_tab.specs.Slots.{IsContent, row_at}
-use Rattle.crn_tab.specs.Inner.Rows.{AreBelow, AreRowsBelow, IsKeptRow, IsRowChanged}
+use Rattle.crn_tab.proofs.Prelude.{◌≡◌, ◌≢◌, ◌<◌, ◌≤◌, ◌-◌, ◌^◌, ◌⊎◌, inl, inr, ℕ, List, length, set, refl, ap, ◌∙◌, sym, subst, arith, ℤ, pos, length-set, eq_or, IsContent, row_at, AreBelow, AreRowsBelow, IsKeptRow, IsRowChanged}
 use Rattle.crn_tab.proofs.Finish.{below_row}
 use Rattle.crn_tab.proofs.LeadRow.{lead_small_at, lead_below_at, lead_primitive_at}
 use Rattle.crn_tab.proofs.LeadBack.{put_back, rows_after}

@@ -1,10 +1,4 @@
-use Rattle.std.proofs.Common.{◌≡◌, ◌-◌, ◌<◌, ◌^◌, ℕ, length, ap, ◌∙◌, sym, arith, to_z, of_z}
-use Rattle.std.specs.Prelude.{ℤ, pos, ◌*ℤ◌, ◌≤ℤ◌, unsigned_abs}
-use Rattle.std.specs.Int.{w64}
-use Rattle.std.proofs.lemmas.Int.{ints}
-use Rattle.crn_vec.specs.Vectors.{entry}
-use Rattle.crn_frac.proofs.CallerLemmas.{smaller}
-use Rattle.crn_tab.specs.Inner.Rows.{put}
+use Rattle.crn_tab.proofs.Prelude.{◌≡◌, ◌-◌, ◌<◌, ◌^◌, ℕ, length, ap, ◌∙◌, sym, arith, to_z, of_z, ℤ, pos, ◌*ℤ◌, ◌≤ℤ◌, unsigned_abs, w64, ints, entry, smaller, put}
 use Rattle.crn_tab.proofs.Cross.{read}
 use Rattle.crn_tab.proofs.LowCross.{read_low}
 use Rattle.crn_tab.proofs.NewRows.{below_without, new_row_none}

@@ -1,11 +1,4 @@
-use Rattle.std.proofs.Common.{◌≡◌, ◌<◌, ◌⊎◌, ℕ, inl, inr, length, List, refl, sym, ap, ◌∙◌, arith, to_z, of_z}
-use Rattle.std.specs.Prelude.{ℤ, pos, ◌*ℤ◌, ◌-ℤ◌, slice_index, slice_index_or, slice_set, unsigned_abs}
-use Rattle.std.specs.Int.{w64}
-use Rattle.std.proofs.Math.ListN.{length-set}
-use Rattle.std.proofs.lemmas.Int.{ints}
-use Rattle.crn_vec.proofs.CallerLemmas.{eq_or}
-use Rattle.crn_vec.specs.Vectors.{entry}
-use Rattle.crn_tab.specs.Inner.Rows.{ArePlaces}
+use Rattle.crn_tab.proofs.Prelude.{◌≡◌, ◌<◌, ◌⊎◌, ℕ, inl, inr, length, List, refl, sym, ap, ◌∙◌, arith, to_z, of_z, ℤ, pos, ◌*ℤ◌, ◌-ℤ◌, slice_index, slice_index_or, slice_set, unsigned_abs, w64, length-set, ints, eq_or, entry, ArePlaces}
 use Rattle.crn_tab.proofs.Cross.{read}
 use Rattle.crn_tab.proofs.NewRows.{look}
 use Rattle.crn_tab.proofs.SparseRow.{listed_place, listed_inside, all_done}

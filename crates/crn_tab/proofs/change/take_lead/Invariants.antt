@@ -1,8 +1,4 @@
-use Rattle.std.proofs.Common.{◌≡◌, ℕ, ◌<◌, ◌⊎◌, length}
-use Rattle.std.specs.Prelude.{◌*ℤ◌, ◌-ℤ◌, slice_index, unsigned_abs, IsTrue}
-use Rattle.crn_vec.specs.Vectors.{entry}
-use Rattle.crn_tab.specs.Inner.Rows.{AreBelow}
-use Rattle.crn_tab.specs.Tableau.{AreSmall}
+use Rattle.crn_tab.proofs.Prelude.{◌≡◌, ℕ, ◌<◌, ◌⊎◌, length, ◌*ℤ◌, ◌-ℤ◌, slice_index, unsigned_abs, IsTrue, entry, AreBelow, AreSmall}
 use Rattle.crn_tab.proofs.change.take_lead.Given as goal
 
 abbrev pub invariant-loop-s : goal.invariant-loop-s

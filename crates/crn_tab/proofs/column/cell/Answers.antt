@@ -1,14 +1,6 @@
-use Rattle.std.proofs.Common.{◌≡◌, ◌+◌, ◌-◌, ◌*◌, ◌<◌, ◌≤◌, ℕ, List, ap, sym, subst, ◌∙◌, arith, to_z}
-use Rattle.std.specs.Prelude.{ℤ, pos, ◌≤ℤ◌, ◌*ℤ◌, neg_ℤ, unsigned_abs}
-use Rattle.std.specs.Int.{w64, w128, ◌∣◌}
-use Rattle.std.proofs.lemmas.Int.{ints, to_z-of_z}
+use Rattle.crn_tab.proofs.Prelude.{◌≡◌, ◌+◌, ◌-◌, ◌*◌, ◌<◌, ◌≤◌, ℕ, List, ap, sym, subst, ◌∙◌, arith, to_z, ℤ, pos, ◌≤ℤ◌, ◌*ℤ◌, neg_ℤ, unsigned_abs, w64, w128, ◌∣◌, ints, to_z-of_z, WIDE_ENTRY, entry, row_at, IsKeptRow, MakesWhole, column_entry}
 use lib.IntN.{zero-*ℤ}
-use Rattle.crn_vec.specs.declared.limits.TheConstants.{WIDE_ENTRY}
 use Rattle.crn_tab.proofs.Cross.{read as word}
-use Rattle.crn_vec.specs.Vectors.{entry}
-use Rattle.crn_tab.specs.Slots.{row_at}
-use Rattle.crn_tab.specs.Inner.Rows.{IsKeptRow}
-use Rattle.crn_tab.specs.Inner.Columns.{MakesWhole, column_entry}
 use Rattle.crn_tab.proofs.ColumnVector.{entry_by}
 use Rattle.crn_tab.proofs.column.cell.Goals as goal
 

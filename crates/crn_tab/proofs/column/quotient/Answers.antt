@@ -1,9 +1,4 @@
-use Rattle.std.proofs.Common.{◌≡◌, ◌*◌, ◌^◌, ◌<◌, ℕ, refl, ◌∙◌, arith, to_z, of_z}
-use Rattle.std.specs.Prelude.{ℤ, pos, ◌-ℤ◌, ◌*ℤ◌, neg_ℤ, FitsSigned, unsigned_abs}
-use Rattle.std.specs.Int.{w64, w128}
-use Rattle.std.proofs.lemmas.Int.{ints, to_z-of_z, fits_signed_from_abs, unsigned_abs-mul}
-use Rattle.crn_vec.specs.declared.limits.TheConstants.{WIDE_ENTRY}
-use Rattle.crn_frac.proofs.CallerLemmas.{minus, abs_minus}
+use Rattle.crn_tab.proofs.Prelude.{◌≡◌, ◌*◌, ◌^◌, ◌<◌, ℕ, refl, ◌∙◌, arith, to_z, of_z, ℤ, pos, ◌-ℤ◌, ◌*ℤ◌, neg_ℤ, FitsSigned, unsigned_abs, w64, w128, ints, to_z-of_z, fits_signed_from_abs, unsigned_abs-mul, WIDE_ENTRY, minus, abs_minus}
 use Rattle.crn_tab.proofs.Cross.{widened, product_small}
 use Rattle.crn_tab.proofs.column.quotient.Goals as goal
 

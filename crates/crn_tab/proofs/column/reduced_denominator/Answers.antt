@@ -1,8 +1,4 @@
-use Rattle.std.proofs.Common.{◌≡◌, ◌≤◌, ◌*◌, ◌/◌, ℕ, ap, sym, subst, ◌∙◌, arith, to_z}
-use Rattle.std.specs.Prelude.{unsigned_abs}
-use Rattle.std.specs.Int.{IsGcd, ◌∣◌, w64}
-use Rattle.std.proofs.lemmas.Int.{ints}
-use Rattle.std.proofs.Math.Nat.{one-dvd, dvd-mul_right, div-mul_cancel, pos_of_dvd_of_pos}
+use Rattle.crn_tab.proofs.Prelude.{◌≡◌, ◌≤◌, ◌*◌, ◌/◌, ℕ, ap, sym, subst, ◌∙◌, arith, to_z, unsigned_abs, IsGcd, ◌∣◌, w64, ints, one-dvd, dvd-mul_right, div-mul_cancel, pos_of_dvd_of_pos}
 use Rattle.crn_tab.proofs.Cross.{read}
 use Rattle.crn_tab.proofs.column.reduced_denominator.Goals as goal
 

@@ -1,12 +1,4 @@
-use Rattle.std.proofs.Common.{◌≡◌, ◌+◌, ◌-◌, ◌*◌, ℕ, List, subst, arith, lit<, add-one}
-use Rattle.std.specs.Prelude.{ℤ, pos, ◌≤ℤ◌, unsigned_abs}
-use Rattle.std.specs.Int.{IsGcd}
-use Rattle.std.proofs.lemmas.Int.{ints}
-use Rattle.crn_frac.specs.Multiple.{IsLcm}
-use Rattle.crn_vec.specs.Vectors.{entry}
-use Rattle.crn_tab.specs.Slots.{row_at}
-use Rattle.crn_tab.specs.Inner.Rows.{IsKeptRow}
-use Rattle.crn_tab.specs.Inner.Columns.{IsScale}
+use Rattle.crn_tab.proofs.Prelude.{◌≡◌, ◌+◌, ◌-◌, ◌*◌, ℕ, List, subst, arith, lit<, add-one, ℤ, pos, ◌≤ℤ◌, unsigned_abs, IsGcd, ints, IsLcm, entry, row_at, IsKeptRow, IsScale}
 use Rattle.crn_tab.proofs.Scales.{no_rows, more_rows}
 use Rattle.crn_tab.proofs.column.scale.Goals as goal
 

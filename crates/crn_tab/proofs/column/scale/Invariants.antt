@@ -1,6 +1,4 @@
-use Rattle.std.proofs.Common.{◌<◌}
-use Rattle.crn_vec.specs.declared.limits.TheConstants.{WIDE_ENTRY}
-use Rattle.crn_tab.specs.Inner.Columns.{IsScale}
+use Rattle.crn_tab.proofs.Prelude.{◌<◌, WIDE_ENTRY, IsScale}
 use Rattle.crn_tab.proofs.column.scale.Given as goal
 
 abbrev pub invariant-loop-i : goal.invariant-loop-i

@@ -1,10 +1,5 @@
-use Rattle.std.proofs.Common.{◌≡◌, ◌<◌, ℕ, inl, inr, length, refl, ap, ◌∙◌, sym, subst, arith}
-use Rattle.std.specs.Prelude.{ℤ, pos, unsigned_abs, List}
-use Rattle.std.proofs.lemmas.Int.{ints}
-use Rattle.std.proofs.Math.ListN.{length-set}
-use Rattle.crn_tab.specs.Inner.Rows.{put}
-use Rattle.crn_tab.specs.Tableau.{AreSmall}
-use Rattle.crn_vec.specs.Vectors.{entry}
+use Rattle.crn_tab.proofs.Prelude.{◌≡◌, ◌<◌, ℕ, inl, inr, length, refl, ap, ◌∙◌, sym, subst, arith, ℤ, pos, unsigned_abs, ints, length-set, put, AreSmall, entry}
+use Rattle.std.specs.Prelude.{List}
 use Rattle.crn_tab.proofs.Divided.{each_difference}
 use Rattle.crn_tab.proofs.NewRows.{look}
 use Rattle.crn_tab.proofs.Primitive.{combined_of}

@@ -1,9 +1,4 @@
-use Rattle.std.proofs.Common.{◌≡◌, ◌≤◌, ◌-◌, ap, ◌∙◌, sym, subst, arith, to_z}
-use Rattle.std.specs.Prelude.{ℤ, pos, unsigned_abs}
-use Rattle.std.specs.Int.{◌∣◌, w64}
-use Rattle.std.proofs.lemmas.Int.{ints}
-use Rattle.std.proofs.Math.Nat.{one-dvd, pos_of_dvd_of_pos}
-use Rattle.crn_vec.specs.declared.limits.TheConstants.{WIDE_ENTRY}
+use Rattle.crn_tab.proofs.Prelude.{◌≡◌, ◌≤◌, ◌-◌, ap, ◌∙◌, sym, subst, arith, to_z, ℤ, pos, unsigned_abs, ◌∣◌, w64, ints, one-dvd, pos_of_dvd_of_pos, WIDE_ENTRY}
 use Rattle.crn_tab.proofs.Cross.{read}
 use Rattle.crn_tab.proofs.combine.common.Goals as goal
 

@@ -1,7 +1,4 @@
-use Rattle.std.proofs.Common.{◌≡◌, ℕ, ◌<◌}
-use Rattle.std.specs.Prelude.{unsigned_abs}
-use Rattle.crn_vec.specs.declared.limits.TheConstants.{WIDE_ENTRY}
-use Rattle.crn_vec.specs.Vectors.{entry}
+use Rattle.crn_tab.proofs.Prelude.{◌≡◌, ℕ, ◌<◌, unsigned_abs, WIDE_ENTRY, entry}
 use Rattle.crn_tab.proofs.combine.keep.Given as goal
 
 abbrev pub invariant-loop-j : goal.invariant-loop-j

@@ -1,8 +1,4 @@
-use Rattle.std.proofs.Common.{arith}
-use Rattle.std.specs.Prelude.{FitsSigned, int_div}
-use Rattle.std.specs.Int.{w64}
-use Rattle.std.proofs.lemmas.Int.{ints, quot_is, quot_fits, fits_signed_from_abs}
-use Rattle.crn_frac.proofs.CallerLemmas.{exact}
+use Rattle.crn_tab.proofs.Prelude.{arith, FitsSigned, int_div, w64, ints, quot_is, quot_fits, fits_signed_from_abs, exact}
 use Rattle.crn_tab.proofs.combine.over.Goals as goal
 
 pub returns-else-divisor-eq1-clause-value : goal.returns-else-divisor-eq1-clause-value

@@ -1,8 +1,4 @@
-use Rattle.std.proofs.Common.{◌≡◌, ◌<◌, ◌≤◌, inl, inr, ℕ, List, length, sym, ap, ◌∙◌, arith, rules, to_z, of_z}
-use Rattle.std.specs.Prelude.{ℤ, ◌*ℤ◌, ◌-ℤ◌, unsigned_abs}
-use Rattle.std.specs.Int.{w64, w128}
-use Rattle.crn_vec.specs.declared.limits.TheConstants.{WIDE_ENTRY}
-use Rattle.crn_vec.specs.Vectors.{entry}
+use Rattle.crn_tab.proofs.Prelude.{◌≡◌, ◌<◌, ◌≤◌, inl, inr, ℕ, List, length, sym, ap, ◌∙◌, arith, rules, to_z, of_z, ℤ, ◌*ℤ◌, ◌-ℤ◌, unsigned_abs, w64, w128, WIDE_ENTRY, entry}
 use Rattle.crn_tab.proofs.Cross.{narrowed}
 use Rattle.crn_tab.proofs.Differences.{differences, length-differences, entry-differences}
 use Rattle.crn_tab.proofs.NewRows.{look}

@@ -1,5 +1,4 @@
-use Rattle.std.proofs.Common.{ap, arith}
-use Rattle.crn_vec.specs.Elementary.{width}
+use Rattle.crn_tab.proofs.Prelude.{ap, arith, width}
 use Rattle.crn_tab.proofs.enter_rows.enter_from.Goals as goal
 
 pub enter_one-requires-clause-inside : goal.enter_one-requires-clause-inside

@@ -1,5 +1,4 @@
-use Rattle.std.proofs.Common.{◌≡◌}
-use Rattle.crn_tab.specs.Tableau.{AreEnteredBelow}
+use Rattle.crn_tab.proofs.Prelude.{◌≡◌, AreEnteredBelow}
 use Rattle.crn_tab.proofs.enter_rows.enter_from.Given as goal
 
 abbrev pub invariant-loop-e : goal.invariant-loop-e

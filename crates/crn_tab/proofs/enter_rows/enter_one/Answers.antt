@@ -1,6 +1,4 @@
-use Rattle.std.proofs.Common.{◌≡◌, ◌+◌, sym, subst}
-use Rattle.crn_vec.specs.Vectors.{Mat}
-use Rattle.crn_tab.specs.Tableau.{NamesRows, AreEnteredBelow}
+use Rattle.crn_tab.proofs.Prelude.{◌≡◌, ◌+◌, sym, subst, Mat, NamesRows, AreEnteredBelow}
 use Rattle.crn_tab.proofs.Entered.{entered_here, entered_more}
 use Rattle.crn_tab.proofs.enter_rows.enter_one.Goals as goal
 

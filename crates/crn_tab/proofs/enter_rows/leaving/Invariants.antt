@@ -1,4 +1,4 @@
-use Rattle.crn_tab.specs.Tableau.{IsZeroBefore}
+use Rattle.crn_tab.proofs.Prelude.{IsZeroBefore}
 use Rattle.crn_tab.proofs.enter_rows.leaving.Given as goal
 
 abbrev pub invariant-loop-k : goal.invariant-loop-k

@@ -1,10 +1,4 @@
-use Rattle.std.proofs.Common.{◌≡◌, ◌+◌, ◌-◌, ◌^◌, ◌<◌, ℕ, List, length, ap, sym, subst, ◌∙◌, arith}
-use Rattle.std.specs.Prelude.{ℤ, pos, neg_ℤ, ◌*ℤ◌, ◌≤ℤ◌, slice_index, unsigned_abs}
-use Rattle.crn_vec.specs.declared.limits.TheConstants.{WIDE_ENTRY}
-use Rattle.crn_vec.specs.Vectors.{Mat, entry}
-use Rattle.crn_vec.specs.Lists.{IsIn}
-use Rattle.crn_vec.specs.Elementary.{width}
-use Rattle.crn_tab.specs.Slots.{basis_of, row_at, IsTableau}
+use Rattle.crn_tab.proofs.Prelude.{◌≡◌, ◌+◌, ◌-◌, ◌^◌, ◌<◌, ℕ, List, length, ap, sym, subst, ◌∙◌, arith, ℤ, pos, neg_ℤ, ◌*ℤ◌, ◌≤ℤ◌, slice_index, unsigned_abs, WIDE_ENTRY, Mat, entry, IsIn, width, basis_of, row_at, IsTableau}
 use Rattle.crn_tab.proofs.RowVector.{row_of}
 use Rattle.crn_tab.proofs.BasisPlace.{has_place}
 use Rattle.crn_tab.proofs.Depends.{TellsHow, tells}

@@ -1,7 +1,4 @@
-use Rattle.std.proofs.Common.{◌≡◌, ◌-◌, ◌++◌, ℕ, List, length, set, ap, ◌∙◌, sym, subst, Bool}
-use Rattle.std.specs.Prelude.{ℤ}
-use Rattle.crn_tab.specs.Inner.Rows.{IsFit, IsNewRow}
-use Rattle.crn_tab.specs.Slots.{row_at}
+use Rattle.crn_tab.proofs.Prelude.{◌≡◌, ◌-◌, ◌++◌, ℕ, List, length, set, ap, ◌∙◌, sym, subst, Bool, ℤ, IsFit, IsNewRow, row_at}
 use Rattle.crn_tab.proofs.Flat.{row_written, row_other}
 use Rattle.crn_tab.proofs.fill.fill_row.Goals as goal
 

@@ -1,7 +1,4 @@
-use Rattle.std.proofs.Common.{◌≡◌, ◌≤◌, ◌*◌, ◌+◌, ℕ, List, length, drop, ◌∙◌, arith}
-use Rattle.std.specs.Prelude.{ℤ}
-use Rattle.std.proofs.lemmas.List.{length-take-le, length-drop}
-use Rattle.crn_tab.specs.Slots.{row_at}
+use Rattle.crn_tab.proofs.Prelude.{◌≡◌, ◌≤◌, ◌*◌, ◌+◌, ℕ, List, length, drop, ◌∙◌, arith, ℤ, length-take-le, length-drop, row_at}
 use Rattle.crn_tab.proofs.LeadMade.{plain, lead_made}
 use Rattle.crn_tab.proofs.lead.make_lead.Goals as goal
 

@@ -1,6 +1,4 @@
-use Rattle.std.proofs.Common.{◌≡◌, ℕ, ◌<◌, ◌≤◌}
-use Rattle.std.specs.Prelude.{neg_ℤ}
-use Rattle.crn_vec.specs.Vectors.{entry}
+use Rattle.crn_tab.proofs.Prelude.{◌≡◌, ℕ, ◌<◌, ◌≤◌, neg_ℤ, entry}
 use Rattle.crn_tab.proofs.lead.negate.Given as goal
 
 abbrev pub invariant-loop-j : goal.invariant-loop-j

@@ -1,7 +1,4 @@
-use Rattle.std.proofs.Common.{◌≡◌, ◌+◌, ◌<◌, ℕ, arith, sym, ap, subst, ◌∙◌, length, vec_len, vec_capacity, Vec, Global, to_z}
-use Rattle.std.specs.Int.{w64}
-use Rattle.std.specs.Prelude.{pos}
-use Rattle.crn_vec.specs.Vectors.{entry}
+use Rattle.crn_tab.proofs.Prelude.{◌≡◌, ◌+◌, ◌<◌, ℕ, arith, sym, ap, subst, ◌∙◌, length, vec_len, vec_capacity, Vec, Global, to_z, w64, pos, entry}
 use Rattle.crn_tab.proofs.Support.{PlacesUpTo, places_none, place_pushed, place_passed}
 use Rattle.crn_tab.proofs.Cross.{read}
 use Rattle.crn_tab.proofs.lead.put_places.Goals as goal

@@ -1,4 +1,4 @@
-use Rattle.std.proofs.Common.{◌≡◌, ◌≤◌, vec_len, vec_capacity}
+use Rattle.crn_tab.proofs.Prelude.{◌≡◌, ◌≤◌, vec_len, vec_capacity}
 use Rattle.crn_tab.proofs.Support.{PlacesUpTo}
 use Rattle.crn_tab.proofs.lead.put_places.Given as goal
 

@@ -1,6 +1,4 @@
-use Rattle.std.proofs.Common.{sym, ap, subst, arith}
-use Rattle.std.specs.Prelude.{ℤ, unsigned_abs}
-use Rattle.std.specs.Int.{◌∣◌}
+use Rattle.crn_tab.proofs.Prelude.{sym, ap, subst, arith, ℤ, unsigned_abs, ◌∣◌}
 use Rattle.crn_tab.proofs.low.divide_exactly.Goals as goal
 
 pub exact_part-requires-clause-low : goal.exact_part-requires-clause-low

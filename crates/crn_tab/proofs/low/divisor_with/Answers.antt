@@ -1,7 +1,4 @@
-use Rattle.std.proofs.Common.{sym, subst}
-use Rattle.std.specs.Prelude.{ℤ, unsigned_abs}
-use Rattle.std.specs.Int.{◌∣◌}
-use Rattle.std.proofs.lemmas.Nat.Gcd.{dvd_refl}
+use Rattle.crn_tab.proofs.Prelude.{sym, subst, ℤ, unsigned_abs, ◌∣◌, dvd_refl}
 use Rattle.crn_tab.proofs.Cross.{read}
 use Rattle.crn_tab.proofs.low.divisor_with.Goals as goal
 

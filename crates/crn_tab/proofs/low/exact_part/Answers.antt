@@ -1,8 +1,4 @@
-use Rattle.std.proofs.Common.{◌<◌, arith}
-use Rattle.std.specs.Prelude.{unsigned_abs}
-use Rattle.std.proofs.lemmas.Int.{ints}
-use Rattle.crn_vec.specs.declared.limits.TheConstants.{WIDE_ENTRY}
-use Rattle.crn_frac.proofs.CallerLemmas.{smaller}
+use Rattle.crn_tab.proofs.Prelude.{◌<◌, arith, unsigned_abs, ints, WIDE_ENTRY, smaller}
 use Rattle.crn_tab.proofs.Cross.{read}
 use Rattle.crn_tab.proofs.low.exact_part.Goals as goal
 

@@ -1,9 +1,4 @@
-use Rattle.std.proofs.Common.{◌<◌, sym, ap, subst, arith, to_z}
-use Rattle.std.specs.Prelude.{ℤ, pos, ◌≤ℤ◌, unsigned_abs}
-use Rattle.std.specs.Int.{◌∣◌, w64}
-use Rattle.std.proofs.lemmas.Int.{ints}
-use Rattle.std.proofs.lemmas.Nat.Gcd.{le_of_dvd}
-use Rattle.crn_vec.specs.declared.limits.TheConstants.{WIDE_ENTRY}
+use Rattle.crn_tab.proofs.Prelude.{◌<◌, sym, ap, subst, arith, to_z, ℤ, pos, ◌≤ℤ◌, unsigned_abs, ◌∣◌, w64, ints, le_of_dvd, WIDE_ENTRY}
 use Rattle.crn_tab.proofs.Cross.{read}
 use Rattle.crn_tab.proofs.low.first_divisor.Goals as goal
 

@@ -1,4 +1,4 @@
-use Rattle.std.proofs.Common.{◌^◌, arith}
+use Rattle.crn_tab.proofs.Prelude.{◌^◌, arith}
 use Rattle.crn_tab.proofs.Primitive.{part_below}
 use Rattle.crn_tab.proofs.low.make_primitive.Goals as goal
 

@@ -1,7 +1,4 @@
-use Rattle.std.proofs.Common.{refl, arith}
-use Rattle.std.specs.Prelude.{FitsSigned, ◌*ℤ◌}
-use Rattle.std.specs.Int.{w64}
-use Rattle.std.proofs.lemmas.Int.{fits_signed_from_abs}
+use Rattle.crn_tab.proofs.Prelude.{refl, arith, FitsSigned, ◌*ℤ◌, w64, fits_signed_from_abs}
 use Rattle.crn_tab.proofs.Cross.{read}
 use Rattle.crn_tab.proofs.low.product.Goals as goal
 

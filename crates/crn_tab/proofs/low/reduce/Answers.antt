@@ -1,11 +1,4 @@
-use Rattle.std.proofs.Common.{◌≡◌, ◌^◌, ℕ, List, ap, ◌∙◌, sym, subst, arith, to_z}
-use Rattle.std.specs.Prelude.{ℤ, pos, ◌*ℤ◌, unsigned_abs}
-use Rattle.std.specs.Int.{w64, ◌∣◌}
-use Rattle.std.proofs.lemmas.Int.{ints}
-use Rattle.std.proofs.lemmas.Nat.Gcd.{dvd-zero}
-use Rattle.std.proofs.Math.Nat.{one-dvd}
-use Rattle.crn_tab.specs.Inner.Rows.{AreBelow, IsPrimitivePart}
-use Rattle.crn_vec.specs.Vectors.{entry}
+use Rattle.crn_tab.proofs.Prelude.{◌≡◌, ◌^◌, ℕ, List, ap, ◌∙◌, sym, subst, arith, to_z, ℤ, pos, ◌*ℤ◌, unsigned_abs, w64, ◌∣◌, ints, dvd-zero, one-dvd, AreBelow, IsPrimitivePart, entry}
 use Rattle.crn_tab.proofs.Cross.{read}
 use Rattle.crn_tab.proofs.SameRows.{everywhere}
 use Rattle.crn_tab.proofs.WideProducts.{times_divides}

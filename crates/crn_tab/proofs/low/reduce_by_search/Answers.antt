@@ -1,9 +1,4 @@
-use Rattle.std.proofs.Common.{◌≡◌, ℕ, ap, ◌∙◌, sym, subst, arith, to_z}
-use Rattle.std.specs.Prelude.{ℤ, pos, ◌*ℤ◌, unsigned_abs}
-use Rattle.std.specs.Int.{w64}
-use Rattle.std.proofs.lemmas.Int.{ints}
-use Rattle.crn_tab.specs.Slots.{IsContent}
-use Rattle.crn_vec.specs.Vectors.{entry}
+use Rattle.crn_tab.proofs.Prelude.{◌≡◌, ℕ, ap, ◌∙◌, sym, subst, arith, to_z, ℤ, pos, ◌*ℤ◌, unsigned_abs, w64, ints, IsContent, entry}
 use Rattle.crn_tab.proofs.Cross.{read}
 use Rattle.crn_tab.proofs.low.reduce_by_search.Goals as goal
 

@@ -1,12 +1,4 @@
-use Rattle.std.proofs.Common.{◌<◌, ℕ, inl, inr, ap, sym, subst, arith, to_z}
-use Rattle.std.specs.Prelude.{ℤ, pos, ◌≤ℤ◌, unsigned_abs}
-use Rattle.std.specs.Int.{◌∣◌, w64}
-use Rattle.std.proofs.lemmas.Nat.Gcd.{dvd-zero, dvd_trans, le_of_dvd}
-use Rattle.std.proofs.lemmas.Int.{ints}
-use Rattle.std.proofs.Math.Nat.{one-dvd}
-use Rattle.crn_vec.proofs.CallerLemmas.{eq_or}
-use Rattle.crn_vec.specs.Vectors.{entry}
-use Rattle.crn_vec.specs.declared.limits.TheConstants.{WIDE_ENTRY}
+use Rattle.crn_tab.proofs.Prelude.{◌<◌, ℕ, inl, inr, ap, sym, subst, arith, to_z, ℤ, pos, ◌≤ℤ◌, unsigned_abs, ◌∣◌, w64, dvd-zero, dvd_trans, le_of_dvd, ints, one-dvd, eq_or, entry, WIDE_ENTRY}
 use Rattle.crn_tab.proofs.Cross.{read}
 use Rattle.crn_tab.proofs.SameRows.{everywhere}
 use Rattle.crn_tab.proofs.low.shared_divisor.Goals as goal

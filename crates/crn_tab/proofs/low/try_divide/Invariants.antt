@@ -1,7 +1,4 @@
-use Rattle.std.proofs.Common.{◌≡◌, ℕ, ◌<◌, ◌≤◌, length}
-use Rattle.std.specs.Prelude.{◌*ℤ◌}
-use Rattle.crn_vec.specs.Vectors.{entry}
-use Rattle.crn_tab.specs.Tableau.{AreSmall}
+use Rattle.crn_tab.proofs.Prelude.{◌≡◌, ℕ, ◌<◌, ◌≤◌, length, ◌*ℤ◌, entry, AreSmall}
 use Rattle.crn_tab.proofs.low.try_divide.Given as goal
 
 abbrev pub invariant-loop-j : goal.invariant-loop-j

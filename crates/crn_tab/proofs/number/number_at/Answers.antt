@@ -1,11 +1,4 @@
-use Rattle.std.proofs.Common.{◌≡◌, ℕ, ◌+◌, ◌-◌, ◌<◌, List, subst, ◌∙◌, arith, to_z, of_z}
-use Rattle.std.specs.Prelude.{ℤ, slice_index}
-use Rattle.std.specs.Int.{w128}
-use Rattle.std.proofs.lemmas.Int.{to_z-of_z}
-use Rattle.crn_vec.specs.Vectors.{Mat}
-use Rattle.crn_vec.specs.Lists.{IsIn}
-use Rattle.crn_vec.specs.Elementary.{width}
-use Rattle.crn_tab.specs.Slots.{slot_entry, basis_of, row_at, IsTableau}
+use Rattle.crn_tab.proofs.Prelude.{◌≡◌, ℕ, ◌+◌, ◌-◌, ◌<◌, List, subst, ◌∙◌, arith, to_z, of_z, ℤ, slice_index, w128, to_z-of_z, Mat, IsIn, width, slot_entry, basis_of, row_at, IsTableau}
 use Rattle.crn_tab.proofs.RowVector.{row_of}
 use Rattle.crn_tab.proofs.OwnNumber.{IsNumber, named_number}
 use Rattle.crn_tab.proofs.number.number_at.Goals as goal

@@ -1,8 +1,4 @@
-use Rattle.std.proofs.Common.{◌<◌, ◌≤◌, ◌-◌, ◌+◌, inl, inr, List, refl, sym, subst, arith}
-use Rattle.std.proofs.Math.ListN.{length-set}
-use Rattle.std.specs.Prelude.{ℤ, slice_index}
-use Rattle.crn_vec.specs.Elementary.{width}
-use Rattle.crn_tab.specs.Slots.{IsTableau}
+use Rattle.crn_tab.proofs.Prelude.{◌<◌, ◌≤◌, ◌-◌, ◌+◌, inl, inr, List, refl, sym, subst, arith, length-set, ℤ, slice_index, width, IsTableau}
 use Rattle.crn_tab.proofs.Finish.{kept_row}
 use Rattle.crn_tab.proofs.Here.{here, some_entry, ok_here, wide_here, row_here, least_here}
 use Rattle.crn_tab.proofs.pivot.exchange.Goals as goal

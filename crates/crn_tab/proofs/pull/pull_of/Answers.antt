@@ -1,5 +1,4 @@
-use Rattle.std.proofs.Common.{length, ap, arith}
-use Rattle.std.specs.Prelude.{ℤ, slice_index}
+use Rattle.crn_tab.proofs.Prelude.{length, ap, arith, ℤ, slice_index}
 use Rattle.crn_tab.proofs.RowVector.{row_of}
 use Rattle.crn_tab.proofs.Scans.{kept_is}
 use Rattle.crn_tab.proofs.pull.pull_of.Goals as goal

@@ -1,5 +1,4 @@
-use Rattle.std.proofs.Common.{◌++◌, ◌∷◌, [], List, ℕ, ap, sym, ◌∙◌}
-use Rattle.crn_vec.specs.Kept.{KeptNums}
+use Rattle.crn_tab.proofs.Prelude.{◌++◌, ◌∷◌, [], List, ℕ, ap, sym, ◌∙◌, KeptNums}
 use Rattle.crn_tab.proofs.Places.{basis_joins, basis_stays}
 use Rattle.crn_tab.proofs.row.basis_list.Goals as goal
 use Rattle.crn_tab.proofs.row.basis_list.Goals.{then-at-k+in_ok-push, else-at-k}

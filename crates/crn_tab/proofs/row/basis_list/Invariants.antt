@@ -1,5 +1,4 @@
-use Rattle.std.proofs.Common.{◌≡◌, take}
-use Rattle.crn_tab.specs.Slots.{basis_of}
+use Rattle.crn_tab.proofs.Prelude.{◌≡◌, take, basis_of}
 use Rattle.crn_tab.proofs.row.basis_list.Given as goal
 
 abbrev pub invariant-loop-k : goal.invariant-loop-k

@@ -1,8 +1,4 @@
-use Rattle.std.proofs.Common.{◌≡◌, ℕ, ◌+◌, ◌-◌, List, ap, sym, subst, arith}
-use Rattle.std.specs.Prelude.{ℤ, slice_index}
-use Rattle.crn_vec.specs.Elementary.{InDualSpace, IsElementary, IsNamed}
-use Rattle.crn_tab.specs.Tableau.{AreSmall}
-use Rattle.crn_tab.specs.Slots.{spread, basis_of, row_at}
+use Rattle.crn_tab.proofs.Prelude.{◌≡◌, ℕ, ◌+◌, ◌-◌, List, ap, sym, subst, arith, ℤ, slice_index, InDualSpace, IsElementary, IsNamed, AreSmall, spread, basis_of, row_at}
 use Rattle.crn_tab.proofs.Columns.{row_elementary}
 use Rattle.crn_tab.proofs.RowVector.{row_of}
 use Rattle.crn_tab.proofs.row.put_row_vector.Goals as goal

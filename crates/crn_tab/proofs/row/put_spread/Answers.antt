@@ -1,8 +1,4 @@
-use Rattle.std.proofs.Common.{◌≡◌, ◌<◌, inl, inr, length, ap, sym, ◌∙◌, arith, to_z, of_z}
-use Rattle.std.specs.Prelude.{slice_index}
-use Rattle.std.specs.Int.{w128}
-use Rattle.std.proofs.lemmas.Int.{to_z-of_z}
-use Rattle.crn_tab.specs.Slots.{slot_entry, spread}
+use Rattle.crn_tab.proofs.Prelude.{◌≡◌, ◌<◌, inl, inr, length, ap, sym, ◌∙◌, arith, to_z, of_z, slice_index, w128, to_z-of_z, slot_entry, spread}
 use Rattle.crn_tab.proofs.NewRows.{look}
 use Rattle.crn_tab.proofs.Places.{length-spread, entry-spread}
 use Rattle.crn_tab.proofs.SameRows.{same_rows}

@@ -1,7 +1,4 @@
-use Rattle.std.proofs.Common.{◌≡◌, ℕ, ◌<◌}
-use Rattle.std.specs.Prelude.{slice_index}
-use Rattle.crn_vec.specs.Vectors.{entry}
-use Rattle.crn_tab.specs.Slots.{slot_entry}
+use Rattle.crn_tab.proofs.Prelude.{◌≡◌, ℕ, ◌<◌, slice_index, entry, slot_entry}
 use Rattle.crn_tab.proofs.row.put_spread.Given as goal
 
 abbrev pub invariant-loop-k : goal.invariant-loop-k

@@ -1,6 +1,4 @@
-use Rattle.std.proofs.Common.{◌≡◌, ◌<◌, ℕ, [], length, ap, subst, arith}
-use Rattle.std.specs.Prelude.{ℤ, slice_index}
-use Rattle.crn_vec.specs.declared.signs.Kind.TheVariants.{Pos}
+use Rattle.crn_tab.proofs.Prelude.{◌≡◌, ◌<◌, ℕ, [], length, ap, subst, arith, ℤ, slice_index, Pos}
 use Rattle.crn_tab.proofs.RowVector.{row_of}
 use Rattle.crn_tab.proofs.Scans.{RowRight, kept_is, row_all, row_first, row_first_wrong, row_stepped, row_wrong}
 use Rattle.crn_tab.proofs.row_cuts.all_weigh.Goals as goal

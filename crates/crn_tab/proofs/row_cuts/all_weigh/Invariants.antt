@@ -1,4 +1,4 @@
-use Rattle.std.proofs.Common.{[]}
+use Rattle.crn_tab.proofs.Prelude.{[]}
 use Rattle.crn_tab.proofs.Scans.{RowRight}
 use Rattle.crn_tab.proofs.row_cuts.all_weigh.Given as goal
 

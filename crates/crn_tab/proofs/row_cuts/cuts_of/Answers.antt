@@ -1,4 +1,4 @@
-use Rattle.crn_vec.specs.declared.signs.Sign.TheVariants.{Plus, Minus}
+use Rattle.crn_tab.proofs.Prelude.{Plus, Minus}
 use Rattle.crn_tab.proofs.CutScans.{none_rules, plus_some, minus_some}
 use Rattle.crn_tab.proofs.row_cuts.cuts_of.Goals as goal
 

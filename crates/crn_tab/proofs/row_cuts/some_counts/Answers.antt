@@ -1,11 +1,4 @@
-use Rattle.std.proofs.Common.{◌≡◌, ◌<◌, ◌-◌, ℕ, List, length, ap, sym, subst, ◌∙◌, arith}
-use Rattle.std.specs.Prelude.{ℤ, slice_index}
-use Rattle.std.proofs.lemmas.Int.{ints}
-use Rattle.crn_vec.specs.declared.signs.Kind.TheVariants.{Pos}
-use Rattle.crn_vec.specs.Vectors.{entry}
-use Rattle.crn_vec.specs.Systems.{is_signed}
-use Rattle.crn_vec.proofs.CallerLemmas.{any_default}
-use Rattle.crn_tab.specs.Slots.{basis_of}
+use Rattle.crn_tab.proofs.Prelude.{◌≡◌, ◌<◌, ◌-◌, ℕ, List, length, ap, sym, subst, ◌∙◌, arith, ℤ, slice_index, ints, Pos, entry, is_signed, any_default, basis_of}
 use Rattle.crn_tab.proofs.RowVector.{row_of}
 use Rattle.crn_tab.proofs.Scans.{kept_is}
 use Rattle.crn_tab.proofs.CutScans.{NoneCounts, counts_more, none_counts, counts_own, counts_slot}

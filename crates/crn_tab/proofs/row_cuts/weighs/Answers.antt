@@ -1,7 +1,4 @@
-use Rattle.std.proofs.Common.{◌≡◌, rules, sym, subst}
-use Rattle.std.specs.Prelude.{ℤ, pos}
-use Rattle.crn_vec.specs.Systems.{MayWeigh}
-use Rattle.crn_vec.proofs.CallerLemmas.{weigh_zero}
+use Rattle.crn_tab.proofs.Prelude.{◌≡◌, rules, sym, subst, ℤ, pos, MayWeigh, weigh_zero}
 use Rattle.crn_tab.proofs.Scans.{follows_zero}
 use Rattle.crn_tab.proofs.row_cuts.weighs.Goals as goal
 

@@ -1,6 +1,4 @@
-use Rattle.std.proofs.Common.{ℕ, ◌<◌, ◌^◌}
-use Rattle.std.specs.Prelude.{unsigned_abs}
-use Rattle.crn_vec.specs.Vectors.{entry}
+use Rattle.crn_tab.proofs.Prelude.{ℕ, ◌<◌, ◌^◌, unsigned_abs, entry}
 use Rattle.crn_tab.proofs.short.all_short.Given as goal
 
 abbrev pub invariant-loop-x : goal.invariant-loop-x

@@ -1,10 +1,4 @@
-use Rattle.std.proofs.Common.{◌≡◌, ◌<◌, ◌^◌, ℕ, List, length, sym, ap, ◌∙◌, arith, subst, refl, lit<}
-use Rattle.std.specs.Prelude.{ℤ, pos, ◌≤ℤ◌, ◌*ℤ◌, ◌-ℤ◌, unsigned_abs}
-use Rattle.std.specs.Int.{◌∣◌}
-use Rattle.std.proofs.lemmas.Nat.Gcd.{dvd-zero}
-use Rattle.crn_vec.specs.Vectors.{entry}
-use Rattle.crn_tab.specs.Slots.{IsContent}
-use Rattle.crn_tab.specs.Inner.Rows.{IsCombined}
+use Rattle.crn_tab.proofs.Prelude.{◌≡◌, ◌<◌, ◌^◌, ℕ, List, length, sym, ap, ◌∙◌, arith, subst, refl, lit<, ℤ, pos, ◌≤ℤ◌, ◌*ℤ◌, ◌-ℤ◌, unsigned_abs, ◌∣◌, dvd-zero, entry, IsContent, IsCombined}
 use Rattle.crn_tab.proofs.Differences.{differences, length-differences, entry-differences}
 use Rattle.crn_tab.proofs.Divided.{each_difference}
 use Rattle.crn_tab.proofs.Primitive.{combined_of}

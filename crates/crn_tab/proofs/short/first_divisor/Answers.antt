@@ -1,9 +1,4 @@
-use Rattle.std.proofs.Common.{◌≡◌, ◌<◌, ◌^◌, sym, ap, subst, arith, to_z}
-use Rattle.std.specs.Prelude.{ℤ, ◌*ℤ◌, ◌-ℤ◌, unsigned_abs}
-use Rattle.std.specs.Int.{◌∣◌, w64}
-use Rattle.std.proofs.lemmas.Int.{ints}
-use Rattle.std.proofs.lemmas.Nat.Gcd.{le_of_dvd}
-use Rattle.crn_vec.specs.Vectors.{entry}
+use Rattle.crn_tab.proofs.Prelude.{◌≡◌, ◌<◌, ◌^◌, sym, ap, subst, arith, to_z, ℤ, ◌*ℤ◌, ◌-ℤ◌, unsigned_abs, ◌∣◌, w64, ints, le_of_dvd, entry}
 use Rattle.crn_tab.proofs.LowCross.{read_low}
 use Rattle.crn_tab.proofs.ShortCross.{read_short}
 use Rattle.crn_tab.proofs.short.first_divisor.Goals as goal

@@ -1,7 +1,4 @@
-use Rattle.std.proofs.Common.{ℕ, ◌<◌, ◌^◌}
-use Rattle.std.specs.Prelude.{pos, ◌≤ℤ◌, ◌*ℤ◌, ◌-ℤ◌, unsigned_abs}
-use Rattle.std.specs.Int.{◌∣◌}
-use Rattle.crn_vec.specs.Vectors.{entry}
+use Rattle.crn_tab.proofs.Prelude.{ℕ, ◌<◌, ◌^◌, pos, ◌≤ℤ◌, ◌*ℤ◌, ◌-ℤ◌, unsigned_abs, ◌∣◌, entry}
 use Rattle.crn_tab.proofs.short.first_divisor.Given as goal
 
 abbrev pub invariant-loop-j : goal.invariant-loop-j

@@ -1,7 +1,4 @@
-use Rattle.std.proofs.Common.{◌≡◌, ◌<◌, ◌*◌, ◌%◌, ◌^◌, sym, ap, ◌∙◌, arith, rules, to_z, of_z}
-use Rattle.std.specs.Prelude.{◌*ℤ◌, FitsSigned, unsigned_abs}
-use Rattle.std.specs.Int.{w32}
-use Rattle.std.proofs.lemmas.Int.{to_z-of_z, fits_signed_from_abs, int_wrap_fits, wrapping_mul_is}
+use Rattle.crn_tab.proofs.Prelude.{◌≡◌, ◌<◌, ◌*◌, ◌%◌, ◌^◌, sym, ap, ◌∙◌, arith, rules, to_z, of_z, ◌*ℤ◌, FitsSigned, unsigned_abs, w32, to_z-of_z, fits_signed_from_abs, int_wrap_fits, wrapping_mul_is}
 use Rattle.crn_tab.proofs.ShortCross.{product_short}
 use Rattle.crn_tab.proofs.short.is_quotient.Goals as goal
 

@@ -1,5 +1,4 @@
-use Rattle.std.proofs.Common.{◌≡◌, ℕ, ◌<◌}
-use Rattle.crn_vec.specs.Vectors.{entry}
+use Rattle.crn_tab.proofs.Prelude.{◌≡◌, ℕ, ◌<◌, entry}
 use Rattle.crn_tab.proofs.short.put_long.Given as goal
 
 abbrev pub invariant-loop-j : goal.invariant-loop-j

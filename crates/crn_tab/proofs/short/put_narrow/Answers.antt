@@ -1,4 +1,4 @@
-use Rattle.std.proofs.Common.{arith}
+use Rattle.crn_tab.proofs.Prelude.{arith}
 use Rattle.crn_tab.proofs.SameRows.{same_rows}
 use Rattle.crn_tab.proofs.short.put_narrow.Goals as goal
 

@@ -1,6 +1,4 @@
-use Rattle.std.proofs.Common.{◌≡◌, ℕ, ◌<◌, ◌≤◌, ◌^◌}
-use Rattle.std.specs.Prelude.{◌*ℤ◌, ◌-ℤ◌, IsTrue, unsigned_abs}
-use Rattle.crn_vec.specs.Vectors.{entry}
+use Rattle.crn_tab.proofs.Prelude.{◌≡◌, ℕ, ◌<◌, ◌≤◌, ◌^◌, ◌*ℤ◌, ◌-ℤ◌, IsTrue, unsigned_abs, entry}
 use Rattle.crn_tab.proofs.short.put_quotients.Given as goal
 
 abbrev pub invariant-loop-j : goal.invariant-loop-j

@@ -1,4 +1,4 @@
-use Rattle.std.proofs.Common.{refl}
+use Rattle.crn_tab.proofs.Prelude.{refl}
 use Rattle.crn_tab.proofs.ShortCross.{short_crossed}
 use Rattle.crn_tab.proofs.short.short_cross.Goals as goal
 

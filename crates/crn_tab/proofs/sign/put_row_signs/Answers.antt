@@ -1,10 +1,5 @@
-use Rattle.std.proofs.Common.{◌+◌, ◌-◌, ◌∙◌, ap, subst, arith}
-use Rattle.std.specs.Prelude.{slice_index}
-use Rattle.std.specs.Int.{w128}
-use Rattle.std.proofs.lemmas.Int.{to_z-of_z}
+use Rattle.crn_tab.proofs.Prelude.{◌+◌, ◌-◌, ◌∙◌, ap, subst, arith, slice_index, w128, to_z-of_z, HasSign, slot_entry, row_at}
 use Rattle.std.proofs.lemmas.List.{length-set}
-use Rattle.crn_vec.specs.Vectors.{HasSign}
-use Rattle.crn_tab.specs.Slots.{slot_entry, row_at}
 use Rattle.crn_tab.proofs.RowVector.{row_of}
 use Rattle.crn_tab.proofs.OwnSign.{sign_made, sign_put, row_signed}
 use Rattle.crn_tab.proofs.sign.put_row_signs.Goals as goal

@@ -1,9 +1,5 @@
-use Rattle.std.proofs.Common.{◌≡◌, ◌<◌, ℕ, ℤ, List, length}
-use Rattle.std.specs.Prelude.{slice_index_or}
-use Rattle.crn_vec.specs.declared.signs.Sign.TheVariants.{Zero}
-use Rattle.crn_vec.specs.Vectors.{entry, HasSign}
-use Rattle.crn_tab.specs.Tableau.{IsRowOfSign}
-use Rattle.crn_tab.specs.Slots.{basis_of}
+use Rattle.crn_tab.proofs.Prelude.{◌≡◌, ◌<◌, ℕ, List, length, slice_index_or, Zero, entry, HasSign, IsRowOfSign, basis_of}
+use Rattle.std.proofs.Common.{ℤ}
 use Rattle.crn_tab.proofs.sign.put_row_signs.Given as goal
 
 abbrev pub invariant-loop-c : goal.invariant-loop-c

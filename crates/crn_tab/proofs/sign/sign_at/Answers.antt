@@ -1,9 +1,4 @@
-use Rattle.std.proofs.Common.{◌≡◌, ◌+◌, ◌-◌, ◌∙◌, subst, arith}
-use Rattle.std.specs.Prelude.{slice_index}
-use Rattle.std.specs.Int.{w128}
-use Rattle.std.proofs.lemmas.Int.{to_z-of_z}
-use Rattle.crn_vec.specs.Vectors.{HasSign}
-use Rattle.crn_tab.specs.Slots.{slot_entry, spread, row_at}
+use Rattle.crn_tab.proofs.Prelude.{◌≡◌, ◌+◌, ◌-◌, ◌∙◌, subst, arith, slice_index, w128, to_z-of_z, HasSign, slot_entry, spread, row_at}
 use Rattle.crn_tab.proofs.Places.{entry-spread}
 use Rattle.crn_tab.proofs.RowVector.{row_of}
 use Rattle.crn_tab.proofs.OwnSign.{named_sign, own_positive}

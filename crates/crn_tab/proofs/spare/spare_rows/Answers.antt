@@ -1,9 +1,4 @@
-use Rattle.std.proofs.Common.{◌≡◌, ◌≢◌, ◌<◌, ◌≤◌, ◌+◌, ◌-◌, ◌⊎◌, inl, inr, ℕ, List, length, set, refl, ap, ◌∙◌, sym, subst, arith}
-use Rattle.std.specs.Prelude.{ℤ, pos, slice_index, unsigned_abs}
-use Rattle.std.proofs.Math.ListN.{length-set}
-use Rattle.crn_vec.specs.Vectors.{entry}
-use Rattle.crn_tab.specs.Slots.{IsContent, row_at}
-use Rattle.crn_tab.specs.Inner.Rows.{AreFilled, IsKeptRow, IsLead, IsRowDone, IsRowMade, HasWideRow}
+use Rattle.crn_tab.proofs.Prelude.{◌≡◌, ◌≢◌, ◌<◌, ◌≤◌, ◌+◌, ◌-◌, ◌⊎◌, inl, inr, ℕ, List, length, set, refl, ap, ◌∙◌, sym, subst, arith, ℤ, pos, slice_index, unsigned_abs, length-set, entry, IsContent, row_at, AreFilled, IsKeptRow, IsLead, IsRowDone, IsRowMade, HasWideRow}
 use Rattle.crn_tab.proofs.Signs.{is_none}
 use Rattle.crn_tab.proofs.NewRows.{new_row_none}
 use Rattle.crn_tab.proofs.LeadRow.{lead_small_at, lead_primitive_at}

@@ -1,9 +1,4 @@
-use Rattle.std.proofs.Common.{◌≡◌, ◌<◌, inl, inr, length, refl, ap, ◌∙◌, sym, subst, arith, to_z, of_z}
-use Rattle.std.specs.Prelude.{ℤ, pos, neg_ℤ, ◌*ℤ◌, unsigned_abs}
-use Rattle.std.specs.Int.{w64, ◌∣◌}
-use Rattle.std.proofs.Math.ListN.{length-set}
-use Rattle.crn_vec.specs.Vectors.{entry}
-use Rattle.crn_tab.specs.Inner.Rows.{put}
+use Rattle.crn_tab.proofs.Prelude.{◌≡◌, ◌<◌, inl, inr, length, refl, ap, ◌∙◌, sym, subst, arith, to_z, of_z, ℤ, pos, neg_ℤ, ◌*ℤ◌, unsigned_abs, w64, ◌∣◌, length-set, entry, put}
 use Rattle.crn_tab.proofs.Cross.{read}
 use Rattle.crn_tab.proofs.NewRows.{look}
 use Rattle.crn_tab.proofs.Primitive.{combined_of}

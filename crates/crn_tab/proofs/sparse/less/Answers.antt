@@ -1,4 +1,4 @@
-use Rattle.std.proofs.Common.{refl}
+use Rattle.crn_tab.proofs.Prelude.{refl}
 use Rattle.crn_tab.proofs.SparseRow.{lessened}
 use Rattle.crn_tab.proofs.sparse.less.Goals as goal
 

@@ -1,10 +1,4 @@
-use Rattle.std.proofs.Common.{◌≡◌, ◌<◌, ◌⊎◌, inl, inr, length, List, sym, ap, subst, ◌∙◌, arith, to_z, of_z}
-use Rattle.std.specs.Prelude.{ℤ, ◌*ℤ◌, ◌-ℤ◌, slice_index, slice_index_or, slice_set, unsigned_abs}
-use Rattle.std.specs.Int.{w64}
-use Rattle.std.proofs.Math.ListN.{length-set}
-use Rattle.crn_vec.proofs.CallerLemmas.{eq_or}
-use Rattle.crn_vec.specs.Vectors.{entry}
-use Rattle.crn_tab.specs.Tableau.{AreSmall}
+use Rattle.crn_tab.proofs.Prelude.{◌≡◌, ◌<◌, ◌⊎◌, inl, inr, length, List, sym, ap, subst, ◌∙◌, arith, to_z, of_z, ℤ, ◌*ℤ◌, ◌-ℤ◌, slice_index, slice_index_or, slice_set, unsigned_abs, w64, length-set, eq_or, entry, AreSmall}
 use Rattle.crn_tab.proofs.NewRows.{look}
 use Rattle.crn_tab.proofs.SparseRow.{listed_place, listed_inside, lessened, all_done}
 use Rattle.crn_tab.proofs.sparse.put_differences.Goals as goal

@@ -1,7 +1,4 @@
-use Rattle.std.proofs.Common.{◌≡◌, ℕ, ◌<◌, ◌⊎◌, length}
-use Rattle.std.specs.Prelude.{◌*ℤ◌, ◌-ℤ◌, slice_index}
-use Rattle.crn_vec.specs.Vectors.{entry}
-use Rattle.crn_tab.specs.Tableau.{AreSmall}
+use Rattle.crn_tab.proofs.Prelude.{◌≡◌, ℕ, ◌<◌, ◌⊎◌, length, ◌*ℤ◌, ◌-ℤ◌, slice_index, entry, AreSmall}
 use Rattle.crn_tab.proofs.sparse.put_differences.Given as goal
 
 abbrev pub invariant-loop-s : goal.invariant-loop-s

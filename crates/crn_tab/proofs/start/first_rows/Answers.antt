@@ -1,7 +1,4 @@
-use Rattle.std.proofs.Common.{◌≡◌, ◌≤◌, ◌*◌, ◌+◌, ◌++◌, ℕ, suc, List, length, take, ap, sym, ◌∙◌, arith}
-use Rattle.std.proofs.Math.Nat.{suc-mul, mul-le-mul_right}
-use Rattle.std.specs.Prelude.{ℤ}
-use Rattle.crn_tab.specs.Inner.Start.{start_row, start_rows}
+use Rattle.crn_tab.proofs.Prelude.{◌≡◌, ◌≤◌, ◌*◌, ◌+◌, ◌++◌, ℕ, suc, List, length, take, ap, sym, ◌∙◌, arith, suc-mul, mul-le-mul_right, ℤ, start_row, start_rows}
 use Rattle.crn_tab.proofs.FirstRows.{start_rows_step}
 use Rattle.crn_tab.proofs.start.first_rows.Goals as goal
 

@@ -1,5 +1,4 @@
-use Rattle.std.proofs.Common.{◌≡◌, ◌*◌, ◌+◌, length, take, vec_len, vec_capacity}
-use Rattle.crn_tab.specs.Inner.Start.{start_rows}
+use Rattle.crn_tab.proofs.Prelude.{◌≡◌, ◌*◌, ◌+◌, length, take, vec_len, vec_capacity, start_rows}
 use Rattle.crn_tab.proofs.start.first_rows.Given as goal
 
 abbrev pub invariant-loop-i : goal.invariant-loop-i

@@ -1,4 +1,4 @@
-use Rattle.crn_tab.specs.Inner.Start.{IsIdentity}
+use Rattle.crn_tab.proofs.Prelude.{IsIdentity}
 use Rattle.crn_tab.proofs.start.identity.Given as goal
 
 abbrev pub invariant-loop-k : goal.invariant-loop-k

@@ -1,10 +1,4 @@
-use Rattle.std.proofs.Common.{◌++◌, ◌∷◌, [], List, take, map, ap, sym, ◌∙◌, append_assoc, arith}
-use Rattle.std.specs.Prelude.{ℤ, neg_ℤ}
-use Rattle.std.specs.Int.{w64}
-use Rattle.std.proofs.lemmas.Int.{to_z-of_z}
-use Rattle.crn_vec.specs.declared.limits.TheConstants.{MAX_AMOUNT}
-use Rattle.crn_vec.specs.Vectors.{entry}
-use Rattle.crn_vec.proofs.CallerLemmas.{within_at}
+use Rattle.crn_tab.proofs.Prelude.{◌++◌, ◌∷◌, [], List, take, map, ap, sym, ◌∙◌, append_assoc, arith, ℤ, neg_ℤ, w64, to_z-of_z, MAX_AMOUNT, entry, within_at}
 use Rattle.crn_tab.proofs.FirstRows.{negatives_step}
 use Rattle.crn_tab.proofs.start.push_row.Goals as goal
 

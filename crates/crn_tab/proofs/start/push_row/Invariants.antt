@@ -1,5 +1,4 @@
-use Rattle.std.proofs.Common.{◌≡◌, ◌++◌, ◌+◌, map, take, vec_len, vec_capacity}
-use Rattle.std.specs.Prelude.{neg_ℤ}
+use Rattle.crn_tab.proofs.Prelude.{◌≡◌, ◌++◌, ◌+◌, map, take, vec_len, vec_capacity, neg_ℤ}
 use Rattle.crn_tab.proofs.start.push_row.Given as goal
 
 abbrev pub invariant-loop-x : goal.invariant-loop-x

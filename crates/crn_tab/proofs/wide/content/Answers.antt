@@ -1,11 +1,4 @@
-use Rattle.std.proofs.Common.{◌<◌, ap, ◌∙◌, sym, subst, arith, to_z, below_more}
-use Rattle.std.specs.Prelude.{ℤ, pos, ◌≤ℤ◌, unsigned_abs}
-use Rattle.std.specs.Int.{◌∣◌, w64}
-use Rattle.std.proofs.lemmas.Nat.Gcd.{dvd-zero, dvd_trans}
-use Rattle.std.proofs.Math.Nat.{one-dvd}
-use Rattle.crn_vec.specs.Vectors.{entry}
-use Rattle.crn_vec.specs.declared.limits.TheConstants.{WIDE_ENTRY}
-use Rattle.crn_tab.specs.declared.inverse.Inverse.{Inverse}
+use Rattle.crn_tab.proofs.Prelude.{◌<◌, ap, ◌∙◌, sym, subst, arith, to_z, below_more, ℤ, pos, ◌≤ℤ◌, unsigned_abs, ◌∣◌, w64, dvd-zero, dvd_trans, one-dvd, entry, WIDE_ENTRY, Inverse}
 use Rattle.crn_tab.proofs.Cross.{read}
 use Rattle.crn_tab.proofs.SameRows.{everywhere}
 use Rattle.crn_tab.proofs.wide.content.Goals as goal

@@ -1,10 +1,4 @@
-use Rattle.std.proofs.Common.{◌≡◌, ◌≤◌, ◌<◌, ℕ, ap, ◌∙◌, arith, rules, to_z, of_z}
-use Rattle.std.specs.Prelude.{ℤ, pos, ◌≤ℤ◌, unsigned_abs, FitsSigned}
-use Rattle.std.specs.Int.{◌∣◌, w64, w128}
-use Rattle.std.proofs.lemmas.Int.{ints, to_z-of_z}
-use Rattle.std.proofs.lemmas.Nat.Gcd.{le_of_dvd}
-use Rattle.std.proofs.Math.Nat.{pos_of_dvd_of_pos}
-use Rattle.crn_vec.specs.declared.limits.TheConstants.{WIDE_ENTRY}
+use Rattle.crn_tab.proofs.Prelude.{◌≡◌, ◌≤◌, ◌<◌, ℕ, ap, ◌∙◌, arith, rules, to_z, of_z, ℤ, pos, ◌≤ℤ◌, unsigned_abs, FitsSigned, ◌∣◌, w64, w128, ints, to_z-of_z, le_of_dvd, pos_of_dvd_of_pos, WIDE_ENTRY}
 use Rattle.crn_tab.proofs.Cross.{read}
 use Rattle.crn_tab.proofs.wide.divisor_with.Goals as goal
 

@@ -1,5 +1,4 @@
-use Rattle.std.proofs.Common.{to_z, of_z}
-use Rattle.std.specs.Int.{w64}
+use Rattle.crn_tab.proofs.Prelude.{to_z, of_z, w64}
 use Rattle.crn_tab.proofs.WideProducts.{times_divides}
 use Rattle.crn_tab.proofs.wide.is_multiple.Goals as goal
 

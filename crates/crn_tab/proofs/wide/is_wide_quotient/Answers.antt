@@ -1,7 +1,4 @@
-use Rattle.std.proofs.Common.{◌≡◌, sym, ap, ◌∙◌, arith, rules, to_z, of_z}
-use Rattle.std.specs.Prelude.{◌*ℤ◌, FitsSigned}
-use Rattle.std.specs.Int.{w64, w128}
-use Rattle.std.proofs.lemmas.Int.{to_z-of_z}
+use Rattle.crn_tab.proofs.Prelude.{◌≡◌, sym, ap, ◌∙◌, arith, rules, to_z, of_z, ◌*ℤ◌, FitsSigned, w64, w128, to_z-of_z}
 use Rattle.crn_tab.proofs.Cross.{widened}
 use Rattle.crn_tab.proofs.WideProducts.{any_widened, product_fits}
 use Rattle.crn_tab.proofs.wide.is_wide_quotient.Goals as goal

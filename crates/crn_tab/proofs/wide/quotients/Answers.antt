@@ -1,9 +1,4 @@
-use Rattle.std.proofs.Common.{◌≡◌, ◌<◌, inl, inr, length, sym, ap, ◌∙◌, arith, to_z, of_z}
-use Rattle.std.specs.Prelude.{ℤ, ◌*ℤ◌, unsigned_abs}
-use Rattle.std.specs.Int.{w64}
-use Rattle.std.proofs.Math.ListN.{length-set}
-use Rattle.crn_vec.specs.declared.limits.TheConstants.{WIDE_ENTRY}
-use Rattle.crn_vec.specs.Vectors.{entry}
+use Rattle.crn_tab.proofs.Prelude.{◌≡◌, ◌<◌, inl, inr, length, sym, ap, ◌∙◌, arith, to_z, of_z, ℤ, ◌*ℤ◌, unsigned_abs, w64, length-set, WIDE_ENTRY, entry}
 use Rattle.crn_tab.proofs.Cross.{read}
 use Rattle.crn_tab.proofs.NewRows.{look}
 use Rattle.crn_tab.proofs.SameRows.{small_everywhere}

@@ -1,11 +1,4 @@
-use Rattle.std.proofs.Common.{◌≡◌, ◌<◌, ◌⊎◌, inl, inr, ℕ, ◌+◌, List, length, refl, ap, subst, arith}
-use Rattle.std.specs.Prelude.{ℤ, slice_index}
-use Rattle.crn_vec.specs.declared.signs.Kind.TheVariants.{Pos}
-use Rattle.crn_vec.specs.Elementary.{width}
-use Rattle.crn_vec.specs.Vectors.{entry}
-use Rattle.crn_vec.specs.Systems.{MayTake, kind_at}
-use Rattle.crn_tab.specs.Tableau.{IsColumnOfSign, AreWrongAt}
-use Rattle.crn_tab.specs.Slots.{basis_of, row_at}
+use Rattle.crn_tab.proofs.Prelude.{◌≡◌, ◌<◌, ◌⊎◌, inl, inr, ℕ, ◌+◌, List, length, refl, ap, subst, arith, ℤ, slice_index, Pos, width, entry, MayTake, kind_at, IsColumnOfSign, AreWrongAt, basis_of, row_at}
 use Rattle.crn_tab.proofs.BasisPlace.{has_place}
 use Rattle.crn_tab.proofs.Scans.{ColumnRight, wrong_more, column_all, column_first, column_first_wrong, column_stepped, column_wrong}
 use Rattle.crn_tab.proofs.wrong.wrong_column.Goals as goal

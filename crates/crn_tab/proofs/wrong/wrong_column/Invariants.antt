@@ -1,8 +1,4 @@
-use Rattle.std.proofs.Common.{◌≡◌, ◌≤◌, ◌⊎◌}
-use Rattle.crn_vec.specs.Elementary.{width}
-use Rattle.crn_vec.specs.Systems.{MayTake}
-use Rattle.crn_tab.specs.Tableau.{IsColumnOfSign, AreWrongAt}
-use Rattle.crn_tab.specs.Slots.{basis_of}
+use Rattle.crn_tab.proofs.Prelude.{◌≡◌, ◌≤◌, ◌⊎◌, width, MayTake, IsColumnOfSign, AreWrongAt, basis_of}
 use Rattle.crn_tab.proofs.Scans.{ColumnRight}
 use Rattle.crn_tab.proofs.wrong.wrong_column.Given as goal
 

@@ -1,11 +1,4 @@
-use Rattle.std.proofs.Common.{◌≡◌, ◌<◌, ◌⊎◌, inl, inr, ℕ, List, length, refl, ap, subst, arith}
-use Rattle.std.specs.Prelude.{ℤ, slice_index}
-use Rattle.crn_vec.specs.declared.signs.Kind.TheVariants.{Pos}
-use Rattle.crn_vec.specs.Elementary.{width}
-use Rattle.crn_vec.specs.Systems.{MayWeigh, kind_at}
-use Rattle.crn_vec.specs.Vectors.{entry}
-use Rattle.crn_tab.specs.Tableau.{IsRowOfSign, AreWrongAt}
-use Rattle.crn_tab.specs.Slots.{basis_of}
+use Rattle.crn_tab.proofs.Prelude.{◌≡◌, ◌<◌, ◌⊎◌, inl, inr, ℕ, List, length, refl, ap, subst, arith, ℤ, slice_index, Pos, width, MayWeigh, kind_at, entry, IsRowOfSign, AreWrongAt, basis_of}
 use Rattle.crn_tab.proofs.RowVector.{row_of}
 use Rattle.crn_tab.proofs.Scans.{RowRight, kept_is, wrong_more, row_all, row_first, row_first_wrong, row_stepped, row_wrong}
 use Rattle.crn_tab.proofs.wrong.wrong_row.Goals as goal

@@ -1,8 +1,4 @@
-use Rattle.std.proofs.Common.{◌≡◌, ◌≤◌, ◌⊎◌}
-use Rattle.crn_vec.specs.Elementary.{width}
-use Rattle.crn_vec.specs.Systems.{MayWeigh}
-use Rattle.crn_tab.specs.Tableau.{IsRowOfSign, AreWrongAt}
-use Rattle.crn_tab.specs.Slots.{basis_of}
+use Rattle.crn_tab.proofs.Prelude.{◌≡◌, ◌≤◌, ◌⊎◌, width, MayWeigh, IsRowOfSign, AreWrongAt, basis_of}
 use Rattle.crn_tab.proofs.Scans.{RowRight}
 use Rattle.crn_tab.proofs.wrong.wrong_row.Given as goal
 

@@ -1,6 +1,4 @@
-use Rattle.std.specs.Prelude.{codes}
-use Rattle.std.proofs.lemmas.Bool.Decides.{Decides-eqb}
-use Rattle.std.proofs.lemmas.Slice.Eq.{strip_prefix_is, strip_suffix_is}
+use Rattle.crn_text.proofs.Prelude.{codes, Decides-eqb, strip_prefix_is, strip_suffix_is}
 use Rattle.crn_text.proofs.ArrowSplit.{splits_none, splits_stray, splits_arrow, splits_both, splits_back}
 use Rattle.crn_text.proofs.arrow.split_arrow.Goals as goal
 

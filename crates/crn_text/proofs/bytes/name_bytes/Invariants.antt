@@ -1,5 +1,4 @@
-use Rattle.std.proofs.Common.{length}
-use Rattle.crn_vec.specs.Network.{is_name_byte}
+use Rattle.crn_text.proofs.Prelude.{length, is_name_byte}
 use Rattle.crn_text.proofs.Runs.{Passed}
 use Rattle.crn_text.proofs.bytes.name_bytes.Given as goal
 

@@ -1,4 +1,4 @@
-use Rattle.crn_vec.specs.Network.{is_name_byte}
+use Rattle.crn_text.proofs.Prelude.{is_name_byte}
 use Rattle.crn_text.proofs.Runs.{run_within}
 use Rattle.crn_text.proofs.bytes.short_name_bytes.Goals as goal
 

@@ -1,7 +1,4 @@
-use Rattle.std.proofs.Common.{◌≡◌, true, sym, ◌∙◌, arith}
-use Rattle.std.specs.List.{list_all}
-use Rattle.std.proofs.lemmas.List.Sums.{prefix_len-le-length}
-use Rattle.crn_text.specs.Inner.Pieces.{is_unmarked}
+use Rattle.crn_text.proofs.Prelude.{◌≡◌, true, sym, ◌∙◌, arith, list_all, prefix_len-le-length, is_unmarked}
 use Rattle.crn_text.proofs.Runs.{passed_more}
 use Rattle.crn_text.proofs.bytes.unmarked_bytes.Goals as goal
 

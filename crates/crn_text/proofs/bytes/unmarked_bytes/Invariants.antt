@@ -1,5 +1,4 @@
-use Rattle.std.proofs.Common.{length}
-use Rattle.crn_text.specs.Inner.Pieces.{is_unmarked}
+use Rattle.crn_text.proofs.Prelude.{length, is_unmarked}
 use Rattle.crn_text.proofs.Runs.{Passed}
 use Rattle.crn_text.proofs.bytes.unmarked_bytes.Given as goal
 

@@ -1,4 +1,4 @@
-use Rattle.std.proofs.Common.{refl, arith}
+use Rattle.crn_text.proofs.Prelude.{refl, arith}
 use Rattle.crn_text.proofs.FoundPieces.{lines_go_on, lines_break, lines_end}
 use Rattle.crn_text.proofs.canonical.is_canonical.Goals as goal
 

@@ -1,4 +1,4 @@
-use Rattle.crn_text.specs.Inner.Found.{AreFound}
+use Rattle.crn_text.proofs.Prelude.{AreFound}
 use Rattle.crn_text.proofs.FoundPieces.{BeginsLines}
 use Rattle.crn_text.proofs.canonical.is_canonical.Given as goal
 

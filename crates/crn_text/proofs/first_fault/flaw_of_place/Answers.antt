@@ -1,4 +1,4 @@
-use Rattle.std.proofs.Common.{refl, sym, ◌∙◌}
+use Rattle.crn_text.proofs.Prelude.{refl, sym, ◌∙◌}
 use Rattle.crn_text.proofs.PlaceTests.{occurs_itself}
 use Rattle.crn_text.proofs.Flaws.{place_of_term}
 use Rattle.crn_text.proofs.first_fault.flaw_of_place.Goals as goal

@@ -1,6 +1,4 @@
-use Rattle.std.proofs.Common.{◌≡◌, ◌∙◌, false, sym}
-use Rattle.crn_text.specs.Tokens.{tokens}
-use Rattle.crn_text.specs.Sides.{is_zero}
+use Rattle.crn_text.proofs.Prelude.{◌≡◌, ◌∙◌, false, sym, tokens, is_zero}
 use Rattle.crn_text.proofs.Flaws.{flaw_more, flaw_all}
 use Rattle.crn_text.proofs.first_fault.flaw_of_side.Goals as goal
 

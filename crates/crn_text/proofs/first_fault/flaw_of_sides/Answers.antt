@@ -1,4 +1,4 @@
-use Rattle.std.proofs.Common.{arith}
+use Rattle.crn_text.proofs.Prelude.{arith}
 use Rattle.crn_text.proofs.LineFlaws.{side_short, sides_flaw_more, sides_flaw_all}
 use Rattle.crn_text.proofs.first_fault.flaw_of_sides.Goals as goal
 

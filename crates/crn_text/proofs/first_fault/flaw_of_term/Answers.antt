@@ -1,6 +1,4 @@
-use Rattle.std.proofs.Common.{refl}
-use Rattle.std.proofs.lemmas.Bool.{lt-ltb, le-ltb, eq-eqb, ne_eqb}
-use Rattle.crn_vec.specs.declared.limits.TheConstants.{MAX_NAME}
+use Rattle.crn_text.proofs.Prelude.{refl, lt-ltb, le-ltb, eq-eqb, ne_eqb, MAX_NAME}
 use Rattle.crn_text.proofs.first_fault.flaw_of_term.Goals as goal
 
 pub returns-then-term-gt-MAX_NAME : goal.returns-then-term-gt-MAX_NAME

@@ -1,8 +1,4 @@
-use Rattle.std.proofs.Common.{◌≡◌, ◌∙◌, ℕ, List, sym, ap, arith}
-use Rattle.std.specs.List.{list_any}
-use Rattle.std.proofs.lemmas.Grind.{common_steps}
-use Rattle.crn_text.specs.Tokens.{tokens}
-use Rattle.crn_text.specs.Sides.{is_stray}
+use Rattle.crn_text.proofs.Prelude.{◌≡◌, ◌∙◌, ℕ, List, sym, ap, arith, list_any, common_steps, tokens, is_stray}
 use Rattle.crn_text.proofs.Unmarked.{any_from_mark}
 use Rattle.crn_text.proofs.first_fault.has_stray.Goals as goal
 

@@ -1,7 +1,4 @@
-use Rattle.std.proofs.Common.{◌≡◌, length}
-use Rattle.std.specs.List.{list_any}
-use Rattle.crn_text.specs.Tokens.{tokens}
-use Rattle.crn_text.specs.Sides.{is_stray}
+use Rattle.crn_text.proofs.Prelude.{◌≡◌, length, list_any, tokens, is_stray}
 use Rattle.crn_text.proofs.first_fault.has_stray.Given as goal
 
 abbrev pub invariant-tokens : goal.invariant-tokens

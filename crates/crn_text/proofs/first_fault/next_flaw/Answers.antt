@@ -1,4 +1,4 @@
-use Rattle.std.proofs.Common.{sym, ◌∙◌, arith}
+use Rattle.crn_text.proofs.Prelude.{sym, ◌∙◌, arith}
 use Rattle.crn_text.proofs.PlaceTests.{occurs_itself}
 use Rattle.crn_text.proofs.Flaws.{place_of_term}
 use Rattle.crn_text.proofs.Splits.{split_size}

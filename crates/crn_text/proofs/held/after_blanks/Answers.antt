@@ -1,6 +1,4 @@
-use Rattle.std.proofs.Common.{arith}
-use Rattle.std.proofs.lemmas.List.Sums.{prefix_len-le-length}
-use Rattle.crn_text.specs.Tokens.{is_blank}
+use Rattle.crn_text.proofs.Prelude.{arith, prefix_len-le-length, is_blank}
 use Rattle.crn_text.proofs.held.after_blanks.Goals as goal
 
 pub split_at-requires : goal.split_at-requires

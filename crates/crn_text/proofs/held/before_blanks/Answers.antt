@@ -1,4 +1,4 @@
-use Rattle.std.proofs.Common.{sym, ◌∙◌}
+use Rattle.crn_text.proofs.Prelude.{sym, ◌∙◌}
 use Rattle.crn_text.proofs.HeldSides.{trimmed_none, trimmed_last}
 use Rattle.crn_text.proofs.held.before_blanks.Goals as goal
 

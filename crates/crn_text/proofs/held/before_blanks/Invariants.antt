@@ -1,5 +1,4 @@
-use Rattle.std.proofs.Common.{length}
-use Rattle.crn_text.specs.Inner.Held.{IsTrimmed}
+use Rattle.crn_text.proofs.Prelude.{length, IsTrimmed}
 use Rattle.crn_text.proofs.held.before_blanks.Given as goal
 
 abbrev pub invariant-blanks : goal.invariant-blanks

@@ -1,6 +1,4 @@
-use Rattle.std.proofs.Common.{◌≡◌, ℕ, zero, suc, ◌+◌, ◌<◌, List, [], ◌∷◌, ◌++◌, length, take, drop, map, get_or, set, refl, ap, ap₂, ◌∙◌, arith, subst}
-use Rattle.crn_net.specs.declared.term.Term.{Term}
-use Rattle.crn_text.specs.Inner.Held.{moved}
+use Rattle.crn_text.proofs.Prelude.{◌≡◌, ℕ, zero, suc, ◌+◌, ◌<◌, List, [], ◌∷◌, ◌++◌, length, take, drop, map, get_or, set, refl, ap, ap₂, ◌∙◌, arith, subst, Term, moved}
 use Rattle.crn_text.proofs.held.move_all.Goals as goal
 
 next : (by : ℕ) (terms : List Term) (i : ℕ) (d : Term) → i < length terms → get_or (map (λ (t : Term). moved by t) (take i terms) ++ drop i terms) i d ≡ get_or terms i d

@@ -1,5 +1,4 @@
-use Rattle.std.proofs.Common.{◌≡◌, ◌++◌, take, drop, map}
-use Rattle.crn_text.specs.Inner.Held.{moved}
+use Rattle.crn_text.proofs.Prelude.{◌≡◌, ◌++◌, take, drop, map, moved}
 use Rattle.crn_text.proofs.held.move_all.Given as goal
 
 abbrev pub invariant-loop-term : goal.invariant-loop-term

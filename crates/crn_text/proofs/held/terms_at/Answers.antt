@@ -1,7 +1,4 @@
-use Rattle.std.proofs.Common.{◌≡◌, ℕ, true, List, sym, subst, ◌∙◌}
-use Rattle.std.proofs.lemmas.Slice.Eq.{bytes_eq-Decides}
-use Rattle.crn_net.specs.declared.term.Term.{Term}
-use Rattle.crn_text.specs.Inner.Pieces.{ReadsTerms}
+use Rattle.crn_text.proofs.Prelude.{◌≡◌, ℕ, true, List, sym, subst, ◌∙◌, bytes_eq-Decides, Term, ReadsTerms}
 use Rattle.crn_text.proofs.held.terms_at.Goals as goal
 
 pub returns-then-eq : goal.returns-then-eq

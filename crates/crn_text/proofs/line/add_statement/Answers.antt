@@ -1,5 +1,4 @@
-use Rattle.std.proofs.lemmas.Result.{err_from_is_err_and}
-use Rattle.crn_net.specs.Terms.{statement_of}
+use Rattle.crn_text.proofs.Prelude.{err_from_is_err_and, statement_of}
 use Rattle.crn_text.proofs.Statements.{grows_fine, statement_gives}
 use Rattle.crn_text.proofs.line.add_statement.Goals as goal
 

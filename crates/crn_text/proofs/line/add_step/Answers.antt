@@ -1,4 +1,4 @@
-use Rattle.crn_net.specs.Terms.{side_of}
+use Rattle.crn_text.proofs.Prelude.{side_of}
 use Rattle.crn_text.proofs.ArrowsSaid.{said_gives, said_keeps}
 use Rattle.crn_text.proofs.line.add_step.Goals as goal
 

@@ -1,6 +1,4 @@
-use Rattle.std.proofs.Common.{◌≡◌, take}
-use Rattle.std.specs.List.{list_all}
-use Rattle.crn_text.specs.Faults.{is_plain}
+use Rattle.crn_text.proofs.Prelude.{◌≡◌, take, list_all, is_plain}
 use Rattle.crn_text.proofs.line.are_plain.Given as goal
 
 abbrev pub invariant-loop-byte : goal.invariant-loop-byte

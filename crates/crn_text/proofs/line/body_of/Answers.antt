@@ -1,6 +1,4 @@
-use Rattle.std.proofs.Common.{ℕ, List, eqb, ap, ◌∙◌}
-use Rattle.std.specs.Prelude.{not}
-use Rattle.std.specs.List.{take_while}
+use Rattle.crn_text.proofs.Prelude.{ℕ, List, eqb, ap, ◌∙◌, not, take_while}
 use Rattle.crn_text.proofs.Splits.{split_prefix}
 use Rattle.crn_text.proofs.line.body_of.Goals as goal
 

@@ -1,7 +1,4 @@
-use Rattle.std.proofs.Common.{length, sym, ap, ◌∙◌, inr}
-use Rattle.std.specs.List.{list_all}
-use Rattle.std.proofs.lemmas.Bool.{eqb-true}
-use Rattle.crn_text.specs.Faults.{is_plain}
+use Rattle.crn_text.proofs.Prelude.{length, sym, ap, ◌∙◌, inr, list_all, eqb-true, is_plain}
 use Rattle.crn_text.proofs.LinesRead.{fault_plain, line_gives, empty_gives}
 use Rattle.crn_text.proofs.line.read_line.Goals as goal
 

@@ -1,4 +1,4 @@
-use Rattle.std.proofs.Common.{arith}
+use Rattle.crn_text.proofs.Prelude.{arith}
 use Rattle.crn_text.proofs.Splits.{split_size}
 use Rattle.crn_text.proofs.Terms.{occurs_prefix}
 use Rattle.crn_text.proofs.place.next_place.Goals as goal

@@ -1,4 +1,4 @@
-use Rattle.std.proofs.Common.{refl}
+use Rattle.crn_text.proofs.Prelude.{refl}
 use Rattle.crn_text.proofs.QuickPlaces.{quick_reads}
 use Rattle.crn_text.proofs.place.quick_place.Goals as goal
 

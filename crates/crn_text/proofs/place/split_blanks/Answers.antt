@@ -1,5 +1,4 @@
-use Rattle.std.proofs.lemmas.List.Sums.{prefix_len-le-length}
-use Rattle.crn_text.specs.Tokens.{is_blank}
+use Rattle.crn_text.proofs.Prelude.{prefix_len-le-length, is_blank}
 use Rattle.crn_text.proofs.Runs.{runs_from}
 use Rattle.crn_text.proofs.place.split_blanks.Goals as goal
 

@@ -1,5 +1,4 @@
-use Rattle.std.proofs.Common.{[], take, refl, arith}
-use Rattle.crn_text.specs.Tokens.{lines}
+use Rattle.crn_text.proofs.Prelude.{[], take, refl, arith, lines}
 use Rattle.crn_text.proofs.LinesRead.{lines_stop, lines_all}
 use Rattle.crn_text.proofs.Remembered.{reads_more, sound_front}
 use Rattle.crn_text.proofs.reader.read_lines.Goals as goal

@@ -1,5 +1,4 @@
-use Rattle.std.proofs.Common.{length}
-use Rattle.crn_text.specs.Inner.Pieces.{after_split}
+use Rattle.crn_text.proofs.Prelude.{length, after_split}
 use Rattle.crn_text.proofs.Remembered.{ReadsUpTo}
 use Rattle.crn_text.proofs.reader.read_lines.Given as goal
 

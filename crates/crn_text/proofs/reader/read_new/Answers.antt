@@ -1,8 +1,4 @@
-use Rattle.std.proofs.Common.{◌≡◌, ℕ, List, [], None, Ok, refl, sym, subst, inl, inr, ◌∙◌}
-use Rattle.crn_vec.proofs.CallerLemmas.{all_in}
-use Rattle.crn_text.specs.Sides.{all_statements}
-use Rattle.crn_text.specs.Faults.{own_fault}
-use Rattle.crn_text.specs.Inner.Pieces.{LineGives}
+use Rattle.crn_text.proofs.Prelude.{◌≡◌, ℕ, List, [], None, Ok, refl, sym, subst, inl, inr, ◌∙◌, all_in, all_statements, own_fault, LineGives}
 use Rattle.crn_text.proofs.LinesRead.{empty_gives}
 use Rattle.crn_text.proofs.Repeats.{line_stays}
 use Rattle.crn_text.proofs.Remembered.{all_known_more, bare_body}

@@ -1,5 +1,4 @@
-use Rattle.std.proofs.Common.{◌≡◌, ◌==◌, take}
-use Rattle.std.specs.List.{list_all}
+use Rattle.crn_text.proofs.Prelude.{◌≡◌, ◌==◌, take, list_all}
 use Rattle.crn_text.proofs.side.are_zeros.Given as goal
 
 abbrev pub invariant-loop-digit : goal.invariant-loop-digit

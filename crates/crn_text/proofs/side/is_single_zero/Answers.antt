@@ -1,4 +1,4 @@
-use Rattle.std.proofs.Common.{sym, ◌∙◌}
+use Rattle.crn_text.proofs.Prelude.{sym, ◌∙◌}
 use Rattle.crn_text.proofs.Zeros.{not_zero}
 use Rattle.crn_text.proofs.side.is_single_zero.Goals as goal
 

@@ -1,8 +1,4 @@
-use Rattle.std.proofs.Common.{ℕ, ◌==◌, sym, ap, ◌∙◌, arith}
-use Rattle.std.specs.Prelude.{min}
-use Rattle.std.specs.List.{list_all}
-use Rattle.std.specs.Str.Parse.{digits_value}
-use Rattle.crn_text.specs.declared.side.TheConstants.{LARGE}
+use Rattle.crn_text.proofs.Prelude.{ℕ, ◌==◌, sym, ap, ◌∙◌, arith, min, list_all, digits_value, LARGE}
 use Rattle.crn_text.proofs.Numbers.{number_large, number_small}
 use Rattle.crn_text.proofs.side.number.Goals as goal
 

@@ -1,6 +1,4 @@
-use Rattle.std.proofs.Common.{◌≡◌, ◌∙◌, false, sym}
-use Rattle.crn_text.specs.Tokens.{tokens}
-use Rattle.crn_text.specs.Sides.{is_zero}
+use Rattle.crn_text.proofs.Prelude.{◌≡◌, ◌∙◌, false, sym, tokens, is_zero}
 use Rattle.crn_text.proofs.PlacesRead.{rest_left, terms_more, fault_no_term, fault_limits, fault_sums, small_counts, few_terms, reads_all}
 use Rattle.crn_text.proofs.side.read_side.Goals as goal
 

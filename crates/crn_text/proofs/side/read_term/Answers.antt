@@ -1,4 +1,4 @@
-use Rattle.std.proofs.Common.{rules}
+use Rattle.crn_text.proofs.Prelude.{rules}
 use Rattle.crn_text.proofs.Terms.{occurs_rest, reads_name, reads_number}
 use Rattle.crn_text.proofs.side.read_term.Goals as goal
 

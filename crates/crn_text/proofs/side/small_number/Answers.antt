@@ -1,7 +1,4 @@
-use Rattle.std.proofs.Common.{◌<◌, ◌+◌, ◌-◌, length, take, get_or, arith}
-use Rattle.std.specs.Str.Parse.{digits_value}
-use Rattle.std.proofs.lemmas.Int.Digits.{digits_value_more}
-use Rattle.std.proofs.lemmas.Str.Parse.{digits_value-take-le}
+use Rattle.crn_text.proofs.Prelude.{◌<◌, ◌+◌, ◌-◌, length, take, get_or, arith, digits_value, digits_value_more, digits_value-take-le}
 use Rattle.crn_text.proofs.Numbers.{value_at, capped_more}
 use Rattle.crn_text.proofs.side.small_number.Goals as goal
 

@@ -1,7 +1,4 @@
-use Rattle.std.proofs.Common.{◌≡◌, take}
-use Rattle.std.specs.Prelude.{min}
-use Rattle.std.specs.Str.Parse.{digits_value}
-use Rattle.crn_text.specs.declared.side.TheConstants.{LARGE}
+use Rattle.crn_text.proofs.Prelude.{◌≡◌, take, min, digits_value, LARGE}
 use Rattle.crn_text.proofs.side.small_number.Given as goal
 
 abbrev pub invariant-loop-digit : goal.invariant-loop-digit

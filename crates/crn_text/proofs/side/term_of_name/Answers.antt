@@ -1,4 +1,4 @@
-use Rattle.std.proofs.Common.{refl, rules}
+use Rattle.crn_text.proofs.Prelude.{refl, rules}
 use Rattle.crn_text.proofs.Terms.{no_token, named_at}
 use Rattle.crn_text.proofs.side.term_of_name.Goals as goal
 

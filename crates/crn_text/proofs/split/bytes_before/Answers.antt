@@ -1,6 +1,4 @@
-use Rattle.std.proofs.Common.{eqb, ◌∙◌, arith}
-use Rattle.std.specs.Prelude.{not}
-use Rattle.std.proofs.lemmas.List.Sums.{prefix_len-le-length}
+use Rattle.crn_text.proofs.Prelude.{eqb, ◌∙◌, arith, not, prefix_len-le-length}
 use Rattle.crn_text.proofs.Runs.{run_near, run_far}
 use Rattle.crn_text.proofs.split.bytes_before.Goals as goal
 

@@ -1,7 +1,4 @@
-use Rattle.std.proofs.Common.{◌≡◌, ℕ, true, eqb, length, get_or, inl, inr, refl, sym, arith}
-use Rattle.std.specs.Prelude.{not}
-use Rattle.std.proofs.lemmas.Bool.{cases_Bool}
-use Rattle.std.proofs.lemmas.List.Sums.{prefix_len_is}
+use Rattle.crn_text.proofs.Prelude.{◌≡◌, ℕ, true, eqb, length, get_or, inl, inr, refl, sym, arith, not, cases_Bool, prefix_len_is}
 use Rattle.crn_text.proofs.split.far_bytes_before.Goals as goal
 
 misses : (byte b : ℕ) → (eqb b byte ≡ true → ⊥) → not (eqb b byte) ≡ true

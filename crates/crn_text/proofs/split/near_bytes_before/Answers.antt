@@ -1,7 +1,4 @@
-use Rattle.std.proofs.Common.{◌≡◌, ℕ, cond, eqb, length, take, inl, inr, refl, ap, ◌∙◌, arith, w8}
-use Rattle.std.proofs.lemmas.Bool.{cases_Bool, eqb-true}
-use Rattle.std.proofs.lemmas.List.{length-take-le}
-use Rattle.std.proofs.lemmas.Simd.{bitmask_splat, first_set_mask_l}
+use Rattle.crn_text.proofs.Prelude.{◌≡◌, ℕ, cond, eqb, length, take, inl, inr, refl, ap, ◌∙◌, arith, w8, cases_Bool, eqb-true, length-take-le, bitmask_splat, first_set_mask_l}
 use lib.Count.{count_trailing_zeros}
 use Rattle.crn_text.proofs.split.near_bytes_before.Goals as goal
 

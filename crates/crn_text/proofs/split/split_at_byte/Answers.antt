@@ -1,5 +1,4 @@
-use Rattle.std.proofs.Common.{sym, ◌∙◌}
-use Rattle.std.proofs.lemmas.List.Sums.{prefix_len-le-length}
+use Rattle.crn_text.proofs.Prelude.{sym, ◌∙◌, prefix_len-le-length}
 use Rattle.crn_text.proofs.Splits.{splits_none, splits_some}
 use Rattle.crn_text.proofs.split.split_at_byte.Goals as goal
 

@@ -1,4 +1,4 @@
-use Rattle.std.proofs.lemmas.List.Sums.{prefix_len-le-length}
+use Rattle.crn_text.proofs.Prelude.{prefix_len-le-length}
 use Rattle.crn_text.proofs.token.begins_with_zero.Goals as goal
 
 pub split_at-requires : goal.split_at-requires

@@ -1,5 +1,4 @@
-use Rattle.std.proofs.Common.{arith}
-use Rattle.crn_text.specs.Inner.Pieces.{is_unmarked}
+use Rattle.crn_text.proofs.Prelude.{arith, is_unmarked}
 use Rattle.crn_text.proofs.Unmarked.{run_fits}
 use Rattle.crn_text.proofs.token.from_first_mark.Goals as goal
 

@@ -1,6 +1,4 @@
-use Rattle.std.proofs.Common.{sym, ◌∙◌}
-use Rattle.std.proofs.lemmas.Bool.{eqb-true}
-use Rattle.std.proofs.lemmas.List.Sums.{prefix_len-le-length}
+use Rattle.crn_text.proofs.Prelude.{sym, ◌∙◌, eqb-true, prefix_len-le-length}
 use Rattle.crn_text.proofs.Tokens.{takes_none, takes_token}
 use Rattle.crn_text.proofs.token.next_token.Goals as goal
 

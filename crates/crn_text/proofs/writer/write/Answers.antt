@@ -1,7 +1,4 @@
-use Rattle.std.proofs.Common.{arith, length, ◌<◌, take_all}
-use Rattle.std.proofs.lemmas.Result.{err_from_is_err_and}
-use Rattle.crn_io.proofs.CallerLemmas.{WroteAll-step, WrotePrefix-step, Wrote-all, Wrote-prefix, flat_map_step, flat_map_whole}
-use Rattle.crn_text.specs.Canonical.{reaction_line}
+use Rattle.crn_text.proofs.Prelude.{arith, length, ◌<◌, take_all, err_from_is_err_and, WroteAll-step, WrotePrefix-step, Wrote-all, Wrote-prefix, flat_map_step, flat_map_whole, reaction_line}
 use Rattle.crn_text.proofs.writer.write.Goals as goal
 
 pub loop-r-preserved : goal.loop-r-preserved

@@ -1,7 +1,4 @@
-use Rattle.std.proofs.Common.{take}
-use Rattle.std.specs.List.{flat_map}
-use Rattle.crn_io.specs.Write.{WroteAll}
-use Rattle.crn_text.specs.Canonical.{reaction_line}
+use Rattle.crn_text.proofs.Prelude.{take, flat_map, WroteAll, reaction_line}
 use Rattle.crn_text.proofs.writer.write.Given as goal
 
 abbrev pub invariant-loop-r : goal.invariant-loop-r

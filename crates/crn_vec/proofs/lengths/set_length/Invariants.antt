@@ -1,4 +1,4 @@
-use Rattle.std.proofs.Common.{◌≡◌, ◌≤◌, ◌-◌, vec_len, vec_capacity}
+use Rattle.crn_vec.proofs.Prelude.{◌≡◌, ◌≤◌, ◌-◌, vec_len, vec_capacity}
 use Rattle.crn_vec.proofs.lengths.set_length.Given as goal
 
 abbrev pub decreases-places : goal.decreases-places

@@ -1,8 +1,4 @@
-use Rattle.std.proofs.Common.{◌∙◌, sym, refl, arith}
-use Rattle.std.specs.Prelude.{pos}
-use Rattle.std.proofs.lemmas.Bool.{false≢true}
-use Rattle.crn_vec.specs.declared.signs.Kind.TheVariants.{Free, Pos}
-use Rattle.crn_vec.specs.Systems.{HasKind}
+use Rattle.crn_vec.proofs.Prelude.{◌∙◌, sym, refl, arith, pos, false≢true, Free, Pos, HasKind}
 use Rattle.crn_vec.proofs.Entries.{zip_from, zip_at}
 use Rattle.crn_vec.proofs.signs.agrees.Goals as goal
 

@@ -1,6 +1,4 @@
-use Rattle.std.proofs.Common.{ℕ, ◌<◌}
-use Rattle.crn_vec.specs.Vectors.{entry}
-use Rattle.crn_vec.specs.Systems.{HasKind, kind_at}
+use Rattle.crn_vec.proofs.Prelude.{ℕ, ◌<◌, entry, HasKind, kind_at}
 use Rattle.crn_vec.proofs.signs.agrees.Given as goal
 
 abbrev pub invariant-loop-k : goal.invariant-loop-k

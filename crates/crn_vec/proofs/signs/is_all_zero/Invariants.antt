@@ -1,5 +1,4 @@
-use Rattle.std.proofs.Common.{◌≡◌, true, take}
-use Rattle.crn_vec.specs.Problems.{all_zero}
+use Rattle.crn_vec.proofs.Prelude.{◌≡◌, true, take, all_zero}
 use Rattle.crn_vec.proofs.signs.is_all_zero.Given as goal
 
 abbrev pub invariant-loop-sign : goal.invariant-loop-sign

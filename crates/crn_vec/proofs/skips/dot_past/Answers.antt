@@ -1,8 +1,4 @@
-use Rattle.std.proofs.Common.{◌≡◌, ◌≤◌, ◌<◌, ◌*◌, ◌+◌, ◌∙◌, length, get_or, take, sym, arith, to_z}
-use Rattle.std.specs.Prelude.{◌+ℤ◌, unsigned_abs}
-use Rattle.std.specs.Int.{w128}
-use Rattle.crn_vec.specs.Vectors.{dot}
-use Rattle.crn_vec.specs.declared.limits.TheConstants.{MAX_AMOUNT, WIDE_SOLUTION}
+use Rattle.crn_vec.proofs.Prelude.{◌≡◌, ◌≤◌, ◌<◌, ◌*◌, ◌+◌, ◌∙◌, length, get_or, take, sym, arith, to_z, ◌+ℤ◌, unsigned_abs, w128, dot, MAX_AMOUNT, WIDE_SOLUTION}
 use Rattle.crn_vec.proofs.Held.{held, sum_within}
 use Rattle.crn_vec.proofs.Entries.{dot_step, next_sum}
 use Rattle.crn_vec.proofs.RowLists.{within_at}

@@ -1,7 +1,4 @@
-use Rattle.std.proofs.Common.{◌≡◌, ◌≤◌, ◌*◌, ◌-◌, length, take}
-use Rattle.std.specs.Prelude.{unsigned_abs}
-use Rattle.crn_vec.specs.Vectors.{dot}
-use Rattle.crn_vec.specs.declared.limits.TheConstants.{MAX_AMOUNT, WIDE_SOLUTION}
+use Rattle.crn_vec.proofs.Prelude.{◌≡◌, ◌≤◌, ◌*◌, ◌-◌, length, take, unsigned_abs, dot, MAX_AMOUNT, WIDE_SOLUTION}
 use Rattle.crn_vec.proofs.skips.dot_past.Given as goal
 
 -- the sum of the products before this place, and its bound

@@ -1,10 +1,5 @@
-use Rattle.std.proofs.Common.{◌≡◌, ◌<◌, ◌+◌, ◌-◌, ◌∙◌, ℕ, inl, inr, length, get_or, ap, sym, subst, arith}
-use Rattle.std.specs.Prelude.{pos}
-use Rattle.std.proofs.lemmas.Grind.{get_or-set_at}
-use Rattle.std.proofs.lemmas.List.{get_or-set_other, get_or-replicate, length-set}
-use Rattle.crn_vec.specs.Vectors.{entry}
+use Rattle.crn_vec.proofs.Prelude.{◌≡◌, ◌<◌, ◌+◌, ◌-◌, ◌∙◌, ℕ, inl, inr, length, get_or, ap, sym, subst, arith, pos, get_or-set_at, get_or-set_other, get_or-replicate, length-set, entry, IsSkip}
 use Rattle.crn_vec.proofs.Entries.{lt_or}
-use Rattle.crn_vec.specs.Skips.{IsSkip}
 use Rattle.crn_vec.proofs.skips.skips_of.Goals.{then-is_nought, else-is_nought}
 use Rattle.crn_vec.proofs.skips.skips_of.Goals as goal
 

@@ -1,6 +1,4 @@
-use Rattle.std.proofs.Common.{◌≡◌, ◌≤◌, ◌+◌, ℕ, length, get_or}
-use Rattle.crn_vec.specs.declared.limits.TheConstants.{MAX_SPECIES}
-use Rattle.crn_vec.specs.Skips.{IsSkip}
+use Rattle.crn_vec.proofs.Prelude.{◌≡◌, ◌≤◌, ◌+◌, ℕ, length, get_or, MAX_SPECIES, IsSkip}
 use Rattle.crn_vec.proofs.skips.skips_of.Given as goal
 
 -- the ways from the last places

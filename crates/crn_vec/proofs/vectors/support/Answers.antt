@@ -1,5 +1,4 @@
-use Rattle.std.proofs.Common.{◌↔◌, ◌≢◌, IsTrue, false, arith}
-use Rattle.std.specs.Prelude.{pos}
+use Rattle.crn_vec.proofs.Prelude.{◌↔◌, ◌≢◌, IsTrue, false, arith, pos}
 use Rattle.crn_vec.proofs.Entries.{zip_from}
 use Rattle.crn_vec.proofs.vectors.support.Goals as goal
 

@@ -1,6 +1,4 @@
-use Rattle.std.proofs.Common.{◌↔◌, ◌<◌, ◌≢◌, ℕ, IsTrue, false, get_or}
-use Rattle.std.specs.Prelude.{pos}
-use Rattle.crn_vec.specs.Vectors.{entry}
+use Rattle.crn_vec.proofs.Prelude.{◌↔◌, ◌<◌, ◌≢◌, ℕ, IsTrue, false, get_or, pos, entry}
 use Rattle.crn_vec.proofs.vectors.support.Given as goal
 
 abbrev pub invariant-loop-k : goal.invariant-loop-k

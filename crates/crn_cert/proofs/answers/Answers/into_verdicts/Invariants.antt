@@ -1,5 +1,4 @@
-use Rattle.std.proofs.Common.{◌≡◌, ◌≤◌, ◌++◌, length}
-use Rattle.crn_cert.specs.Answers.{verdicts_of}
+use Rattle.crn_cert.proofs.Prelude.{◌≡◌, ◌≤◌, ◌++◌, length, verdicts_of}
 use Rattle.crn_cert.proofs.answers.Answers.into_verdicts.Given as goal
 
 abbrev pub invariant-loop-answer : goal.invariant-loop-answer

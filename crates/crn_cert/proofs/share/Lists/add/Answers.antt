@@ -1,4 +1,4 @@
-use Rattle.std.proofs.Common.{◌∙◌, sym, ap, map}
+use Rattle.crn_cert.proofs.Prelude.{◌∙◌, sym, ap, map}
 use Rattle.crn_cert.proofs.ShareTables.{keys_seen, number_at, number_some, number_zero}
 use Rattle.crn_cert.proofs.share.Lists.add.Goals as goal
 

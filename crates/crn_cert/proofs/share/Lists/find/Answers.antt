@@ -1,4 +1,4 @@
-use Rattle.std.proofs.Common.{sym}
+use Rattle.crn_cert.proofs.Prelude.{sym}
 use Rattle.crn_cert.proofs.ShareTables.{number_of_key}
 use Rattle.crn_cert.proofs.share.Lists.find.Goals as goal
 

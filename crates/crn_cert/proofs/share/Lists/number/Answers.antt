@@ -1,4 +1,4 @@
-use Rattle.std.proofs.Common.{map}
+use Rattle.crn_cert.proofs.Prelude.{map}
 use Rattle.crn_cert.proofs.ShareTables.{known_stays}
 use Rattle.crn_cert.proofs.share.Lists.number.Goals as goal
 

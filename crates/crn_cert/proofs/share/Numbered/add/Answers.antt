@@ -1,6 +1,4 @@
-use Rattle.std.proofs.Common.{◌≤◌, ◌<◌, length, ap, map, arith}
-use Rattle.std.proofs.lemmas.List.{length-map}
-use Rattle.crn_io.specs.declared.lines.TheConstants.{MAX_SHARED}
+use Rattle.crn_cert.proofs.Prelude.{◌≤◌, ◌<◌, length, ap, map, arith, length-map, MAX_SHARED}
 use Rattle.crn_cert.proofs.ShareTables.{share_more}
 use Rattle.crn_cert.proofs.share.Numbered.add.Goals as goal
 

@@ -1,8 +1,4 @@
-use Rattle.std.proofs.Common.{◌∙◌, ◌++◌, List, ap, sym, subst, append_assoc}
-use Rattle.std.specs.Prelude.{ℤ}
-use Rattle.std.proofs.lemmas.Result.{on_ok_weaker}
-use Rattle.crn_cert.specs.Shares.{cuts_of, cuts_in}
-use Rattle.crn_cert.specs.Inner.Numbered.{AreNumbered}
+use Rattle.crn_cert.proofs.Prelude.{◌∙◌, ◌++◌, List, ap, sym, subst, append_assoc, ℤ, on_ok_weaker, cuts_of, cuts_in, AreNumbered}
 use Rattle.crn_cert.proofs.share.Numbered.add_proof.Goals as goal
 
 pub returns-in_ok-add_tree-in-Two-clause-added :

@@ -1,8 +1,5 @@
-use Rattle.std.proofs.Common.{◌≡◌, ◌∙◌, ◌++◌, List, map, take, ap, sym, subst, append_assoc, take_all, arith}
-use Rattle.std.specs.Prelude.{ℤ}
+use Rattle.crn_cert.proofs.Prelude.{◌≡◌, ◌∙◌, ◌++◌, List, map, take, ap, sym, subst, append_assoc, take_all, arith, ℤ, cuts_of, AreNumbered, cuts_listed}
 use Rattle.crn_cert.specs.Preorder.{listed}
-use Rattle.crn_cert.specs.Shares.{cuts_of}
-use Rattle.crn_cert.specs.Inner.Numbered.{AreNumbered, cuts_listed}
 use Rattle.crn_cert.proofs.ShareTables.{cuts_node, cuts_all}
 use Rattle.crn_cert.proofs.share.Numbered.add_tree.Goals as goal
 

@@ -1,7 +1,6 @@
-use Rattle.std.proofs.Common.{◌≤◌, ◌++◌, ℤ, List, length, map, take}
-use Rattle.crn_io.specs.declared.lines.TheConstants.{MAX_SHARED}
+use Rattle.crn_cert.proofs.Prelude.{◌≤◌, ◌++◌, List, length, map, take, MAX_SHARED, AreNumbered, cuts_listed}
+use Rattle.std.proofs.Common.{ℤ}
 use Rattle.crn_cert.specs.Preorder.{listed}
-use Rattle.crn_cert.specs.Inner.Numbered.{AreNumbered, cuts_listed}
 use Rattle.crn_cert.proofs.share.Numbered.add_tree.Given as goal
 
 -- the cuts of the nodes so far come after those before

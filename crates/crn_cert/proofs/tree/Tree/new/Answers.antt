@@ -1,6 +1,4 @@
-use Rattle.std.proofs.Common.{◌≡◌, ◌∙◌, List, sym, ap}
-use Rattle.crn_cert.specs.Preorder.{Listed, tree_of, preorder, trees_of, first_tree}
-use Rattle.crn_cert.specs.PlanCode.{plan_back}
+use Rattle.crn_cert.proofs.Prelude.{◌≡◌, ◌∙◌, List, sym, ap, Listed, tree_of, preorder, trees_of, first_tree, plan_back}
 use Rattle.crn_cert.proofs.tree.Tree.new.Goals as goal
 
 pub invariant_of-result : goal.invariant_of-result

@@ -1,10 +1,4 @@
-use Rattle.std.proofs.Common.{◌≡◌, ◌++◌, ◌∷◌, [], List, length, length-append, refl, sym, ap, subst, arith}
-use Rattle.std.proofs.lemmas.Bool.{false≢true}
-use Rattle.crn_vec.specs.Lists.{IsIn}
-use Rattle.crn_vec.proofs.CallerLemmas.{all_in, all_from, in_left}
-use Rattle.crn_check.specs.declared.facts.Fact.{Fact}
-use Rattle.crn_check.specs.declared.facts.Room.{Room}
-use Rattle.crn_check.specs.Facts.{KeptFacts, HoldsNoneFrom, AreInOrder, IsRoom}
+use Rattle.crn_check.proofs.Prelude.{◌≡◌, ◌++◌, ◌∷◌, [], List, length, length-append, refl, sym, ap, subst, arith, false≢true, IsIn, all_in, all_from, in_left, Fact, Room, KeptFacts, HoldsNoneFrom, AreInOrder, IsRoom}
 use Rattle.crn_check.proofs.Kept.{earlier_of, numbers_of, few_before, order_push}
 use Rattle.crn_check.proofs.facts.Facts.accept.Goals as goal
 

@@ -1,5 +1,4 @@
-use Rattle.std.proofs.Common.{◌∙◌, ap, sym, rules}
-use Rattle.crn_check.specs.Facts.{KeptFacts}
+use Rattle.crn_check.proofs.Prelude.{◌∙◌, ap, sym, rules, KeptFacts}
 use Rattle.crn_check.proofs.Kept.{none_given, all_given}
 use Rattle.crn_check.proofs.facts.Facts.into_verdicts.Goals as goal
 

@@ -1,5 +1,4 @@
-use Rattle.std.proofs.Common.{◌≡◌, ◌≤◌, ◌++◌, map, length}
-use Rattle.crn_check.specs.declared.facts.Fact.{Fact}
+use Rattle.crn_check.proofs.Prelude.{◌≡◌, ◌≤◌, ◌++◌, map, length, Fact}
 use Rattle.crn_check.proofs.Kept.{earlier_of}
 use Rattle.crn_check.proofs.facts.Facts.into_verdicts.Given as goal
 

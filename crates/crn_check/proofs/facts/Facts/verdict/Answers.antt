@@ -1,7 +1,4 @@
-use Rattle.std.proofs.Common.{◌≡◌, List, sym, ap, subst}
-use Rattle.crn_check.specs.declared.facts.Fact.{Fact}
-use Rattle.crn_check.specs.Facts.{KeptFacts, HoldsOn}
-use Rattle.crn_cert.specs.Questions.{Earlier}
+use Rattle.crn_check.proofs.Prelude.{◌≡◌, List, sym, ap, subst, Fact, KeptFacts, HoldsOn, Earlier}
 use Rattle.crn_check.proofs.Kept.{IsAhead, earlier_of, all_ahead, ahead_here, ahead_later}
 use Rattle.crn_check.proofs.facts.Facts.verdict.Goals as goal
 

@@ -1,4 +1,4 @@
-use Rattle.std.proofs.Common.{drop}
+use Rattle.crn_check.proofs.Prelude.{drop}
 use Rattle.crn_check.proofs.Kept.{IsAhead}
 use Rattle.crn_check.proofs.facts.Facts.verdict.Given as goal
 

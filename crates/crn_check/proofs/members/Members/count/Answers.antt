@@ -1,4 +1,4 @@
-use Rattle.std.proofs.Common.{◌≡◌, ◌<◌, ℕ, List, length, ap, sym, ◌∙◌, arith}
+use Rattle.crn_check.proofs.Prelude.{◌≡◌, ◌<◌, ℕ, List, length, ap, sym, ◌∙◌, arith}
 use Rattle.crn_check.proofs.Outside.{left, left_all, left_none, left_yes, left_no}
 use Rattle.crn_check.proofs.members.Members.count.Goals as goal
 use Rattle.crn_check.proofs.members.Members.count.Goals.{then-has, else-has}

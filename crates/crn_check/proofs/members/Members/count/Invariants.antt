@@ -1,5 +1,4 @@
-use Rattle.std.proofs.Common.{◌≡◌, ◌≤◌, ◌+◌, length}
-use Rattle.crn_check.specs.Inner.Bases.{members_of}
+use Rattle.crn_check.proofs.Prelude.{◌≡◌, ◌≤◌, ◌+◌, length, members_of}
 use Rattle.crn_check.proofs.Outside.{left}
 use Rattle.crn_check.proofs.members.Members.count.Given as goal
 

@@ -1,6 +1,4 @@
-use Rattle.std.proofs.Common.{◌∙◌}
-use Rattle.crn_vec.specs.Elementary.{width}
-use Rattle.crn_vec.specs.Concordance.{kinds_b_of}
+use Rattle.crn_conc.proofs.Prelude.{◌∙◌, width, kinds_b_of}
 use Rattle.crn_conc.proofs.SettledLaws.{all_settle}
 use Rattle.crn_conc.proofs.problem.TableProblem.all.Goals as goal
 

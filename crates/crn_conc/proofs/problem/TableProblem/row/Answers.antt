@@ -1,5 +1,4 @@
-use Rattle.std.proofs.Common.{ℕ, [], ◌∷◌, ◌+◌, ◌-◌, ◌<◌, ap, ◌∙◌, arith}
-use Rattle.crn_vec.specs.Elementary.{width}
+use Rattle.crn_conc.proofs.Prelude.{ℕ, [], ◌∷◌, ◌+◌, ◌-◌, ◌<◌, ap, ◌∙◌, arith, width}
 use Rattle.crn_conc.proofs.SettledLaws.{coordinate_at, coordinates_long, rows_settle}
 use Rattle.crn_conc.proofs.problem.TableProblem.row.Goals as goal
 

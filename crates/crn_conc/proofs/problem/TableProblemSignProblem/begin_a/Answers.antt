@@ -1,7 +1,4 @@
-use Rattle.std.proofs.Common.{◌<◌, List, [], length, sym, ap, subst, ◌∙◌, arith}
-use Rattle.crn_sign.specs.declared.bits.Bits.{Bits}
-use Rattle.crn_conc.specs.Inner.Columns.{AreSettled, AreSums, IsChosen}
-use Rattle.crn_sign.proofs.CallerLemmas.{firm_kinds}
+use Rattle.crn_conc.proofs.Prelude.{◌<◌, List, [], length, sym, ap, subst, ◌∙◌, arith, Bits, AreSettled, AreSums, IsChosen, firm_kinds}
 use Rattle.crn_conc.proofs.SumLaws.{asks_of, no_sums}
 use Rattle.crn_conc.proofs.problem.TableProblemSignProblem.begin_a.Goals as goal
 

@@ -1,6 +1,4 @@
-use Rattle.std.proofs.Common.{◌≡◌, List, length}
-use Rattle.crn_vec.specs.declared.signs.Sign.{Sign}
-use Rattle.crn_vec.proofs.CallerLemmas.{all_from, tables_are_lawful}
+use Rattle.crn_conc.proofs.Prelude.{◌≡◌, List, length, Sign, all_from, tables_are_lawful}
 use Rattle.crn_conc.proofs.problem.TableProblemSignProblem.length.Goals as goal
 
 pub returns-clause-lawful : goal.returns-clause-lawful

@@ -1,10 +1,4 @@
-use Rattle.std.proofs.Common.{◌≡◌, ◌<◌, ◌+◌, ◌-◌, ◌∷◌, List, [], length, get_or, sym, ap, subst, ◌∙◌, arith}
-use Rattle.std.proofs.lemmas.List.{length-append}
-use Rattle.crn_vec.specs.declared.signs.Sign.{Sign}
-use Rattle.crn_vec.specs.declared.signs.Sign.TheVariants.{Zero}
-use Rattle.crn_sign.specs.declared.bits.Bits.{Bits}
-use Rattle.crn_conc.specs.Inner.Columns.{AreSettled, AreSignsOf, AreSums, IsChosen}
-use Rattle.crn_sign.proofs.CallerLemmas.{firm_kinds}
+use Rattle.crn_conc.proofs.Prelude.{◌≡◌, ◌<◌, ◌+◌, ◌-◌, ◌∷◌, List, [], length, get_or, sym, ap, subst, ◌∙◌, arith, length-append, Sign, Zero, Bits, AreSettled, AreSignsOf, AreSums, IsChosen, firm_kinds}
 use Rattle.crn_conc.proofs.SumLaws.{asks_of, last_option, sums_more}
 use Rattle.crn_conc.proofs.problem.TableProblemSignProblem.settle_a.Goals as goal
 

@@ -1,4 +1,5 @@
-use Rattle.std.proofs.Common.{refl, ap, Some, arith}
+use Rattle.crn_ctext.proofs.Prelude.{refl, ap, arith}
+use Rattle.std.proofs.Common.{Some}
 use Rattle.crn_ctext.proofs.length.CounterSink.push.Goals as goal
 
 pub returns-in-Some : goal.returns-in-Some

@@ -1,9 +1,4 @@
-use Rattle.std.proofs.Common.{length, ap, subst, arith}
-use Rattle.crn_cert.specs.Nodes.{Fits}
-use Rattle.crn_ctree.specs.Gives.{said_by}
-use Rattle.crn_ctree.specs.Due.{KeptTree}
-use Rattle.crn_ctree.specs.Problem.{problem_of}
-use Rattle.crn_ctree.specs.declared.node.Node.{Node}
+use Rattle.crn_ctree.proofs.Prelude.{length, ap, subst, arith, Fits, said_by, KeptTree, problem_of, Node}
 use Rattle.crn_ctree.proofs.check.TreeCheck.node.Goals as goal
 
 -- the choices of the problem that the check keeps

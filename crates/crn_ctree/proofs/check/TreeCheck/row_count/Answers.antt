@@ -1,8 +1,4 @@
-use Rattle.std.proofs.Common.{length, ap, ◌∙◌}
-use Rattle.crn_vec.specs.Vectors.{Mat}
-use Rattle.crn_ctree.specs.Due.{KeptTree}
-use Rattle.crn_ctree.specs.Inner.Kinds.{matrix_of, part_of}
-use Rattle.crn_ctree.specs.declared.cut.Part.{Part}
+use Rattle.crn_ctree.proofs.Prelude.{length, ap, ◌∙◌, Mat, KeptTree, matrix_of, part_of, Part}
 use Rattle.crn_ctree.proofs.check.TreeCheck.row_count.Goals as goal
 
 pub returns : goal.returns

@@ -1,8 +1,4 @@
-use Rattle.std.proofs.Common.{◌≡◌, ◌-◌, [], length, get_or, refl, sym, ap, subst, ◌∙◌}
-use Rattle.crn_cert.specs.Nodes.{AreNumbersFor, Said}
-use Rattle.crn_ctree.specs.Gives.{NodeGives}
-use Rattle.crn_ctree.specs.Problem.{problem_of}
-use Rattle.crn_ctree.specs.Shared.{place_of, said_with, said_by_shared}
+use Rattle.crn_ctree.proofs.Prelude.{◌≡◌, ◌-◌, [], length, get_or, refl, sym, ap, subst, ◌∙◌, AreNumbersFor, Said, NodeGives, problem_of, place_of, said_with, said_by_shared}
 use Rattle.crn_ctree.proofs.NodeTests.{shape_long, long_shape, shared_numbers, shared_from}
 use Rattle.crn_ctree.proofs.check.TreeCheck.shared_node.Goals as goal
 

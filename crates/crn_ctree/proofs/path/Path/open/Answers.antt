@@ -1,8 +1,4 @@
-use Rattle.std.proofs.Common.{◌≡◌, ◌≢◌, [], ◌++◌, List, sym, ◌∙◌, ap, subst}
-use Rattle.crn_vec.specs.declared.signs.Sign.{Sign}
-use Rattle.crn_vec.specs.Problems.{children}
-use Rattle.crn_ctree.specs.Due.{first, rest}
-use Rattle.crn_ctree.specs.Paths.{KeptPath, due_by}
+use Rattle.crn_ctree.proofs.Prelude.{◌≡◌, ◌≢◌, [], ◌++◌, List, sym, ◌∙◌, ap, subst, Sign, children, first, rest, KeptPath, due_by}
 use Rattle.crn_ctree.proofs.PathLaws.{open_due}
 use Rattle.crn_ctree.proofs.path.Path.open.Goals as goal
 

@@ -1,8 +1,4 @@
-use Rattle.std.proofs.Common.{◌<◌, ◌-◌, [], length, map, arith, ap, subst, sym, ◌∙◌}
-use Rattle.std.proofs.lemmas.List.{get_or-map, length-map}
-use Rattle.crn_vec.specs.Kept.{KeptInts}
-use Rattle.crn_vec.proofs.CallerLemmas.{all_at}
-use Rattle.crn_ctree.specs.Shared.{IsShared}
+use Rattle.crn_ctree.proofs.Prelude.{◌<◌, ◌-◌, [], length, map, arith, ap, subst, sym, ◌∙◌, get_or-map, length-map, KeptInts, all_at, IsShared}
 use Rattle.crn_ctree.proofs.shared.SharedTable.get.Goals as goal
 
 pub returns-clause-shared : goal.returns-clause-shared

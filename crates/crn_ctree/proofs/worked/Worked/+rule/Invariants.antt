@@ -1,4 +1,4 @@
-use Rattle.std.proofs.Common.{length}
+use Rattle.crn_ctree.proofs.Prelude.{length}
 use Rattle.crn_ctree.proofs.worked.Worked.+rule.Given as goal
 
 abbrev pub decreases-rule : goal.decreases-rule

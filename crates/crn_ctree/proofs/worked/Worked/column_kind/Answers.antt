@@ -1,7 +1,4 @@
-use Rattle.std.proofs.Common.{◌<◌, [], length, get_or, ap, ◌∙◌, arith}
-use Rattle.crn_vec.specs.Concordance.{column_kind as kind_of_column}
-use Rattle.crn_ctree.specs.Known.{KeptCuts}
-use Rattle.crn_ctree.specs.Problem.{table_of}
+use Rattle.crn_ctree.proofs.Prelude.{◌<◌, [], length, get_or, ap, ◌∙◌, arith, kind_of_column, KeptCuts, table_of}
 use Rattle.crn_ctree.proofs.SpotLaws.{column_is, plain_kind, strong_kind}
 use Rattle.crn_ctree.proofs.worked.Worked.column_kind.Goals as goal
 

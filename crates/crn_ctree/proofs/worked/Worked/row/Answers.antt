@@ -1,15 +1,4 @@
-use Rattle.std.proofs.Common.{◌≡◌, ◌<◌, ◌-◌, [], List, length, get_or, sym, ap, ◌∙◌, arith}
-use Rattle.std.specs.Prelude.{ℤ}
-use Rattle.std.proofs.lemmas.List.{length-map}
-use Rattle.crn_vec.specs.Signals.{shelf_matrix}
-use Rattle.crn_vec.specs.NetSystems.{reaction_system}
-use Rattle.crn_ctree.specs.Known.{KeptCuts}
-use Rattle.crn_ctree.specs.Problem.{problem_of}
-use Rattle.crn_ctree.specs.Shared.{place_of}
-use Rattle.crn_ctree.specs.declared.problem.Problem.{Problem}
-use Rattle.crn_ctree.specs.declared.cut.Part.{Part}
-use Rattle.crn_ctree.specs.Inner.Kinds.{matrix_of, part_of}
-use Rattle.crn_ctree.specs.Inner.Spots.{row_spots, rows_by, shelf_rows}
+use Rattle.crn_ctree.proofs.Prelude.{◌≡◌, ◌<◌, ◌-◌, [], List, length, get_or, sym, ap, ◌∙◌, arith, ℤ, length-map, shelf_matrix, reaction_system, KeptCuts, problem_of, place_of, Problem, Part, matrix_of, part_of, row_spots, rows_by, shelf_rows}
 use Rattle.crn_ctree.proofs.CutLaws.{table_system, part_system_b}
 use Rattle.crn_ctree.proofs.SpotLaws.{row_is}
 use Rattle.crn_ctree.proofs.worked.Worked.row.Goals as goal

@@ -1,12 +1,4 @@
-use Rattle.std.proofs.Common.{◌≡◌, ◌-◌, [], length, get_or, sym, ap, subst, ◌∙◌}
-use Rattle.crn_vec.specs.Elementary.{width}
-use Rattle.crn_vec.specs.Vectors.{Mat}
-use Rattle.crn_ctree.specs.Known.{KeptCuts}
-use Rattle.crn_ctree.specs.Shared.{place_of}
-use Rattle.crn_ctree.specs.declared.cut.Part.{Part}
-use Rattle.crn_ctree.specs.declared.problem.Problem.{Problem}
-use Rattle.crn_ctree.specs.Inner.Kinds.{kinds_of, matrix_of, part_of}
-use Rattle.crn_ctree.specs.Inner.Spots.{AreBelow}
+use Rattle.crn_ctree.proofs.Prelude.{◌≡◌, ◌-◌, [], length, get_or, sym, ap, subst, ◌∙◌, width, Mat, KeptCuts, place_of, Part, Problem, kinds_of, matrix_of, part_of, AreBelow}
 use Rattle.crn_ctree.proofs.SpotLaws.{row_below, row_tells}
 use Rattle.crn_ctree.proofs.worked.Worked.rules_out.Goals as goal
 

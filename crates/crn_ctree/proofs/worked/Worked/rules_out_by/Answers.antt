@@ -1,15 +1,4 @@
-use Rattle.std.proofs.Common.{◌≡◌, true, length, refl, ap, subst, ◌∙◌}
-use Rattle.std.specs.Prelude.{IsTrue, ◌↔◌}
-use Rattle.crn_cert.specs.Nodes.{Fits, Said}
-use Rattle.crn_vec.specs.Elementary.{width}
-use Rattle.crn_vec.specs.Network.{Net}
-use Rattle.crn_vec.specs.Vectors.{Mat}
-use Rattle.crn_ctree.specs.Gives.{is_cut}
-use Rattle.crn_ctree.specs.Known.{KeptCut, KeptCuts}
-use Rattle.crn_ctree.specs.Problem.{problem_of}
-use Rattle.crn_ctree.specs.declared.problem.Problem.{Problem}
-use Rattle.crn_ctree.specs.Inner.Kinds.{kinds_of, matrix_of}
-use Rattle.crn_ctree.specs.Inner.Spots.{AreBelow, row_spots}
+use Rattle.crn_ctree.proofs.Prelude.{◌≡◌, true, length, refl, ap, subst, ◌∙◌, IsTrue, ◌↔◌, Fits, Said, width, Net, Mat, is_cut, KeptCut, KeptCuts, problem_of, Problem, kinds_of, matrix_of, AreBelow, row_spots}
 use Rattle.crn_ctree.proofs.SpotLaws.{cut_fits, cut_is, row_below, row_tells}
 use Rattle.crn_ctree.proofs.worked.Worked.rules_out_by.Goals as goal
 

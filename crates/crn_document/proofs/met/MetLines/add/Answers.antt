@@ -1,4 +1,4 @@
-use Rattle.std.proofs.Common.{refl}
+use Rattle.crn_document.proofs.Prelude.{refl}
 use Rattle.crn_document.proofs.met.MetLines.add.Goals as goal
 
 pub returns-in-Some-clause-added : goal.returns-in-Some-clause-added

@@ -1,12 +1,4 @@
-use Rattle.std.proofs.Common.{◌≡◌, ◌<◌, ℕ, inl, inr, sym, ap, subst, ◌∙◌, arith}
-use Rattle.crn_vec.specs.Vectors.{Mat}
-use Rattle.crn_vec.specs.Elementary.{width}
-use Rattle.crn_vec.specs.Systems.{kind_at}
-use Rattle.crn_vec.proofs.CallerLemmas.{eq_or}
-use Rattle.crn_sign.specs.Options.{kind_in, word_count}
-use Rattle.crn_sign.proofs.CallerLemmas.{put_here, put_other}
-use Rattle.crn_endo_check.specs.Slopes.{slope_kinds}
-use Rattle.crn_endo.specs.Inner.Asked.{firm_kind}
+use Rattle.crn_endo.proofs.Prelude.{◌≡◌, ◌<◌, ℕ, inl, inr, sym, ap, subst, ◌∙◌, arith, Mat, width, kind_at, eq_or, kind_in, word_count, put_here, put_other, slope_kinds, firm_kind}
 use Rattle.crn_endo.proofs.problem.SlopeProblem.ask.Goals as goal
 
 pub kind-requires : goal.kind-requires

@@ -1,8 +1,4 @@
-use Rattle.std.proofs.Common.{◌≡◌, ◌<◌, ℕ, length}
-use Rattle.crn_vec.specs.Systems.{kind_at}
-use Rattle.crn_sign.specs.Options.{kind_in, word_count}
-use Rattle.crn_endo_check.specs.Slopes.{slope_kinds}
-use Rattle.crn_endo.specs.Inner.Asked.{firm_kind}
+use Rattle.crn_endo.proofs.Prelude.{◌≡◌, ◌<◌, ℕ, length, kind_at, kind_in, word_count, slope_kinds, firm_kind}
 use Rattle.crn_endo.proofs.problem.SlopeProblem.ask.Given as goal
 
 abbrev pub invariant-loop-k : goal.invariant-loop-k

@@ -1,13 +1,4 @@
-use Rattle.std.proofs.Common.{◌≡◌, ◌<◌, ◌+◌, ℕ, List, ◌∷◌, ◌++◌, [], length, get_or, refl, sym, ap, subst, ◌∙◌, arith}
-use Rattle.crn_vec.specs.declared.signs.Sign.{Sign}
-use Rattle.crn_vec.specs.declared.signs.Sign.TheVariants.{Plus}
-use Rattle.crn_vec.specs.Concordance.{is_plus, kind_of_sign}
-use Rattle.crn_vec.specs.Network.{Net}
-use Rattle.crn_sign.specs.declared.bits.Bits.{Bits}
-use Rattle.crn_sign.specs.Options.{word_count}
-use Rattle.crn_endo_check.specs.Slopes.{at_least_zero_if, others}
-use Rattle.crn_endo_check.proofs.CallerLemmas.{slope_width}
-use Rattle.crn_endo.specs.Inner.Asked.{AskFirmly, firm_kind}
+use Rattle.crn_endo.proofs.Prelude.{◌≡◌, ◌<◌, ◌+◌, ℕ, List, ◌∷◌, ◌++◌, [], length, get_or, refl, sym, ap, subst, ◌∙◌, arith, Sign, Plus, is_plus, kind_of_sign, Net, Bits, word_count, at_least_zero_if, others, slope_width, AskFirmly, firm_kind}
 use Rattle.crn_endo.proofs.Steps.{option_plus, option_still}
 use Rattle.crn_endo.proofs.problem.SlopeProblem.put_option.Goals as goal
 

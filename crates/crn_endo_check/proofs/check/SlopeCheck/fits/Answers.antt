@@ -1,14 +1,5 @@
-use Rattle.std.proofs.Common.{ℕ, List, sym, subst}
-use Rattle.std.specs.Prelude.{IsTrue}
-use Rattle.crn_vec.specs.declared.signs.Sign.{Sign}
-use Rattle.crn_vec.specs.Network.{Net}
+use Rattle.crn_endo_check.proofs.Prelude.{ℕ, List, sym, subst, IsTrue, Sign, Net, first, said_by, Node, CutA, KeptCheck, slopes}
 use Rattle.crn_cert.specs.Nodes.{Fits}
-use Rattle.crn_ctree.specs.Due.{first}
-use Rattle.crn_ctree.specs.Gives.{said_by}
-use Rattle.crn_ctree.specs.declared.node.Node.{Node}
-use Rattle.crn_ctree.specs.declared.node.Node.TheVariants.{CutA}
-use Rattle.crn_endo_check.specs.Kept.{KeptCheck}
-use Rattle.crn_endo_check.specs.Slopes.{slopes}
 use Rattle.crn_endo_check.proofs.check.SlopeCheck.fits.Goals as goal
 
 pub returns-in-CutA : goal.returns-in-CutA

@@ -1,6 +1,5 @@
-use Rattle.std.proofs.Common.{◌≡◌, ◌<◌, ◌-◌, length, ap, subst, ◌∙◌, arith}
+use Rattle.crn_endo_check.proofs.Prelude.{◌≡◌, ◌<◌, ◌-◌, length, ap, subst, ◌∙◌, arith, KeptSlopes}
 use Rattle.std.specs.Prelude.{ℕ}
-use Rattle.crn_endo_check.specs.Kept.{KeptSlopes}
 use Rattle.crn_endo_check.proofs.WeakCoordinates.{either_at, never_at}
 use Rattle.crn_endo_check.proofs.slopes.Slopes.is_weak.Goals as goal
 

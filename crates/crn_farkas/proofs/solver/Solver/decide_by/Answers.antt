@@ -1,8 +1,4 @@
-use Rattle.std.proofs.Common.{◌<◌, ◌↔◌, ℕ, subst}
-use Rattle.crn_vec.specs.Lists.{IsIn}
-use Rattle.crn_vec.specs.Systems.{HasOneRowCut}
-use Rattle.crn_tab.specs.Tableau.{KeptTableau}
-use Rattle.crn_farkas.specs.Solver.{IsRuledOut}
+use Rattle.crn_farkas.proofs.Prelude.{◌<◌, ◌↔◌, ℕ, subst, IsIn, HasOneRowCut, KeptTableau, IsRuledOut}
 use Rattle.crn_farkas.proofs.Finals.{one_row_kept}
 use Rattle.crn_farkas.proofs.solver.Solver.decide_by.Goals as goal
 

@@ -1,8 +1,4 @@
-use Rattle.std.proofs.Common.{◌≡◌, ◌≢◌, refl, sym, ap, ◌∙◌, ◌≤◌, ◌<◌, arith, ◌^◌, to_z, of_z}
-use Rattle.std.specs.Prelude.{ℤ, pos, ◌*ℤ◌, ◌-ℤ◌, neg_ℤ, ◌≤ℤ◌, FitsSigned, unsigned_abs}
-use Rattle.std.specs.Int.{w128, IsGcd}
-use Rattle.std.proofs.lemmas.Int.{ints, to_z-of_z, fits_signed_from_abs}
-use Rattle.std.proofs.Math.Nat.{pos_of_dvd_of_pos}
+use Rattle.crn_frac.proofs.Prelude.{◌≡◌, ◌≢◌, refl, sym, ap, ◌∙◌, ◌≤◌, ◌<◌, arith, ◌^◌, to_z, of_z, ℤ, pos, ◌*ℤ◌, ◌-ℤ◌, neg_ℤ, ◌≤ℤ◌, FitsSigned, unsigned_abs, w128, IsGcd, ints, to_z-of_z, fits_signed_from_abs, pos_of_dvd_of_pos}
 use lib.IntN.{zero-*ℤ}
 use Rattle.crn_frac.proofs.Lowest.{lowest_value, lowest_value_neg, minus, abs_minus, smaller, reduced}
 use Rattle.crn_frac.proofs.fraction.Frac.new.Goals as goal

@@ -1,5 +1,4 @@
-use Rattle.std.proofs.Common.{◌≡◌, length}
-use Rattle.crn_graph.specs.Inner.Graph.{IsChained}
+use Rattle.crn_graph.proofs.Prelude.{◌≡◌, length, IsChained}
 use Rattle.crn_graph.proofs.graph.Graph.of.Given as goal
 
 abbrev pub invariant-loop-place : goal.invariant-loop-place

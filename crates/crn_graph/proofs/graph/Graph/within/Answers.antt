@@ -1,8 +1,4 @@
-use Rattle.std.proofs.Common.{◌≡◌, ◌<◌, ◌+◌, ◌∙◌, ◌++◌, ◌∷◌, [], length, sym, ap, subst, refl, arith, Vec, Global}
-use Rattle.std.proofs.lemmas.Result.{IfOk-weaker}
-use Rattle.crn_graph.specs.declared.arcs.Arc.{Arc}
-use Rattle.crn_graph.specs.Arcs.{arc_at, AreInside}
-use Rattle.crn_graph.specs.Inner.Arcs.{AreArcsWithin}
+use Rattle.crn_graph.proofs.Prelude.{◌≡◌, ◌<◌, ◌+◌, ◌∙◌, ◌++◌, ◌∷◌, [], length, sym, ap, subst, refl, arith, Vec, Global, IfOk-weaker, Arc, arc_at, AreInside, AreArcsWithin}
 use Rattle.crn_graph.proofs.StrongLaws.{AreEqualTo, equal_past, equal_more, equal_all, inside_push}
 use Rattle.crn_graph.proofs.graph.Graph.within.Goals as goal
 use Rattle.crn_graph.proofs.graph.Graph.within.Goals.{then-rank-arc+in_ok-push, else-rank-arc}

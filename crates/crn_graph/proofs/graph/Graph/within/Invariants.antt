@@ -1,5 +1,4 @@
-use Rattle.std.proofs.Common.{length}
-use Rattle.crn_graph.specs.Arcs.{AreInside}
+use Rattle.crn_graph.proofs.Prelude.{length, AreInside}
 use Rattle.crn_graph.proofs.StrongLaws.{AreEqualTo}
 use Rattle.crn_graph.proofs.graph.Graph.within.Given as goal
 

@@ -1,8 +1,4 @@
-use Rattle.std.proofs.Common.{◌≡◌, ◌+◌, ◌-◌, ◌<◌, length, get_or, set, refl, subst, ap, ◌∙◌, arith}
-use Rattle.std.proofs.lemmas.List.{get_or_read}
-use Rattle.std.specs.Vec.{with_item}
-use Rattle.crn_graph.specs.declared.ranks.Ranking.{Ranking}
-use Rattle.crn_graph.specs.Inner.Ranks.{path_at, HasClosed}
+use Rattle.crn_graph.proofs.Prelude.{◌≡◌, ◌+◌, ◌-◌, ◌<◌, length, get_or, set, refl, subst, ap, ◌∙◌, arith, get_or_read, with_item, Ranking, path_at, HasClosed}
 use Rattle.crn_graph.proofs.RankCalls.{closed_none, closed_more}
 use Rattle.crn_graph.proofs.ranks.Ranking.close.Goals as goal
 

@@ -1,5 +1,4 @@
-use Rattle.std.proofs.Common.{◌≡◌, ◌≤◌, ◌+◌, ◌-◌}
-use Rattle.crn_graph.specs.Inner.Ranks.{HasClosed}
+use Rattle.crn_graph.proofs.Prelude.{◌≡◌, ◌≤◌, ◌+◌, ◌-◌, HasClosed}
 use Rattle.crn_graph.proofs.ranks.Ranking.close.Given as goal
 
 abbrev pub invariant-loop-self : goal.invariant-loop-self

@@ -1,8 +1,4 @@
-use Rattle.std.proofs.Common.{◌<◌, ◌-◌, ℕ, length, sym, ap, subst, arith}
-use Rattle.std.proofs.lemmas.List.{get_or_read}
-use Rattle.crn_graph.specs.declared.arcs.Arc.{Arc}
-use Rattle.crn_graph.specs.declared.ranks.Ranking.{Ranking}
-use Rattle.crn_graph.specs.Inner.Ranks.{HasCome, HasMerged, start_at}
+use Rattle.crn_graph.proofs.Prelude.{◌<◌, ◌-◌, ℕ, length, sym, ap, subst, arith, get_or_read, Arc, Ranking, HasCome, HasMerged, start_at}
 use Rattle.crn_graph.proofs.RankCalls.{at_end, come_new, come_joined, come_ranked, enter_room, held_room}
 use Rattle.crn_graph.proofs.ranks.Ranking.come.Goals as goal
 

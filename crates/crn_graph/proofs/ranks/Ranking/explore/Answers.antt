@@ -1,4 +1,4 @@
-use Rattle.std.proofs.Common.{◌∙◌, arith}
+use Rattle.crn_graph.proofs.Prelude.{◌∙◌, arith}
 use Rattle.crn_graph.proofs.RankEntered.{IsEntered, entered_ranks, entered_keeps, entered_place}
 use Rattle.crn_graph.proofs.RankCalls.{enter_room, keeps_then}
 use Rattle.crn_graph.proofs.ranks.Ranking.explore.Goals as goal

@@ -1,5 +1,4 @@
-use Rattle.std.proofs.Common.{◌≡◌, ◌≤◌, length}
-use Rattle.crn_graph.specs.Inner.Ranks.{IsRanking, KeepsPlaces, place_at, weight}
+use Rattle.crn_graph.proofs.Prelude.{◌≡◌, ◌≤◌, length, IsRanking, KeepsPlaces, place_at, weight}
 use Rattle.crn_graph.proofs.ranks.Ranking.explore.Given as goal
 
 abbrev pub invariant-loop-self : goal.invariant-loop-self

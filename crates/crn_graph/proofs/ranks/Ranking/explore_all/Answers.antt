@@ -1,7 +1,4 @@
-use Rattle.std.proofs.Common.{◌∙◌, inl, inr, ap, arith}
-use Rattle.std.proofs.lemmas.Bool.{cases_eq}
-use Rattle.std.proofs.lemmas.List.{get_or_read}
-use Rattle.crn_graph.specs.Inner.Ranks.{place_at}
+use Rattle.crn_graph.proofs.Prelude.{◌∙◌, inl, inr, ap, arith, cases_eq, get_or_read, place_at}
 use Rattle.crn_graph.proofs.RankCalls.{all_ranks}
 use Rattle.crn_graph.proofs.ranks.Ranking.explore_all.Goals as goal
 

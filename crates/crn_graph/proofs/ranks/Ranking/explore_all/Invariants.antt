@@ -1,5 +1,4 @@
-use Rattle.std.proofs.Common.{◌≡◌, ◌≤◌, ◌<◌, ℕ, length}
-use Rattle.crn_graph.specs.Inner.Ranks.{IsRanking, place_at}
+use Rattle.crn_graph.proofs.Prelude.{◌≡◌, ◌≤◌, ◌<◌, ℕ, length, IsRanking, place_at}
 use Rattle.crn_graph.proofs.ranks.Ranking.explore_all.Given as goal
 
 abbrev pub invariant-loop-c : goal.invariant-loop-c

@@ -1,7 +1,4 @@
-use Rattle.std.proofs.Common.{◌≡◌, ◌<◌, ◌+◌, ◌-◌, ℕ, List, length, get_or, refl, ap, arith}
-use Rattle.std.specs.Prelude.{sum_by}
-use Rattle.std.proofs.lemmas.List.{get_or_read}
-use Rattle.crn_graph.specs.Inner.Ranks.{rest_at}
+use Rattle.crn_graph.proofs.Prelude.{◌≡◌, ◌<◌, ◌+◌, ◌-◌, ℕ, List, length, get_or, refl, ap, arith, sum_by, get_or_read, rest_at}
 use Rattle.crn_graph.proofs.RankFollowed.{IsTaken, took_ranks, took_less}
 use Rattle.crn_graph.proofs.RankCalls.{last_inside, head_arc}
 use Rattle.crn_graph.proofs.ranks.Ranking.follow.Goals as goal

@@ -1,6 +1,4 @@
-use Rattle.std.proofs.Common.{◌≡◌, ◌-◌, ◌∙◌, refl, sym, ap, arith}
-use Rattle.std.proofs.lemmas.List.{get_or_read}
-use Rattle.crn_graph.specs.Inner.Ranks.{open_at, rest_at}
+use Rattle.crn_graph.proofs.Prelude.{◌≡◌, ◌-◌, ◌∙◌, refl, sym, ap, arith, get_or_read, open_at, rest_at}
 use Rattle.crn_graph.proofs.RankFollowed.{dropped_ranks}
 use Rattle.crn_graph.proofs.RankCalls.{open_end, held_room}
 use Rattle.crn_graph.proofs.ranks.Ranking.go_on.Goals as goal

@@ -1,6 +1,4 @@
-use Rattle.std.proofs.Common.{◌<◌, ◌-◌, sym, subst, arith}
-use Rattle.crn_graph.specs.declared.ranks.Ranking.{Ranking}
-use Rattle.crn_graph.specs.Inner.Ranks.{IsRanking, KeepsPlaces, weight}
+use Rattle.crn_graph.proofs.Prelude.{◌<◌, ◌-◌, sym, subst, arith, Ranking, IsRanking, KeepsPlaces, weight}
 use Rattle.crn_graph.proofs.RankClosed.{closed_class, class_ranks}
 use Rattle.crn_graph.proofs.RankCalls.{held_room, open_inside, count_room}
 use Rattle.crn_graph.proofs.ranks.Ranking.step.Goals as goal

@@ -1,5 +1,4 @@
-use Rattle.std.proofs.Common.{◌≡◌, ◌<◌, ℕ, length}
-use Rattle.crn_graph.specs.Inner.Search.{AreLong, label_at}
+use Rattle.crn_graph.proofs.Prelude.{◌≡◌, ◌<◌, ℕ, length, AreLong, label_at}
 use Rattle.crn_graph.proofs.search.Search.clear.Given as goal
 
 abbrev pub invariant-loop-y : goal.invariant-loop-y

@@ -1,7 +1,4 @@
-use Rattle.std.proofs.Common.{◌≡◌, ◌<◌, ◌∙◌, length, refl, sym, ap, arith}
-use Rattle.std.proofs.lemmas.List.{get_or_read}
-use Rattle.crn_graph.specs.Arcs.{HasArc}
-use Rattle.crn_graph.specs.Inner.Search.{label_at}
+use Rattle.crn_graph.proofs.Prelude.{◌≡◌, ◌<◌, ◌∙◌, length, refl, sym, ap, arith, get_or_read, HasArc, label_at}
 use Rattle.crn_graph.proofs.SearchLaws.{room_left, has_found, found_spreads, found_on}
 use Rattle.crn_graph.proofs.search.Search.find.Goals as goal
 

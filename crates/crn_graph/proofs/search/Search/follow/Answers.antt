@@ -1,5 +1,4 @@
-use Rattle.std.proofs.Common.{◌≡◌, ◌+◌, ◌-◌, ◌∙◌, ap, subst, arith}
-use Rattle.crn_graph.specs.Inner.Search.{found_at}
+use Rattle.crn_graph.proofs.Prelude.{◌≡◌, ◌+◌, ◌-◌, ◌∙◌, ap, subst, arith, found_at}
 use Rattle.crn_graph.proofs.SearchLaws.{IsPast, followed_spreads, on_then, past_more}
 use Rattle.crn_graph.proofs.search.Search.follow.Goals as goal
 

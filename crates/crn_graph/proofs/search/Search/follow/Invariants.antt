@@ -1,5 +1,4 @@
-use Rattle.std.proofs.Common.{◌≡◌}
-use Rattle.crn_graph.specs.Inner.Search.{found_at, IsSpreading, GoesOn}
+use Rattle.crn_graph.proofs.Prelude.{◌≡◌, found_at, IsSpreading, GoesOn}
 use Rattle.crn_graph.proofs.SearchLaws.{IsPast}
 use Rattle.crn_graph.proofs.search.Search.follow.Given as goal
 

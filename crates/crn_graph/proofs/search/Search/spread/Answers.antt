@@ -1,5 +1,4 @@
-use Rattle.std.proofs.Common.{◌≡◌, ◌<◌, suc, set, length, refl, arith}
-use Rattle.crn_graph.specs.Inner.Search.{zeros}
+use Rattle.crn_graph.proofs.Prelude.{◌≡◌, ◌<◌, suc, set, length, refl, arith, zeros}
 use Rattle.crn_graph.proofs.SearchLaws.{written, zeros-set, begun_spreads, begun_keeps}
 use Rattle.crn_graph.proofs.search.Search.spread.Goals as goal
 

@@ -1,5 +1,4 @@
-use Rattle.std.proofs.Common.{◌≡◌, ◌+◌, ◌-◌, length}
-use Rattle.crn_graph.specs.Inner.Search.{first_found, zeros, IsSpreading, KeepsLabels}
+use Rattle.crn_graph.proofs.Prelude.{◌≡◌, ◌+◌, ◌-◌, length, first_found, zeros, IsSpreading, KeepsLabels}
 use Rattle.crn_graph.proofs.search.Search.spread.Given as goal
 
 abbrev pub invariant-loop-self : goal.invariant-loop-self

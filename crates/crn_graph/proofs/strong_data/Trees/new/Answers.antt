@@ -1,5 +1,4 @@
-use Rattle.std.proofs.Common.{◌∙◌, subst}
-use Rattle.crn_graph.specs.Inner.Linkage.{AreClassesTo}
+use Rattle.crn_graph.proofs.Prelude.{◌∙◌, subst, AreClassesTo}
 use Rattle.crn_graph.proofs.strong_data.Trees.new.Goals as goal
 
 pub label_all-count-requires-clause-returning : goal.label_all-count-requires-clause-returning

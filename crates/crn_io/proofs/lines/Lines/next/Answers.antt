@@ -1,6 +1,4 @@
-use Rattle.std.proofs.Common.{◌≡◌, ◌-◌, length, drop, take, take_all, ◌++◌, ap, sym, ◌∙◌, refl, arith, length-drop}
-use Rattle.crn_io.specs.declared.lines.TheConstants.{MAX_AHEAD}
-use Rattle.crn_io.specs.Next.{KeptLines}
+use Rattle.crn_io.proofs.Prelude.{◌≡◌, ◌-◌, length, drop, take, take_all, ◌++◌, ap, sym, ◌∙◌, refl, arith, length-drop, MAX_AHEAD, KeptLines}
 use Rattle.crn_io.proofs.NextLine.{document_ends, line_ends, document_goes_on, line_goes_on, line_is, line_length, ahead_length, asked, asked_few}
 use Rattle.crn_io.proofs.lines.Lines.next.Goals as goal
 

@@ -1,9 +1,4 @@
-use Rattle.std.proofs.Common.{◌≡◌, ◌∙◌, ℕ, length, take, ap, sym, subst, true, false, arith}
-use Rattle.std.specs.Result.{is_err}
-use Rattle.crn_vec.specs.Network.{Net}
-use Rattle.crn_net.specs.Terms.{statement_of}
-use Rattle.crn_net.specs.Views.{net_of}
-use Rattle.crn_net.specs.Grows.{AddGives}
+use Rattle.crn_net.proofs.Prelude.{◌≡◌, ◌∙◌, ℕ, length, take, ap, sym, subst, true, false, arith, is_err, Net, statement_of, net_of, AddGives}
 use Rattle.crn_net.proofs.Growth.{Ready}
 use Rattle.crn_net.proofs.Adding.{said_of, build_grows, build_stops, at_err}
 use Rattle.crn_net.proofs.builder.NetBuilder.add.Goals as goal

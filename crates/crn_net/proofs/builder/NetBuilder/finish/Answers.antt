@@ -1,4 +1,4 @@
-use Rattle.std.proofs.Common.{◌≡◌, ◌∙◌}
+use Rattle.crn_net.proofs.Prelude.{◌≡◌, ◌∙◌}
 use Rattle.crn_net.proofs.Differences.{row_amounts, made_vectors, joins_rows}
 use Rattle.crn_net.proofs.builder.NetBuilder.finish.Goals as goal
 

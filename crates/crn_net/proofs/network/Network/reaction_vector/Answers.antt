@@ -1,10 +1,4 @@
-use Rattle.std.proofs.Common.{◌≡◌, ◌<◌, ◌∙◌, arith, length, map, ap, sym, subst, List, ℕ, [], get_or, take}
-use Rattle.std.specs.Prelude.{ℤ}
-use Rattle.std.proofs.lemmas.List.{get_or-map, length-map}
-use Rattle.crn_vec.specs.Network.{Net, reaction_vector}
-use Rattle.crn_vec.specs.Vectors.{AreWithin}
-use Rattle.crn_vec.specs.declared.limits.TheConstants.{MAX_AMOUNT}
-use Rattle.crn_net.specs.Views.{net_of, vectors_of}
+use Rattle.crn_net.proofs.Prelude.{◌≡◌, ◌<◌, ◌∙◌, arith, length, map, ap, sym, subst, List, ℕ, [], get_or, take, ℤ, get_or-map, length-map, Net, reaction_vector, AreWithin, MAX_AMOUNT, net_of, vectors_of}
 use Rattle.crn_net.proofs.Differences.{reaction_small, lent_vector}
 use Rattle.crn_net.proofs.network.Network.reaction_vector.Goals as goal
 

@@ -1,8 +1,4 @@
-use Rattle.std.proofs.Common.{◌≡◌, ◌<◌, ◌∙◌, arith, length, ap, sym, subst, List, ℕ, refl, [], get_or, take}
-use Rattle.std.specs.Prelude.{ℤ}
-use Rattle.std.specs.List.{AllByRecursion}
-use Rattle.crn_vec.specs.Network.{Net, IsAmount}
-use Rattle.crn_net.specs.Views.{net_of, vectors_of}
+use Rattle.crn_net.proofs.Prelude.{◌≡◌, ◌<◌, ◌∙◌, arith, length, ap, sym, subst, List, ℕ, refl, [], get_or, take, ℤ, AllByRecursion, Net, IsAmount, net_of, vectors_of}
 use Rattle.crn_net.proofs.Differences.{vector_amounts, lent_vector}
 use Rattle.crn_net.proofs.network.Network.vector.Goals as goal
 

@@ -1,7 +1,4 @@
-use Rattle.std.proofs.Common.{◌≡◌, ◌∙◌, ◌+◌, ℕ, List, get_or, set, sym, ap, arith}
-use Rattle.std.specs.Prelude.{ℤ, pos, ◌+ℤ◌}
-use Rattle.std.proofs.lemmas.Int.{ints}
-use Rattle.std.proofs.lemmas.List.{map-set}
+use Rattle.crn_net.proofs.Prelude.{◌≡◌, ◌∙◌, ◌+◌, ℕ, List, get_or, set, sym, ap, arith, ℤ, pos, ◌+ℤ◌, ints, map-set}
 use Rattle.crn_net.proofs.Narrow.{at_seen}
 use Rattle.crn_net.proofs.row.Amounts.add.Goals as goal
 

@@ -1,8 +1,4 @@
-use Rattle.std.proofs.Common.{◌≡◌, ◌<◌, ◌++◌, ◌∷◌, [], ◌∙◌, List, get_or, take, length, sym, ap, arith}
-use Rattle.std.specs.Prelude.{ℤ, pos}
-use Rattle.std.specs.Int.{w128}
-use Rattle.std.proofs.lemmas.Int.{ints, to_z-of_z, fits_signed_from_abs}
-use Rattle.std.proofs.lemmas.List.{length-set, length-map, take_more, take_more_set}
+use Rattle.crn_net.proofs.Prelude.{◌≡◌, ◌<◌, ◌++◌, ◌∷◌, [], ◌∙◌, List, get_or, take, length, sym, ap, arith, ℤ, pos, w128, ints, to_z-of_z, fits_signed_from_abs, length-set, length-map, take_more, take_more_set}
 use Rattle.crn_net.proofs.Narrow.{at_seen}
 use Rattle.crn_net.proofs.row.Amounts.full_row.Goals as goal
 

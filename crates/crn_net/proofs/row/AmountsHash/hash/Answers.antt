@@ -1,7 +1,5 @@
-use Rattle.std.proofs.Common.{◌≡◌, ◌∙◌, List, ℕ, map, sym, ap, subst}
-use Rattle.std.specs.Prelude.{ℤ, nat_abs}
+use Rattle.crn_net.proofs.Prelude.{◌≡◌, ◌∙◌, List, ℕ, map, sym, ap, subst, ℤ, nat_abs, abs_back}
 use Rattle.crn_net.proofs.row.AmountsHash.hash.Goals as goal
-use Rattle.crn_vec.proofs.CallerLemmas.{abs_back}
 
 pub returns : goal.returns
 returns g c =

@@ -1,6 +1,4 @@
-use Rattle.std.proofs.Common.{◌∙◌, sym, ap₂}
-use Rattle.std.specs.Ordering.{int_eq}
-use Rattle.std.specs.Cmp.Lexicographic.{pointwise}
+use Rattle.crn_net.proofs.Prelude.{◌∙◌, sym, ap₂, int_eq, pointwise}
 use Rattle.crn_net.proofs.Narrow.{same_seen}
 use Rattle.crn_net.proofs.row.AmountsPartialEq.eq.Goals as goal
 

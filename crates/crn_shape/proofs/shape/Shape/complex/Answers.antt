@@ -1,4 +1,4 @@
-use Rattle.crn_vec.proofs.CallerLemmas.{amounts_within}
+use Rattle.crn_shape.proofs.Prelude.{amounts_within}
 use Rattle.crn_shape.proofs.shape.Shape.complex.Goals as goal
 
 pub returns-clause-small : goal.returns-clause-small

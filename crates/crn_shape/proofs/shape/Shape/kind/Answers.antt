@@ -1,10 +1,4 @@
-use Rattle.std.proofs.Common.{◌≡◌, ◌+◌, ◌-◌, ◌<◌, ◌≤◌, List, length, get_or, take, sym, ap, ◌∙◌, arith}
-use Rattle.std.specs.Prelude.{None}
-use Rattle.crn_vec.specs.declared.signs.Sign.{Sign}
-use Rattle.crn_vec.specs.Concordance.{row_kinds}
-use Rattle.crn_vec.specs.Signals.{Shape, pair_kind, top_kind}
-use Rattle.crn_vec.specs.Systems.{kind_at}
-use Rattle.crn_shape.specs.Shapes.{no_pair}
+use Rattle.crn_shape.proofs.Prelude.{◌≡◌, ◌+◌, ◌-◌, ◌<◌, ◌≤◌, List, length, get_or, take, sym, ap, ◌∙◌, arith, None, Sign, row_kinds, Shape, pair_kind, top_kind, kind_at, no_pair}
 use Rattle.crn_shape.proofs.ShapeKinds.{species_kind, level_kind, complex_kind, linked_kind, rows_are}
 use Rattle.crn_shape.proofs.shape.Shape.kind.Goals as goal
 

@@ -1,10 +1,4 @@
-use Rattle.std.proofs.Common.{◌≡◌, ◌++◌, List, length, map, take, drop, sym, ap, subst, ◌∙◌}
-use Rattle.std.proofs.Math.Seq.{take-append_seam}
-use Rattle.std.proofs.lemmas.List.{with_items_is}
-use Rattle.crn_vec.specs.NetSignals.{opposite_shape}
-use Rattle.crn_shape.specs.Shapes.{AreForShape, shape_of}
-use Rattle.crn_shape.specs.Inner.Pairs.{opposite_linked}
-use Rattle.crn_shape.specs.declared.pairs.LinkedPair.{LinkedPair}
+use Rattle.crn_shape.proofs.Prelude.{◌≡◌, ◌++◌, List, length, map, take, drop, sym, ap, subst, ◌∙◌, take-append_seam, with_items_is, opposite_shape, AreForShape, shape_of, opposite_linked, LinkedPair}
 use Rattle.crn_shape.proofs.ShapeMade.{opposite_is, parts_opposite}
 use Rattle.crn_shape.proofs.shape.Shape.negate.Goals as goal
 

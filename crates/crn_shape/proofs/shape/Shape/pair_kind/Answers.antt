@@ -1,7 +1,4 @@
-use Rattle.std.proofs.Common.{◌<◌, length, get_or, sym, ap, ◌∙◌, arith}
-use Rattle.std.proofs.lemmas.List.{get_or-map, length-map}
-use Rattle.crn_vec.specs.Signals.{Pair, Shape, pair_kind}
-use Rattle.crn_shape.specs.Shapes.{no_pair, pair_of}
+use Rattle.crn_shape.proofs.Prelude.{◌<◌, length, get_or, sym, ap, ◌∙◌, arith, get_or-map, length-map, Pair, Shape, pair_kind, no_pair, pair_of}
 use Rattle.crn_shape.proofs.shape.Shape.pair_kind.Goals as goal
 
 pub returns : goal.returns

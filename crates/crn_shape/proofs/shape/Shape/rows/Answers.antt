@@ -1,7 +1,4 @@
-use Rattle.std.proofs.Common.{◌≡◌, ◌+◌, List, length, subst}
-use Rattle.std.specs.Prelude.{ℤ}
-use Rattle.std.specs.List.{AllByRecursion}
-use Rattle.crn_vec.specs.Signals.{Shape, shelf_matrix}
+use Rattle.crn_shape.proofs.Prelude.{◌≡◌, ◌+◌, List, length, subst, ℤ, AllByRecursion, Shape, shelf_matrix}
 use Rattle.crn_shape.proofs.ShapeWidths.{widths}
 use Rattle.crn_shape.proofs.shape.Shape.rows.Goals as goal
 

@@ -1,7 +1,4 @@
-use Rattle.std.proofs.Common.{◌∙◌}
-use Rattle.crn_vec.specs.Elementary.{width}
-use Rattle.crn_conc.proofs.CallerLemmas.{all_settle}
-use Rattle.crn_shelf.specs.Inner.Choices.{kinds_after}
+use Rattle.crn_shelf.proofs.Prelude.{◌∙◌, width, all_settle, kinds_after}
 use Rattle.crn_shelf.proofs.problem.ShelfProblem.all.Goals as goal
 
 pub returns : goal.returns

@@ -1,7 +1,4 @@
-use Rattle.std.proofs.Common.{◌≡◌, ◌<◌, ℕ, length}
-use Rattle.crn_vec.specs.Signals.{shelf_kinds}
-use Rattle.crn_vec.specs.Systems.{kind_at}
-use Rattle.crn_sign.specs.Options.{kind_in, word_count}
+use Rattle.crn_shelf.proofs.Prelude.{◌≡◌, ◌<◌, ℕ, length, shelf_kinds, kind_at, kind_in, word_count}
 use Rattle.crn_shelf.proofs.problem.ShelfProblem.ask.Given as goal
 
 abbrev pub invariant-loop-k : goal.invariant-loop-k

@@ -1,8 +1,4 @@
-use Rattle.std.proofs.Common.{List, [], ◌∷◌, ◌++◌, sym, ap, ◌∙◌, arith}
-use Rattle.std.proofs.lemmas.List.{drop_all, length-append}
-use Rattle.crn_vec.specs.declared.signs.Sign.{Sign}
-use Rattle.crn_vec.specs.Concordance.{kinds_b_of}
-use Rattle.crn_vec.specs.Systems.{kind_at}
+use Rattle.crn_shelf.proofs.Prelude.{List, [], ◌∷◌, ◌++◌, sym, ap, ◌∙◌, arith, drop_all, length-append, Sign, kinds_b_of, kind_at}
 use Rattle.crn_shelf.proofs.problem.ShelfProblem.none.Goals as goal
 
 pub returns : goal.returns

@@ -1,10 +1,4 @@
-use Rattle.std.proofs.Common.{ℕ, List, [], ◌∷◌, ◌+◌, ◌<◌, drop, ap, ◌∙◌, arith}
-use Rattle.std.proofs.lemmas.List.{drop-append-le, length-drop}
-use Rattle.crn_vec.specs.declared.signs.Sign.{Sign}
-use Rattle.crn_vec.specs.Concordance.{kinds_b_of}
-use Rattle.crn_vec.specs.Elementary.{width}
-use Rattle.crn_vec.specs.Systems.{kind_at}
-use Rattle.crn_conc.proofs.CallerLemmas.{coordinate_at, coordinates_long, rows_settle}
+use Rattle.crn_shelf.proofs.Prelude.{ℕ, List, [], ◌∷◌, ◌+◌, ◌<◌, drop, ap, ◌∙◌, arith, drop-append-le, length-drop, Sign, kinds_b_of, width, kind_at, coordinate_at, coordinates_long, rows_settle}
 use Rattle.crn_shelf.proofs.problem.ShelfProblem.row.Goals as goal
 
 pub overflow_add-k : goal.overflow_add-k

@@ -1,8 +1,4 @@
-use Rattle.std.proofs.Common.{ℕ, List, ◌-◌, ◌<◌, ◌≤◌, length, drop, sym, ap, ◌∙◌, arith}
-use Rattle.crn_vec.specs.declared.signs.Sign.{Sign}
-use Rattle.crn_vec.specs.Systems.{kind_at}
-use Rattle.crn_vec.specs.Concordance.{row_kinds}
-use Rattle.crn_vec.proofs.CallerLemmas.{column_in_b, row_in_b}
+use Rattle.crn_shelf.proofs.Prelude.{ℕ, List, ◌-◌, ◌<◌, ◌≤◌, length, drop, sym, ap, ◌∙◌, arith, Sign, kind_at, row_kinds, column_in_b, row_in_b}
 use Rattle.crn_shelf.proofs.problem.ShelfProblemSignProblem.asked_b.Goals as goal
 
 pub returns-then-k-cols : goal.returns-then-k-cols

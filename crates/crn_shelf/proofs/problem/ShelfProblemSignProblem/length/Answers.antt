@@ -1,5 +1,4 @@
-use Rattle.std.proofs.Common.{◌∙◌, sym, arith}
-use Rattle.crn_vec.proofs.CallerLemmas.{signals_are_lawful}
+use Rattle.crn_shelf.proofs.Prelude.{◌∙◌, sym, arith, signals_are_lawful}
 use Rattle.crn_shelf.proofs.problem.ShelfProblemSignProblem.length.Goals as goal
 
 pub returns-clause-lawful : goal.returns-clause-lawful

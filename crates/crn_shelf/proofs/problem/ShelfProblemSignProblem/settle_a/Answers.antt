@@ -1,12 +1,4 @@
-use Rattle.std.proofs.Common.{◌≡◌, ◌≤◌, ◌+◌, ◌-◌, ◌++◌, List, [], ◌∷◌, length, get_or, refl, sym, ap, ◌∙◌, arith}
-use Rattle.std.proofs.lemmas.List.{length-append}
-use Rattle.crn_vec.specs.declared.signs.Sign.{Sign}
-use Rattle.crn_vec.specs.declared.signs.Sign.TheVariants.{Zero}
-use Rattle.crn_vec.specs.Signals.{Shape, shelf_at}
-use Rattle.crn_sign.specs.declared.bits.Bits.{Bits}
-use Rattle.crn_shelf.specs.declared.choice.Choice.{Choice}
-use Rattle.crn_shelf.specs.Inner.Choices.{AreChoices, IsAdded, added_by}
-use Rattle.crn_sign.proofs.CallerLemmas.{firm_kinds}
+use Rattle.crn_shelf.proofs.Prelude.{◌≡◌, ◌≤◌, ◌+◌, ◌-◌, ◌++◌, List, [], ◌∷◌, length, get_or, refl, sym, ap, ◌∙◌, arith, length-append, Sign, Zero, Shape, shelf_at, Bits, Choice, AreChoices, IsAdded, added_by, firm_kinds}
 use Rattle.crn_shelf.proofs.Gradual.{last_at}
 use Rattle.crn_shelf.proofs.Joins.{added_is, asks_joined}
 use Rattle.crn_shelf.proofs.problem.ShelfProblemSignProblem.settle_a.Goals as goal

@@ -1,5 +1,4 @@
-use Rattle.std.proofs.Common.{◌-◌, bit_and, arith}
-use Rattle.std.proofs.lemmas.Nat.{and_le_l, and_le_r}
+use Rattle.crn_sign.proofs.Prelude.{◌-◌, bit_and, arith, and_le_l, and_le_r}
 use Rattle.crn_sign.proofs.finder.Finder.give_kept_signs_in_word.Goals as goal
 
 pub places-smaller : goal.places-smaller

@@ -1,5 +1,4 @@
-use Rattle.crn_sign.specs.Inner.Marks.{AreRowMarks}
-use Rattle.crn_sign.specs.Inner.Parts.{IsFinder}
+use Rattle.crn_sign.proofs.Prelude.{AreRowMarks, IsFinder}
 use Rattle.crn_sign.proofs.finder.Finder.give_kept_signs_in_words.Given as goal
 
 abbrev pub invariant-loop-w : goal.invariant-loop-w

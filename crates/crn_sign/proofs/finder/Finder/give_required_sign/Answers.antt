@@ -1,8 +1,4 @@
-use Rattle.std.proofs.Common.{◌≡◌, ℕ, ap, ap₂, sym, ◌∙◌, arith}
-use Rattle.crn_vec.specs.Systems.{is_signed}
-use Rattle.crn_sign.specs.declared.marks.Mark.{Mark}
-use Rattle.crn_sign.specs.Options.{bit_of, weakened}
-use Rattle.crn_sign.specs.Inner.Marks.{kind_of_mark}
+use Rattle.crn_sign.proofs.Prelude.{◌≡◌, ℕ, ap, ap₂, sym, ◌∙◌, arith, is_signed, Mark, bit_of, weakened, kind_of_mark}
 use Rattle.crn_sign.proofs.MarkLaws.{kind_asked}
 use Rattle.crn_sign.proofs.finder.Finder.give_required_sign.Goals as goal
 

@@ -1,4 +1,4 @@
-use Rattle.crn_sign.specs.Inner.Parts.{IsFinder}
+use Rattle.crn_sign.proofs.Prelude.{IsFinder}
 use Rattle.crn_sign.proofs.finder.Finder.list_misfits.Given as goal
 
 abbrev pub invariant-loop-w : goal.invariant-loop-w

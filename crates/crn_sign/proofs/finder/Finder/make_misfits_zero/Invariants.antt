@@ -1,5 +1,4 @@
-use Rattle.crn_sign.specs.Inner.Marks.{AreRowMarks}
-use Rattle.crn_sign.specs.Inner.Parts.{IsFinder}
+use Rattle.crn_sign.proofs.Prelude.{AreRowMarks, IsFinder}
 use Rattle.crn_sign.proofs.finder.Finder.make_misfits_zero.Given as goal
 
 abbrev pub invariant-loop-i : goal.invariant-loop-i

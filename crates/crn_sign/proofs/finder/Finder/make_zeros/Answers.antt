@@ -1,5 +1,4 @@
-use Rattle.std.proofs.lemmas.Result.{err_from_is_err_and}
-use Rattle.crn_sign.specs.Inner.Marks.{kinds_of}
+use Rattle.crn_sign.proofs.Prelude.{err_from_is_err_and, kinds_of}
 use Rattle.crn_sign.proofs.finder.Finder.make_zeros.Goals as goal
 
 pub returns-in_err-make_misfits_zero-clause-answer : goal.returns-in_err-make_misfits_zero-clause-answer

@@ -1,7 +1,4 @@
-use Rattle.std.proofs.Common.{List, subst}
-use Rattle.crn_sign.specs.declared.bits.Bits.{Bits}
-use Rattle.crn_sign.specs.Inner.Marks.{kinds_of}
-use Rattle.crn_sign.specs.Inner.Parts.{IsRuling}
+use Rattle.crn_sign.proofs.Prelude.{List, subst, Bits, kinds_of, IsRuling}
 use Rattle.crn_sign.proofs.part.Part.ruled_out.Goals as goal
 
 pub returns-clause-answer : goal.returns-clause-answer

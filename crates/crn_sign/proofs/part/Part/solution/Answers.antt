@@ -1,7 +1,4 @@
-use Rattle.std.proofs.Common.{List, sym, subst, ◌∙◌}
-use Rattle.crn_vec.specs.declared.signs.Kind.{Kind}
-use Rattle.crn_vec.specs.Vectors.{Mat}
-use Rattle.crn_vec.specs.Systems.{IsSolution}
+use Rattle.crn_sign.proofs.Prelude.{List, sym, subst, ◌∙◌, Kind, Mat, IsSolution}
 use Rattle.crn_sign.proofs.part.Part.solution.Goals as goal
 
 pub unreachable-requires : goal.unreachable-requires

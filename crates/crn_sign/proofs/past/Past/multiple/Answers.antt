@@ -1,7 +1,4 @@
-use Rattle.std.proofs.Common.{Bool, List, ℤ, ap, sym, ◌∙◌}
-use Rattle.crn_vec.specs.Kept.{KeptInts}
-use Rattle.crn_vec.specs.Vectors.{scale}
-use Rattle.crn_farkas.specs.Decision.{factor}
+use Rattle.crn_sign.proofs.Prelude.{Bool, List, ℤ, ap, sym, ◌∙◌, KeptInts, scale, factor}
 use Rattle.crn_sign.proofs.PastLaws.{scale_one}
 use Rattle.crn_sign.proofs.past.Past.multiple.Goals as goal
 

@@ -1,5 +1,5 @@
 use Rattle.crn_sign.proofs.MarkLaws.{kinds_long, suited_solution}
-use Rattle.crn_sign.specs.Inner.Marks.{kinds_of}
+use Rattle.crn_sign.proofs.Prelude.{kinds_of}
 use Rattle.crn_sign.proofs.place.Place.has_solution.Goals as goal
 
 pub returns : goal.returns

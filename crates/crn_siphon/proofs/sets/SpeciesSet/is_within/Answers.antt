@@ -1,5 +1,4 @@
-use Rattle.std.proofs.Common.{refl}
-use Rattle.crn_vec.proofs.CallerLemmas.{refused}
+use Rattle.crn_siphon.proofs.Prelude.{refl, refused}
 use Rattle.crn_siphon.proofs.SetLaws.{bit_within, within_or}
 use Rattle.crn_siphon.proofs.sets.SpeciesSet.is_within.Goals as goal
 

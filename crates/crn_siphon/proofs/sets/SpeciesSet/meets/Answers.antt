@@ -1,5 +1,4 @@
-use Rattle.std.proofs.Common.{refl, arith}
-use Rattle.crn_vec.proofs.CallerLemmas.{refused}
+use Rattle.crn_siphon.proofs.Prelude.{refl, arith, refused}
 use Rattle.crn_siphon.proofs.SetLaws.{common_bit, no_common}
 use Rattle.crn_siphon.proofs.sets.SpeciesSet.meets.Goals as goal
 

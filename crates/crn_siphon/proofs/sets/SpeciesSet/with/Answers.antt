@@ -1,5 +1,4 @@
-use Rattle.std.proofs.Common.{w64, sym, ◌∙◌}
-use Rattle.std.proofs.lemmas.Nat.Bits.{bit_at_set_same, bit_at_set_other}
+use Rattle.crn_siphon.proofs.Prelude.{w64, sym, ◌∙◌, bit_at_set_same, bit_at_set_other}
 use Rattle.crn_siphon.proofs.sets.SpeciesSet.with.Goals as goal
 
 pub returns : goal.returns

@@ -1,6 +1,4 @@
-use Rattle.std.proofs.Common.{◌≡◌, ◌^◌, List, length, ap, sym, subst, arith}
-use Rattle.std.specs.Prelude.{ℤ}
-use Rattle.crn_tab.specs.Inner.Rows.{AreBelow}
+use Rattle.crn_tab.proofs.Prelude.{◌≡◌, ◌^◌, List, length, ap, sym, subst, arith, ℤ, AreBelow}
 use Rattle.crn_tab.proofs.rows.Rows.copy.Goals as goal
 
 pub invariant_of-result : goal.invariant_of-result

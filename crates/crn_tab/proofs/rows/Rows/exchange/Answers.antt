@@ -1,7 +1,4 @@
-use Rattle.std.proofs.Common.{◌≡◌, ◌*◌, ◌++◌, ◌^◌, take, drop, List, length, ap, ◌∙◌, sym, subst, arith, vec_capacity}
-use Rattle.std.specs.Prelude.{ℤ}
-use Rattle.crn_vec.proofs.CallerLemmas.{written}
-use Rattle.crn_tab.specs.Inner.Rows.{AreBelow}
+use Rattle.crn_tab.proofs.Prelude.{◌≡◌, ◌*◌, ◌++◌, ◌^◌, take, drop, List, length, ap, ◌∙◌, sym, subst, arith, vec_capacity, ℤ, written, AreBelow}
 use Rattle.crn_tab.proofs.KeptRows.{kept_at, some_at, rows_below, filled_at, rows_in_place}
 use Rattle.crn_tab.proofs.rows.Rows.exchange.Goals as goal
 

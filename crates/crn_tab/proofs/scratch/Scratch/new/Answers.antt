@@ -1,4 +1,4 @@
-use Rattle.std.proofs.Common.{arith}
+use Rattle.crn_tab.proofs.Prelude.{arith}
 use Rattle.crn_tab.proofs.scratch.Scratch.new.Goals as goal
 
 pub invariant_of-result : goal.invariant_of-result

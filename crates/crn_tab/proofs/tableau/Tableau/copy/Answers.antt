@@ -1,4 +1,4 @@
-use Rattle.std.proofs.Common.{◌≡◌, ◌+◌, ap, ◌∙◌}
+use Rattle.crn_tab.proofs.Prelude.{◌≡◌, ◌+◌, ap, ◌∙◌}
 use Rattle.crn_tab.proofs.Whole.{whole}
 use Rattle.crn_tab.proofs.tableau.Tableau.copy.Goals as goal
 

@@ -1,10 +1,4 @@
-use Rattle.std.proofs.Common.{◌≡◌, ◌<◌, ℕ, length, ap, sym, subst, ◌∙◌, arith, nat_lt}
-use Rattle.std.specs.Prelude.{slice_index, IsTrue, ◌↔◌}
-use Rattle.crn_vec.specs.Lists.{IsIn}
-use Rattle.crn_vec.specs.Elementary.{width}
-use Rattle.crn_vec.proofs.CallerLemmas.{any_default}
-use Rattle.crn_tab.specs.Tableau.{KeptTableau}
-use Rattle.crn_tab.specs.Slots.{basis_of}
+use Rattle.crn_tab.proofs.Prelude.{◌≡◌, ◌<◌, ℕ, length, ap, sym, subst, ◌∙◌, arith, nat_lt, slice_index, IsTrue, ◌↔◌, IsIn, width, any_default, KeptTableau, basis_of}
 use Rattle.crn_tab.proofs.BasicTest.{basic_test}
 use Rattle.crn_tab.proofs.tableau.Tableau.is_basic.Goals as goal
 

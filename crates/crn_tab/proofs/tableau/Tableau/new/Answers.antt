@@ -1,10 +1,4 @@
-use Rattle.std.proofs.Common.{◌≡◌, ◌<◌, ◌+◌, ℕ, List, length, ap, ◌∙◌, sym, subst, arith}
-use Rattle.std.specs.Prelude.{ℤ, ◌↔◌}
-use Rattle.crn_vec.specs.Vectors.{Mat}
-use Rattle.crn_vec.specs.Lists.{IsIn}
-use Rattle.crn_vec.specs.Elementary.{width}
-use Rattle.crn_tab.specs.Inner.Start.{IsIdentity}
-use Rattle.crn_tab.specs.Slots.{basis_of, IsTableau}
+use Rattle.crn_tab.proofs.Prelude.{◌≡◌, ◌<◌, ◌+◌, ℕ, List, length, ap, ◌∙◌, sym, subst, arith, ℤ, ◌↔◌, Mat, IsIn, width, IsIdentity, basis_of, IsTableau}
 use Rattle.crn_tab.proofs.FirstRows.{first_tableau}
 use Rattle.crn_tab.proofs.BasicTest.{first_basis}
 use Rattle.crn_tab.proofs.tableau.Tableau.new.Goals as goal

@@ -1,5 +1,4 @@
-use Rattle.std.proofs.Common.{get_or, refl}
-use Rattle.std.specs.Prelude.{codes}
+use Rattle.crn_text.proofs.Prelude.{get_or, refl, codes}
 use Rattle.crn_text.proofs.FoundPieces.{strips, line_ends, line_lacks_product, line_lacks_arrow}
 use Rattle.crn_text.proofs.canonical.Found.after_line.Goals as goal
 

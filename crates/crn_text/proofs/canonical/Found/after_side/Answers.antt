@@ -1,5 +1,4 @@
-use Rattle.std.proofs.Common.{◌∙◌, Some, arith}
-use Rattle.crn_text.specs.Canonical.{complex_text}
+use Rattle.crn_text.proofs.Prelude.{◌∙◌, Some, arith, complex_text}
 use Rattle.crn_text.proofs.FoundPieces.{found_put, strips, piece_is}
 use Rattle.crn_text.proofs.canonical.Found.after_side.Goals as goal
 

@@ -1,4 +1,4 @@
-use Rattle.std.proofs.Common.{arith}
+use Rattle.crn_text.proofs.Prelude.{arith}
 use Rattle.crn_text.proofs.FoundPieces.{found_at}
 use Rattle.crn_text.proofs.canonical.Found.known.Goals as goal
 

@@ -1,4 +1,4 @@
-use Rattle.crn_vec.specs.declared.limits.TheConstants.{MAX_COMPLEXES}
+use Rattle.crn_text.proofs.Prelude.{MAX_COMPLEXES}
 use Rattle.crn_text.proofs.FoundPieces.{none_found}
 use Rattle.crn_text.proofs.canonical.Found.new.Goals as goal
 

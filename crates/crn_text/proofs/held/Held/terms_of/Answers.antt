@@ -1,6 +1,4 @@
-use Rattle.std.proofs.Common.{[], List, true, refl, sym, subst}
-use Rattle.crn_net.specs.declared.term.Term.{Term}
-use Rattle.crn_text.specs.Inner.Pieces.{ReadsTerms}
+use Rattle.crn_text.proofs.Prelude.{[], List, true, refl, sym, subst, Term, ReadsTerms}
 use Rattle.crn_text.proofs.HeldSides.{reads_again, fails_again}
 use Rattle.crn_text.proofs.held.Held.terms_of.Goals as goal
 

@@ -1,9 +1,4 @@
-use Rattle.std.proofs.Common.{◌≡◌, ℕ, List, [], ◌∷◌, sym, subst, ◌∙◌, arith}
-use Rattle.std.proofs.lemmas.Slice.Eq.{bytes_eq-Decides}
-use Rattle.crn_vec.specs.Lists.{IsIn}
-use Rattle.crn_vec.proofs.CallerLemmas.{all_at}
-use Rattle.crn_text.specs.Inner.Known.{line_at}
-use Rattle.crn_text.specs.declared.known.Place.{Place}
+use Rattle.crn_text.proofs.Prelude.{◌≡◌, ℕ, List, [], ◌∷◌, sym, subst, ◌∙◌, arith, bytes_eq-Decides, IsIn, all_at, line_at, Place}
 use Rattle.crn_text.proofs.known.Known.has.Goals as goal
 
 abbrev none : Place

@@ -1,4 +1,4 @@
-use Rattle.std.proofs.Common.{length}
+use Rattle.crn_text.proofs.Prelude.{length}
 use Rattle.crn_text.proofs.Remembered.{known_put}
 use Rattle.crn_text.proofs.known.Known.put.Goals as goal
 

@@ -1,6 +1,4 @@
-use Rattle.std.proofs.Common.{List, subst, sym}
-use Rattle.crn_vec.specs.Network.{Statement}
-use Rattle.crn_text.specs.Inner.Said.{AreIn}
+use Rattle.crn_text.proofs.Prelude.{List, subst, sym, Statement, AreIn}
 use Rattle.crn_text.proofs.ArrowsSaid.{said_at}
 use Rattle.crn_text.proofs.said.Said.has.Goals as goal
 

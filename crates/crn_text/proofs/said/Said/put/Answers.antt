@@ -1,4 +1,4 @@
-use Rattle.std.proofs.Common.{Some}
+use Rattle.crn_text.proofs.Prelude.{Some}
 use Rattle.crn_text.proofs.ArrowsSaid.{said_put}
 use Rattle.crn_text.proofs.said.Said.put.Goals as goal
 

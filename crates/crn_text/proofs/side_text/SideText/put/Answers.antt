@@ -1,5 +1,4 @@
-use Rattle.std.proofs.Common.{◌<◌, ◌∙◌, ◌++◌, ◌∷◌, [], List, ℕ, length, take, get_or, ap, sym, arith, append_assoc, take_all}
-use Rattle.std.proofs.lemmas.List.{append-nil, length-append, length-take-le, take_more}
+use Rattle.crn_text.proofs.Prelude.{◌<◌, ◌∙◌, ◌++◌, ◌∷◌, [], List, ℕ, length, take, get_or, ap, sym, arith, append_assoc, take_all, append-nil, length-append, length-take-le, take_more}
 use Rattle.crn_text.proofs.side_text.SideText.put.Goals as goal
 
 pub loop-byte-init : goal.loop-byte-init

@@ -1,4 +1,4 @@
-use Rattle.std.proofs.Common.{◌≡◌, ◌++◌, take}
+use Rattle.crn_text.proofs.Prelude.{◌≡◌, ◌++◌, take}
 use Rattle.crn_text.proofs.side_text.SideText.put.Given as goal
 
 abbrev pub invariant-loop-byte : goal.invariant-loop-byte

@@ -1,5 +1,4 @@
-use Rattle.std.proofs.Common.{◌≤◌, ◌+◌, ◌/◌, ◌%◌, ◌∙◌, length, ap, arith}
-use Rattle.std.proofs.lemmas.List.{length_push}
+use Rattle.crn_text.proofs.Prelude.{◌≤◌, ◌+◌, ◌/◌, ◌%◌, ◌∙◌, length, ap, arith, length_push}
 use Rattle.crn_text.proofs.SideTexts.{two_digits, one_digit}
 use Rattle.crn_text.proofs.side_text.SideText.put_number.Goals.{then-number-ge10, else-number-ge10}
 use Rattle.crn_text.proofs.side_text.SideText.put_number.Goals as goal

@@ -1,6 +1,4 @@
-use Rattle.std.proofs.Common.{◌≤◌, ◌+◌, ◌∙◌, length, ap, arith}
-use Rattle.std.specs.Prelude.{codes}
-use Rattle.std.proofs.lemmas.List.{length-append}
+use Rattle.crn_text.proofs.Prelude.{◌≤◌, ◌+◌, ◌∙◌, length, ap, arith, codes, length-append}
 use Rattle.crn_text.proofs.side_text.SideText.put_term.Goals.{then-before-gt0, else-before-gt0, then-amount-ne1, else-amount-ne1}
 use Rattle.crn_text.proofs.side_text.SideText.put_term.Goals as goal
 

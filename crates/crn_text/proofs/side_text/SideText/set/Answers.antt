@@ -1,7 +1,4 @@
-use Rattle.std.proofs.Common.{◌≡◌, ◌<◌, ◌∙◌, ◌++◌, ℕ, List, [], length, get_or, sym, ap, arith, take_all}
-use Rattle.std.specs.Prelude.{codes, pos}
-use Rattle.crn_io.specs.Joined.{with_separator}
-use Rattle.crn_text.specs.Canonical.{term, terms}
+use Rattle.crn_text.proofs.Prelude.{◌≡◌, ◌<◌, ◌∙◌, ◌++◌, ℕ, List, [], length, get_or, sym, ap, arith, take_all, codes, pos, with_separator, term, terms}
 use Rattle.crn_text.proofs.Texts.{read_amount, terms_same, terms_count, side_step, side_some, side_none}
 use Rattle.crn_text.proofs.side_text.SideText.set.Goals as goal
 

@@ -1,7 +1,5 @@
-use Rattle.std.proofs.Common.{◌≡◌, ◌≤◌, ◌*◌, take, length, codes}
-use Rattle.crn_io.specs.Joined.{joined}
-use Rattle.crn_text.specs.Canonical.{terms}
-use Rattle.crn_text.specs.declared.side_text.TheConstants.{TERM}
+use Rattle.crn_text.proofs.Prelude.{◌≡◌, ◌≤◌, ◌*◌, take, length, joined, terms, TERM}
+use Rattle.std.proofs.Common.{codes}
 use Rattle.crn_text.proofs.side_text.SideText.set.Given as goal
 
 abbrev pub invariant-loop-s : goal.invariant-loop-s

@@ -1,5 +1,4 @@
-use Rattle.std.proofs.Common.{arith}
-use Rattle.crn_vec.specs.Visits.{root}
+use Rattle.crn_vec.proofs.Prelude.{arith, root}
 use Rattle.crn_vec.proofs.Few.{visits_few, passes_few, root_weighs}
 use Rattle.crn_vec.proofs.laws.visits.budgets_that_are_never_spent.Goals as goal
 

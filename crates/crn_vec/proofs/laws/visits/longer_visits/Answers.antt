@@ -1,4 +1,4 @@
-use Rattle.crn_vec.specs.Visits.{root}
+use Rattle.crn_vec.proofs.Prelude.{root}
 use Rattle.crn_vec.proofs.VisitLaws.{longer_by, passes_by}
 use Rattle.crn_vec.proofs.laws.visits.longer_visits.Goals as goal
 

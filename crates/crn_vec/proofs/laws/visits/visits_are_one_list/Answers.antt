@@ -1,4 +1,4 @@
-use Rattle.crn_vec.specs.Visits.{root}
+use Rattle.crn_vec.proofs.Prelude.{root}
 use Rattle.crn_vec.proofs.VisitLaws.{are_one}
 use Rattle.crn_vec.proofs.laws.visits.visits_are_one_list.Goals as goal
 

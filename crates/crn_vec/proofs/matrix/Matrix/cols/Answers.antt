@@ -1,5 +1,4 @@
-use Rattle.std.proofs.Common.{subst}
-use Rattle.crn_vec.specs.Vectors.{Mat, AreOfLength}
+use Rattle.crn_vec.proofs.Prelude.{subst, Mat, AreOfLength}
 use Rattle.crn_vec.proofs.RowLists.{rows_of_length}
 use Rattle.crn_vec.proofs.matrix.Matrix.cols.Goals as goal
 

@@ -1,9 +1,4 @@
-use Rattle.std.proofs.Common.{◌≤◌, ◌<◌, ◌^◌, arith, lit<}
-use Rattle.std.specs.Prelude.{ℤ, unsigned_abs}
-use Rattle.std.specs.Int.{w128}
-use Rattle.std.proofs.lemmas.Int.{to_z-of_z, fits_signed_from_abs}
-use Rattle.crn_vec.specs.declared.limits.TheConstants.{MAX_AMOUNT}
-use Rattle.crn_vec.specs.Vectors.{entry}
+use Rattle.crn_vec.proofs.Prelude.{◌≤◌, ◌<◌, ◌^◌, arith, lit<, ℤ, unsigned_abs, w128, to_z-of_z, fits_signed_from_abs, MAX_AMOUNT, entry}
 use Rattle.crn_vec.proofs.RowLists.{within_at}
 use Rattle.crn_vec.proofs.matrix.Matrix.entry.Goals as goal
 

@@ -1,6 +1,4 @@
-use Rattle.std.proofs.Common.{ℕ, [], length, get_or, sym, ap, subst, ◌∙◌}
-use Rattle.crn_vec.specs.declared.limits.TheConstants.{MAX_AMOUNT}
-use Rattle.crn_vec.specs.Vectors.{Mat, AreWithin}
+use Rattle.crn_vec.proofs.Prelude.{ℕ, [], length, get_or, sym, ap, subst, ◌∙◌, MAX_AMOUNT, Mat, AreWithin}
 use Rattle.crn_vec.proofs.RowLists.{length-rows_of, within_rows}
 use Rattle.crn_vec.proofs.matrix.Matrix.rows.Goals as goal
 

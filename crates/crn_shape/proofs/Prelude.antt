@@ -1,0 +1,41 @@
+-- What this crate's proofs use of other crates and of its specs.
+pub use Rattle.crn_cert.proofs.CallerLemmas.{pair_places_are_pairs, some_top, tested_marks_are_sides, top_for as top_of, tops_are, tops_below, tops_of, widths, zeros_below as zeros_to}
+pub use Rattle.crn_cert.specs.ClassTests.{AreSideMarks}
+pub use Rattle.crn_cert.specs.Parts.{AreSides as AreFormedSides}
+pub use Rattle.crn_cert.specs.Questions.{Earlier, Q2, on}
+pub use Rattle.crn_cert.specs.Ranges.{AreBits, IsNarrow}
+pub use Rattle.crn_cert.specs.Says.{AreStrongClasses, IsTrueOf, from_zero}
+pub use Rattle.crn_cert.specs.Tests.{AllHold}
+pub use Rattle.crn_cert.specs.Valid.{linkage, pair_places, side_tests}
+pub use Rattle.crn_shape.specs.Inner.Pairs.{GoesAcross, IsFirstAcross, IsPairFor, IsSide, opposite_linked}
+pub use Rattle.crn_shape.specs.Inner.Tops.{top_for, zeros_below}
+pub use Rattle.crn_shape.specs.Shapes.{AreForShape, IsPairIn, ends_of, no_pair, pair_of, shape_of}
+pub use Rattle.crn_shape.specs.Sides.{AreSides, IsSideOf}
+pub use Rattle.crn_shape.specs.declared.pairs.LinkedPair.{LinkedPair}
+pub use Rattle.crn_vec.proofs.CallerLemmas.{all_append, all_at, all_in, all_map, all_push, amounts_within, at_in, dot-comm, eq_or, few_pairs, free_back, held, in_map, inside_at, leads_back, leads_here, length-rows, lt_or, map_more, mark_no, mark_yes, one_ne_zero, other_step, product_within, reaction_in, reaction_long, row_chosen, row_open, sum_within, top_inside, within_at, within_from, zip_push}
+pub use Rattle.crn_vec.specs.Concordance.{row_kinds}
+pub use Rattle.crn_vec.specs.Confluence.{IsRegular}
+pub use Rattle.crn_vec.specs.CutPairs.{IsBetween, IsFirstOfPair, IsFreeStep, IsOnSide, IsTerminalPair}
+pub use Rattle.crn_vec.specs.Deficiency.{IsLabelled}
+pub use Rattle.crn_vec.specs.Elementary.{width}
+pub use Rattle.crn_vec.specs.Linkage.{IsLinked}
+pub use Rattle.crn_vec.specs.Lists.{IsIn}
+pub use Rattle.crn_vec.specs.NetSignals.{AreTops, IsPairOf, IsShapeOf, opposite_pair, opposite_shape, top_at}
+pub use Rattle.crn_vec.specs.Network.{IsNetwork, IsVector, Net, reaction_vector}
+pub use Rattle.crn_vec.specs.Signals.{Pair, Shape, complex_row, pair_kind, pair_row, shelf_kinds, shelf_matrix, top_kind}
+pub use Rattle.crn_vec.specs.Strong.{IsReaction}
+pub use Rattle.crn_vec.specs.Sums.{AreMarks}
+pub use Rattle.crn_vec.specs.Systems.{kind_at}
+pub use Rattle.crn_vec.specs.Vectors.{AreWithin, dot, entry}
+pub use Rattle.crn_vec.specs.declared.limits.TheConstants.{MAX_AMOUNT, MAX_COMPLEXES, WIDE_SOLUTION}
+pub use Rattle.crn_vec.specs.declared.signs.Kind.{Kind}
+pub use Rattle.crn_vec.specs.declared.signs.Kind.TheVariants.{Free}
+pub use Rattle.crn_vec.specs.declared.signs.Sign.{Sign}
+pub use Rattle.std.proofs.Common.{Bool, List, [], ap, ap₂, arith, cond, drop, get_or, inl, inr, length, map, refl, subst, suc, sym, take, zero, ℕ, ◌*◌, ◌++◌, ◌+◌, ◌-◌, ◌<◌, ◌==◌, ◌^◌, ◌∙◌, ◌∷◌, ◌≡◌, ◌≤◌, ◌⊎◌}
+pub use Rattle.std.proofs.Math.Seq.{take-append_seam}
+pub use Rattle.std.proofs.lemmas.Bool.{cases_Bool, eq-eqb, eqb-true}
+pub use Rattle.std.proofs.lemmas.Int.{ints, to_z-of_z}
+pub use Rattle.std.proofs.lemmas.List.{ext_get_or, get_or-append_right, get_or-map, get_or-set_other, get_or-set_same, get_or_append_left, length-append, length-map, length-set, take_more, with_items_is}
+pub use Rattle.std.specs.Int.{w128}
+pub use Rattle.std.specs.List.{AllByRecursion, AllZip}
+pub use Rattle.std.specs.Prelude.{None, Option, Some, neg_ℤ, negsuc, pos, slice_set, unsigned_abs, ℤ, ◌*ℤ◌}
