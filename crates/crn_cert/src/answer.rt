@@ -1,3 +1,6 @@
+ghost use Rattle.std.specs.Prelude.{◌≡◌};
+ghost use Rattle.crn_cert.specs.Answers.{plain};
+
 use crate::rank_list::RankList;
 use crate::rows::Rows;
 use crate::tree::Tree;
@@ -134,4 +137,16 @@ pub enum Proof {
 pub struct Answer {
     pub verdict: Verdict,
     pub proof: Proof,
+}
+
+impl Answer {
+    /// The answer with a verdict that nothing has to show, as an open one.
+    pub fn plain(verdict: Verdict) -> Self
+        ensures { result ≡ plain verdict }
+    {
+        Self {
+            verdict,
+            proof: Proof::Nothing,
+        }
+    }
 }
