@@ -1,5 +1,5 @@
 -- Parts of definitions that compute, at small networks worked by hand.
-use Rattle.crn_cert.proofs.Prelude.{◌≡◌, ℕ, ◌≤◌, List, [], ◌∷◌, refl, arith, lit≤, pos, negsuc, range_with_len, WIDE_SOLUTION, KeptNums, combination_at, vectors, reaction_system, confluence_system, Classes, Strong, NotRegular, NotApplicable, least_from, others_than, tie_at, outside, Zero, Plus, Minus, plain_table, strong_table, Test, Plan, Both, Three, RulesA, Level, IsFormedTree, tree_tests, cuts_of, Net, Budget, Unknown, Earlier, HeadMayBe, MayRestOn, terminals_in, class_places, pair_places, Earlier, Q1, Q2, Q6, Q7, Q12, Q13, on, fault_number}
+use Rattle.crn_cert.proofs.Prelude.{◌≡◌, ℕ, ◌≤◌, List, [], ◌∷◌, refl, arith, lit≤, pos, negsuc, range_with_len, WIDE_SOLUTION, KeptNums, combination_at, vectors, reaction_system, confluence_system, Classes, Strong, NotRegular, NotApplicable, least_from, others_than, tie_at, outside, Zero, Plus, Minus, plain_table, strong_table, Test, Plan, Both, Three, RulesA, Level, IsFormedTree, tree_tests, cuts_of, Net, Budget, Unknown, Earlier, HeadMayBe, MayRestOn, terminals_in, class_places, pair_places, Q1, Q2, Q6, Q7, Q12, Q13, on, fault_number}
 use Rattle.crn_cert.proofs.Networks.{chain, enzyme}
 
 abbrev listed : List ℕ → KeptNums

@@ -36,8 +36,8 @@ pub use Rattle.crn_check.specs.declared.facts.Room.{Room}
 pub use Rattle.crn_check.specs.declared.fault.CheckFault.{CheckFault}
 pub use Rattle.crn_check.specs.declared.members.Members.{Members}
 pub use Rattle.crn_check.specs.declared.members.Members.TheVariants.{All}
-pub use Rattle.crn_pairs.specs.Pairs.{is_pair, pairs_to}
 pub use Rattle.crn_shape.proofs.CallerLemmas.{dot_within, narrow_within, tested_sides}
+pub use Rattle.crn_shape.specs.Pairs.{is_pair, pairs_to}
 pub use Rattle.crn_shape.specs.Sides.{AreClassesBy, AreSides}
 pub use Rattle.crn_vec.proofs.CallerLemmas.{above_ascending, above_in, above_lower, all_at, all_from, all_given, all_in, amounts_within, and_no, and_true, any_has, any_is, at_in, column_past, dot_none, dot_split, dot_step, dot_zero, entry-column, entry_of_zeros, eq_or, filter_ascending, filter_few, filter_from, filter_has, held, in_at, in_left, in_range, label_mark, length-column, length-label_marks, lt_or, negative_space, next_sum, nought_adds, past_end, range_more, reaction_long, refused, signals_are_of_shape, sum_within, vector_at, vector_long, vectors_count, vector_width as width_at, within_at, within_drop, within_more, within_set, within_take, zero_adds, zeros_within}
 pub use Rattle.crn_vec.specs.Concordance.{sign}

@@ -7,7 +7,7 @@ ghost use Rattle.crn_cert.specs.Valid.{IsWithinTerminal, ends_at, regular_head, 
 ghost use Rattle.crn_check.specs.Check.{Judges};
 ghost use Rattle.crn_check.specs.Facts.{AreFactsOf, HoldsOn};
 ghost use Rattle.crn_check.specs.Inner.Tests.{IsAllowed, allowed_tests, walk_tests};
-ghost use Rattle.crn_pairs.specs.Pairs.{is_within};
+ghost use Rattle.crn_shape.specs.Pairs.{is_within};
 
 use crate::facts::Facts;
 use crate::fault::CheckFault;

@@ -3,13 +3,13 @@ ghost use Rattle.crn_cert.specs.ClassTests.{AreSideMarks};
 ghost use Rattle.crn_cert.specs.Parts.{AreSides};
 ghost use Rattle.crn_check.specs.Check.{Judges};
 ghost use Rattle.crn_check.specs.Inner.Ordered.{AreEqualBut, AreZeroOutside, ordered_tests};
-ghost use Rattle.crn_pairs.specs.Pairs.{pairs_to};
+ghost use Rattle.crn_shape.specs.Pairs.{pairs_to};
 
 use crate::fault::CheckFault;
 use crate::ways::is_between;
 use crn_cert::Rows;
 use crn_net::Network;
-use crn_pairs::is_pair;
+use crn_shape::is_pair;
 
 // Whether marks are 0 at each complex of another class.
 fn are_zero_outside(labels: &[u32], class: u32, marks: &[i128]) -> bool

@@ -3,8 +3,8 @@ use Rattle.crn_ctext.proofs.Prelude.{◌≡◌, ◌⊎◌, ◌+◌, ◌∙◌, �
 use Rattle.crn_cert.specs.declared.answer.Gap.TheVariants.{Rests}
 use Rattle.crn_cert.specs.declared.answer.Verdict.TheVariants.{Classes, Strong, Rank, Deficiency, Yes, YesWeak, YesVec, YesSignal, No, NoReaction, NoNumber, NoTerminal, NoClass, NoSum, NoDependence, NoCycle, NotRegular, OnlyZero, Plane, NotApplicable}
 use Rattle.crn_cert.specs.Tests.{Test, test}
-use Rattle.crn_cert.specs.Table as table
 use Rattle.crn_cert.specs.Blocks.{head_of as kind_of}
+use Rattle.crn_cert.specs.Table as table
 use Rattle.crn_ctext.specs.Documents as documents
 use Rattle.crn_ctext.proofs.Forms.{head_record, row_records, spent_place, rests_place}
 use Rattle.crn_ctext.proofs.BlockLaws.{PairsFor}

@@ -1,11 +1,11 @@
 -- The verdict that the records of a block say is that of the block.
 use Rattle.crn_ctext.proofs.Prelude.{◌≡◌, ◌∙◌, ℕ, List, [], ◌∷◌, length, map, refl, sym, ap, ap₂, subst, inl, inr, ℤ, pos, AllZip, flat_map, range_with_len, append-nil, abs_back, KeptNums, WideGap, Question, Q1, Q2, Q3, Q4, Q5, Q6, Q7, Q8, Q9, Q10, Q11, Q12, Q13, Q14, Q15, on, Known, has_vector, nums, turn_of, wide_gap, verdict_by, said_verdict, said_sizes, kind_at, IsTurn, HeadKind, Classes, Strong, Rank, Deficiency, Yes, YesWeak, YesVec, YesSignal, No, NoReaction, NoVec, NoNumber, NoTerminal, NoClass, NoSum, NoDependence, NoCycle, NoPair, NotRegular, OnlyZero, Plane, NotApplicable, Rests, Datum, Num, Nums, Ints, Led, Basis, Row, rank_rows, fields, FitsRow, FitsHead, ints_in, AllOf, given, fields_in, head_back, rows_back}
-use Rattle.crn_cert.specs.declared.answer.Verdict.TheVariants as verdict
-use Rattle.crn_ctext.proofs.Forms.{numbers_of, head_record, row_records, spent_place, rests_place}
 use Rattle.crn_cert.specs.declared.head_kind.HeadKind.TheVariants.{Wide, Budget}
 use Rattle.crn_cert.specs.Table.{rows, sizes_of}
 use Rattle.crn_cert.specs.Blocks.{verdict_of}
 use Rattle.crn_cert.proofs.CallerLemmas.{fields_of}
+use Rattle.crn_cert.specs.declared.answer.Verdict.TheVariants as verdict
+use Rattle.crn_ctext.proofs.Forms.{numbers_of, head_record, row_records, spent_place, rests_place}
 
 -- the records of a head and of the rows below it say the verdict of the block
 abbrev pub IsSaid : Known → Question → HeadKind → List Datum → List Datum → Type 0

@@ -1,11 +1,11 @@
 -- The proof that the records below a head show is that of the block, but for its trees.
 use Rattle.crn_ctext.proofs.Prelude.{◌≡◌, ◌∙◌, ◌-◌, ◌+◌, ◌++◌, ℕ, zero, suc, List, [], ◌∷◌, length, map, take, drop, refl, sym, ap, ap₂, subst, ℤ, pos, replicate, codes, AllByRecursion, AllZip, flat_map, range_with_len, append-nil, take-map, drop-map, abs_back, all_append, KeptNums, RankProof, Question, Q1, Q2, Q3, Q4, Q5, Q6, Q7, Q8, Q9, Q10, Q11, Q12, Q13, Q14, Q15, on, linkage_count, pair_places, HeadKind, Classes, Strong, Rank, Deficiency, Yes, YesWeak, YesVec, YesSignal, No, NoReaction, NoVec, NoNumber, NoTerminal, NoClass, NoSum, NoDependence, NoCycle, NoPair, NotRegular, OnlyZero, Plane, NotApplicable, Rests, Datum, Num, Nums, Ints, Marks, Led, FreeSeveral, Side, AreClassProofs, tight_rank, Row, row, rank_rows, class_rows, fields, Block, FitsBlock, FitsRow, FitsHead, proof_of, rank_proof, class_proofs, rank_data, list_in, AllOf, given, fields_in, head_back, rows_back, classes_formed, blocks_are_of_answers, kind_at, later_numbers, Record, rank_records, Known, has_vector, nums, lists, shapes_of, said_sizes, ranks_of, said_proof, said_rank, said_classes}
-use Rattle.crn_cert.specs.declared.answer.Proof.TheVariants as proof
 use Rattle.crn_cert.specs.declared.head_kind.HeadKind.TheVariants.{Wide, Budget}
 use Rattle.crn_cert.specs.Data.{Field, Fits}
 use Rattle.crn_cert.specs.Table.{rows, sizes_of}
 use Rattle.crn_cert.proofs.CallerLemmas.{fields_of}
 use Rattle.crn_ctext.specs.Meaning.{proof_by}
+use Rattle.crn_cert.specs.declared.answer.Proof.TheVariants as proof
 use Rattle.crn_ctext.proofs.RanksLinked.{places_from, sizes_from, classes_said as ranks_said}
 use Rattle.crn_ctext.proofs.RecordsDerived.{classes_said}
 use Rattle.crn_ctext.proofs.BlocksFormed.{answers_formed, classes_tight}

@@ -1,7 +1,7 @@
 -- The records of formed answers whose trees have few nodes are few.
 use Rattle.crn_ctext.proofs.Prelude.{◌≡◌, ◌≤◌, ◌<◌, ◌*◌, ◌++◌, ℕ, Bool, false, List, [], ◌∷◌, length, refl, sym, subst, inl, inr, arith, AllByRecursion, length-append, Net, IsNetwork, MAX_DOCUMENT, MAX_BUDGET, Verdict, Proof, Answer, Earlier, Question, Q1, Q2, Q3, Q4, Q5, Q6, Q7, Q8, Q9, Q10, Q11, Q12, Q13, Q14, Q15, built, IsFormedOf, Plan, Both, Three, RulesA, RulesB, Level, node_count, HasFewNodes, HaveFewNodes, IsTreeless, nodes, proof_nodes, all_records, Share, FitsShare, document, document2, records_of, Known, meaning}
-use Rattle.crn_cert.specs.declared.answer.Proof.TheVariants as proof
 use Rattle.crn_cert.specs.Formed.{AreFormed}
+use Rattle.crn_cert.specs.declared.answer.Proof.TheVariants as proof
 use Rattle.crn_ctext.proofs.Joined.{parts}
 use Rattle.crn_ctext.proofs.RecordsTold.{AreInOrder}
 use Rattle.crn_ctext.proofs.BlocksLinked.{joined}

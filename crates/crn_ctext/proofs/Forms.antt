@@ -1,10 +1,10 @@
 -- The forms and the records of documents, from the table of blocks.
 use Rattle.crn_ctext.proofs.Prelude.{ℤ, pos, negsuc, Option, Some, None, codes, flat_map, range_with_len, Question, Datum, Odd, Num, Int, Nums, Ints, Marks, Led, Basis, Row, fields, HeadKind, Classes, Strong, Rank, Deficiency, Yes, YesWeak, YesVec, YesSignal, No, NoReaction, NoVec, NoNumber, NoTerminal, NoClass, NoSum, NoDependence, NoCycle, NoPair, NotRegular, OnlyZero, Plane, NotApplicable, Rests, Record, Form, Small, Members, CountAndPart, TwoOf, Rising, small, just, head_word, decided, open_kinds, wide_signal, spent, rests, open_by, place_of}
 use Rattle.std.specs.Prelude.{◌≡◌, refl, ◌+◌, ℕ, suc, Bool, true, false, List, [], ◌∷◌, ◌++◌, map}
-use Rattle.crn_cert.specs.Data as typed
 use Rattle.crn_cert.specs.Data.{Two, Field}
 use Rattle.crn_cert.specs.Table.{Sizes}
 use Rattle.crn_cert.specs.declared.head_kind.HeadKind.TheVariants.{Wide, Budget}
+use Rattle.crn_cert.specs.Data as typed
 use Rattle.crn_ctext.specs.Records as records
 use Rattle.crn_ctext.specs.Questions as questions
 

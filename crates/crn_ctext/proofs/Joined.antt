@@ -1,7 +1,7 @@
 -- An answer and its records: what is required of the one is required of the other.
 use Rattle.crn_ctext.proofs.Prelude.{◌≡◌, ◌++◌, ◌∙◌, Bool, List, [], refl, sym, ap, ap₂, subst, append_cancel_left, Sign, tail_is, Verdict, Proof, Answer, Question, tight, AllHold, IsFormedOf, head_tests, row_tests, IsValid, hold_append, hold_parts, Record, Problem, Parts, IsFormed, AreTrees, IsGoodLeaf, IsOneOf, leaf_forms, head_of, records_below, proof_nodes, records, Known, shapes_of, sizes_of, verdict_of, meaning}
-use Rattle.crn_ctext.specs.Documents as documents
 use Rattle.crn_ctext.specs.Meaning.{proof_of}
+use Rattle.crn_ctext.specs.Documents as documents
 use Rattle.crn_ctext.proofs.Shown.{shown}
 use Rattle.crn_ctext.proofs.KnownBefore.{AreKnown, IsStrongTrue}
 use Rattle.crn_ctext.proofs.AnswersApart.{block_apart}

@@ -77,8 +77,8 @@ pub use Rattle.crn_io.specs.Write.{Wrote, WroteAll, WrotePrefix}
 pub use Rattle.crn_io.specs.declared.lines.TheConstants.{MAX_AHEAD, MAX_DOCUMENT, MAX_LINE, MAX_NUMBERS, MAX_SHARED}
 pub use Rattle.crn_io.specs.declared.next.Next.{Next}
 pub use Rattle.crn_io.specs.declared.next.Next.TheVariants.{Failed, Last}
-pub use Rattle.crn_pairs.proofs.CallerLemmas.{pairs_no, pairs_yes}
-pub use Rattle.crn_pairs.specs.Pairs.{is_pair, pairs_to}
+pub use Rattle.crn_shape.proofs.CallerLemmas.{pairs_no, pairs_yes}
+pub use Rattle.crn_shape.specs.Pairs.{is_pair, pairs_to}
 pub use Rattle.crn_text.proofs.CallerLemmas.{digit_is, good_terms, held, held_length, judged, line_text, no_fault, no_lf, side_held, side_length, side_text, spelling_unique, spells_its_network, value_grows}
 pub use Rattle.crn_text.specs.Canonical.{canonical, complex_text, reaction_line}
 pub use Rattle.crn_text.specs.Spells.{Spells}

@@ -1,7 +1,7 @@
 -- The formed records of a block are those of a formed answer, which they say.
 use Rattle.crn_ctext.proofs.Prelude.{◌≡◌, ◌∙◌, Bool, true, List, [], ◌∷◌, sym, ap, ap₂, subst, flat_map, head_is, tail_is, Verdict, Proof, Question, Q11, Q13, Block, proof_of, block_of, IsFormedOf, blocks_are_of_answers, Record, Parts, nodes, head_of, records_below, proof_nodes, Known, shapes_of, sizes_of, said_verdict, meaning}
-use Rattle.crn_cert.specs.Table as table
 use Rattle.crn_cert.specs.Blocks.{verdict_of}
+use Rattle.crn_cert.specs.Table as table
 use Rattle.crn_ctext.specs.Documents as documents
 use Rattle.crn_ctext.proofs.Forms.{head_record, row_records}
 use Rattle.crn_ctext.proofs.BlockLaws.{PairsFor}

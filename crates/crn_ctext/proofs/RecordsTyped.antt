@@ -1,11 +1,11 @@
 -- Records that fit the forms of a question are those of a block of the table that fits.
 use Rattle.crn_ctext.proofs.Prelude.{◌≡◌, ◌++◌, ℕ, suc, List, [], ◌∷◌, map, refl, sym, ap₂, subst, inl, inr, ℤ, Option, Some, None, AllZip, flat_map, IsIn, Question, Record, Form, head_word, below, IsOneOf, shapes_of, HeadKind, Datum, OneAnd, Walk, FreeSeveral, Shelves, Side, WideOf, Row, fields, FitsFields, FitsHead, FitsRow}
+use Rattle.crn_cert.specs.Data.{Field, One, CountAndPart, TwoOf, Several, Members, Free, Turn, Wide, ClassWide}
+use Rattle.crn_cert.specs.Table.{Sizes}
 use Rattle.crn_ctext.specs.Records as records
 use Rattle.crn_ctext.proofs.Forms.{numbers_of}
-use Rattle.crn_cert.specs.Data.{Field, One, CountAndPart, TwoOf, Several, Members, Free, Turn, Wide, ClassWide}
 use Rattle.crn_cert.specs.Table as table
 use Rattle.crn_ctext.proofs.Forms.{words, kinds}
-use Rattle.crn_cert.specs.Table.{Sizes}
 use Rattle.crn_ctext.proofs.Forms.{row_records}
 use Rattle.crn_ctext.proofs.Forms.{ways, ways_of, way_of, forms_at, forms_from, forms, row_form}
 use Rattle.crn_ctext.proofs.BlockLaws.{RecordsAreBlocks}

@@ -1,10 +1,10 @@
 -- Records of a block that fits are those of the forms of its question.
 use Rattle.crn_ctext.proofs.Prelude.{◌≡◌, ◌-◌, ◌++◌, ℕ, zero, suc, List, [], ◌∷◌, length, map, refl, sym, subst, inl, inr, AllByRecursion, AllZip, range_with_len, IsIn, class_places, pair_places, Question, Q1, Q2, Q3, Q5, Q6, Q7, Q8, Q11, Q12, Q13, Q14, Q15, Record, Form, AreOf, below, IsOneOf, Known, shapes_of, HeadKind, Classes, Strong, Rank, Deficiency, Yes, YesVec, YesSignal, NoVec, NoCycle, NoPair, OnlyZero, Plane, Datum, Row, rank_rows, rank_in, class_rows, rows_by, others, FitsRow}
 use Rattle.std.proofs.Common.{replicate}
+use Rattle.crn_cert.specs.Table.{Sizes}
 use Rattle.crn_ctext.specs.Records as records
 use Rattle.crn_ctext.proofs.Forms.{numbers_of}
 use Rattle.crn_cert.specs.Table as table
-use Rattle.crn_cert.specs.Table.{Sizes}
 use Rattle.crn_ctext.proofs.Forms.{row_record, row_records}
 use Rattle.crn_ctext.proofs.Forms.{ways, way_of, forms, row_form}
 use Rattle.crn_ctext.proofs.BlockLaws.{BlocksAreRecords}

@@ -1,15 +1,15 @@
 -- The answers to the questions that are built, as documents write them.
 use Rattle.crn_ctext.proofs.Prelude.{◌↔◌, ap₂, subst, cond, ◌≤◌, if◌then◌else◌, ◌≡◌, ℕ, zero, suc, ◌+◌, Bool, true, false, List, [], ◌∷◌, ◌++◌, length, map, take, refl, sym, ap, ◌∙◌, append_assoc, arith, AllByRecursion, AllZip, flat_map, int_eq, pointwise, map-append, filter-append, firsts, MAX_SHARED, MAX_NUMBERS, Shared, HasAt, FitsAnswers, cuts_of, cuts_in, all_cuts, number_in, share_of_cuts, share_of, as_share, Plan, Both, Three, RulesA, RulesB, Level, Net, IsNetwork, all_append, cut_shares_fit, IsTreeless, treeless, built, IsFormedOf, IsFormedAnswer, HeadKind, trees, numbered, number, Earlier, Question, Q1, Q2, Q3, Q4, Q5, Q6, Q7, Q8, Q9, Q10, Q11, Q12, Q13, Q14, Q15, on, pair_places, Wide, Budget, Verdict, Unknown, Proof, Answer, Record, IsNarrow, Shapes, opens, records, all_records, head_of, verdict_records, later_records, side_records, records_below, proof_records, proof_nodes, nodes, Share, FitsShare, is_cut_leaf, cut_lists, document, document2, opening, record_lines, table_records, written, in_sections, section, Known, pairs_of, shapes_of, sizes_of, verdict_of, meaning, HoldsNoSides, records_of, question_at, shapes_with, blocks, strong_pairs, pairs_in, tight}
 use Rattle.std.proofs.Common.{filter, ℤ, codes}
-use Rattle.crn_cert.specs.Ranges as ranges
 use Rattle.crn_cert.specs.Shares.{IsShareable}
+use Rattle.crn_cert.specs.Formed.{AreFormed}
+use Rattle.crn_cert.specs.declared.answer.Gap.TheVariants.{Rests}
+use Rattle.crn_cert.specs.declared.answer.Verdict.TheVariants.{Classes, Strong, Rank}
+use Rattle.crn_cert.specs.Ranges as ranges
 use Rattle.crn_ctext.specs.Documents as documents
 use Rattle.crn_ctext.proofs.TablesLinked.{concordant_tree, strongly_tree}
 use Rattle.crn_ctext.proofs.SignalLinked.{signal_trees}
 use Rattle.crn_ctext.proofs.CutLists.{one_tree_cuts, signal_cuts}
-use Rattle.crn_cert.specs.Formed.{AreFormed}
-use Rattle.crn_cert.specs.declared.answer.Gap.TheVariants.{Rests}
-use Rattle.crn_cert.specs.declared.answer.Verdict.TheVariants.{Classes, Strong, Rank}
 use Rattle.crn_cert.specs.declared.answer.Proof.TheVariants as proof
 use Rattle.crn_ctext.proofs.KnownBefore.{IsStrong, formed_right, strong_stays, strong_tight, pairs_known, pairs_stay}
 use Rattle.crn_ctext.proofs.AnswersLinked.{linkage_next, strong_next}

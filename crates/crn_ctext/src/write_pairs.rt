@@ -1,11 +1,11 @@
 ghost use Rattle.std.specs.Prelude.{◌≡◌, ◌≤◌, take, length};
 ghost use Rattle.crn_vec.specs.declared.limits.TheConstants.{MAX_REACTIONS};
-ghost use Rattle.crn_pairs.specs.Pairs.{pairs_to};
+ghost use Rattle.crn_shape.specs.Pairs.{pairs_to};
 ghost use Rattle.crn_ctext.specs.Inner.Written.{pairs_in};
 
 use crn_cert::{Answers, Verdict};
 use crn_net::Network;
-use crn_pairs::is_pair;
+use crn_shape::is_pair;
 use crn_vec::MAX_REACTIONS;
 
 // Room for the least reaction of each linked pair within a terminal class.

@@ -1,8 +1,8 @@
 -- The tests of a block, in the words of a document's course, and what is known after it.
 use Rattle.crn_document.proofs.Prelude.{◌≡◌, ◌≤◌, ◌+◌, ◌-◌, ◌++◌, ◌∙◌, ℕ, zero, suc, Bool, true, false, ◌==◌, ◌&&◌, List, [], ◌∷◌, length, map, replicate, refl, sym, subst, ap, ap₂, inl, inr, arith, Result, ℤ, if◌then◌else◌, slice_index_or, AllByRecursion, AllZip, flat_map, eqb-true, length-map, map-append, Place, Net, MAX_COMPLEXES, Verdict, No, Yes, Rests, Proof, Answer, Earlier, Question, Q2, Q13, Q14, Q15, on, terminal_of, Test, AllHold, FailsFirst, HasVector, exits, head_tests, linkage, linkage_count, row_tests, strong, tests_of, pairs_to, IsFormed, IsFormedOf, hold_parts, Record, Form, Fits, decided, kind_at, later_numbers, open_kinds, Course, Give, ◌>>=◌, Gives, AfterBlocks, Problem, asks_all, asks_trees, below, claims, has_tree, StepGives, SourceSeen, and_first, zip_long, records_formed, PairsFor, Reading, CheckStop, StepIs, step_map, step_then_is, Known, lists, problems_by, sizes_of, shapes_of, verdict_by, verdict_of, proof_by, proof_of, meaning, KeptFacts, asked, AsksForTree, IsBuilt, shown_by_tree, tree_place, tight, Part, verdict_of_head, FitAnswer, part_proofs, proof_of_head, IsKnownFor, parts_below, AreRows, MayBeRow, fixed_rows, many_rows, part_rows, row_form, rows_below, Row, Comb, Dual, M, Mu, Shelves, Side, Tie, Weights, IsHead, known_of, class_count, HeadHolds, IsAfter, IsBlock, Learns, after_at, after_by, end_course, forms_below, head_course, many_after, parts_after, rows_course, tests_course}
+use Rattle.crn_document.specs.Inner.Answer.{kind_of}
 use Rattle.crn_ctext.specs.Course as course
 use Rattle.crn_ctext.specs.Meaning as said
-use Rattle.crn_document.specs.Inner.Answer.{kind_of}
 use Rattle.crn_document.proofs.Fields.{part_within}
 use Rattle.crn_document.proofs.Ranks.{AreRanks}
 use Rattle.crn_document.proofs.HeadKinds.{heads_hold, tight_and_bare}

@@ -1,8 +1,8 @@
 -- Lines of a tree that were met before are nodes that are due.
 use Rattle.crn_document.proofs.Prelude.{◌≡◌, ◌<◌, ◌++◌, ◌∙◌, true, false, ℕ, Option, zero, suc, List, [], ◌∷◌, length, get_or, refl, sym, ap, subst, arith, Result, ℤ, codes, length-append, get_or-append_seam, Sign, Net, Signed, Place, Said, Splits, Flats, CutsA, CutsB, known_words, tree_words, Record, KeptLines, Gives, due, StepGives, CutA, CutB, IsReadAs, forms_of, is_after, misplaced, text_of, Word, Expect, step_then, NodeGives, KeptCut, TreeProblem, Step, TreeFault, MetLine, NodeLine, Read, AreMet, IsCutOf, IsNodeLineAs, IsMet, IsMetAt, IsDueNodeLine, SaysPlainly, plain_node, ExpectsNode, IsSaidAs, JudgeGives, asks_node_for, reads_one, tests_give}
 use Rattle.crn_ctext.specs.Expect.{tests_of}
-use Rattle.crn_ctext.specs.declared.word.Word.TheVariants as words
 use Rattle.crn_document.specs.declared.node.NodeLine.TheVariants.{Known}
+use Rattle.crn_ctext.specs.declared.word.Word.TheVariants as words
 use Rattle.crn_document.proofs.NodeRecords.{node_said}
 use Rattle.crn_document.proofs.NodeWords.{node_is}
 

@@ -89,8 +89,6 @@ pub use Rattle.crn_io.specs.Device.{SourceSeen}
 pub use Rattle.crn_io.specs.Lines.{Place, beginning}
 pub use Rattle.crn_io.specs.Next.{KeptLines, place}
 pub use Rattle.crn_io.specs.declared.lines.TheConstants.{MAX_DOCUMENT, MAX_NUMBERS, MAX_SHARED}
-pub use Rattle.crn_pairs.proofs.CallerLemmas.{pairs_no, pairs_yes}
-pub use Rattle.crn_pairs.specs.Pairs.{pairs_to}
 pub use Rattle.crn_reading.proofs.CallerLemmas.{end_exits, last_all, last_exits, last_is, last_then, memory_stops, read_to_the_end, reads_one, step_exits, step_gives, step_map, step_says, step_then_ends, step_then_is, stop_after, stop_first, stops_here, tests_fail, tests_give, text_answered, text_read}
 pub use Rattle.crn_reading.specs.Ending.{EndStepIs, LastIs, ends_with}
 pub use Rattle.crn_reading.specs.Opening.{count_course, network_course, title_course}
@@ -99,6 +97,8 @@ pub use Rattle.crn_reading.specs.Records.{IsSaid, asks_for}
 pub use Rattle.crn_reading.specs.Steps.{CanRead, GoesOn, IsNew, IsVersion, StepIs, StopIs}
 pub use Rattle.crn_reading.specs.declared.fault.CheckStop.{CheckStop}
 pub use Rattle.crn_reading.specs.declared.reading.Reading.{Reading}
+pub use Rattle.crn_shape.proofs.CallerLemmas.{pairs_no, pairs_yes}
+pub use Rattle.crn_shape.specs.Pairs.{pairs_to}
 pub use Rattle.crn_shape.specs.Sides.{AreClassesBy, AreSides}
 pub use Rattle.crn_vec.proofs.CallerLemmas.{above_ascending, abs_back, all_from, all_in, and_first, filter_above, filter_few, filter_from, in_right, length-scale, negatives_have_opposite_shapes, range_above, range_bounds, range_more, reaction_in, rows_count, shapes_are_one, weakly_reversible_by_reactions}
 pub use Rattle.crn_vec.specs.Confluence.{HasConfluenceLine, IsNormalVector, IsRegular, negative}

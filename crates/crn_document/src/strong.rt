@@ -3,13 +3,13 @@ ghost use Rattle.crn_vec.specs.declared.limits.TheConstants.{MAX_REACTIONS};
 ghost use Rattle.crn_cert.specs.Questions.{Q2, on, terminal_of};
 ghost use Rattle.crn_cert.specs.Valid.{strong, exits};
 ghost use Rattle.crn_check.specs.Facts.{HoldsOn};
-ghost use Rattle.crn_pairs.specs.Pairs.{pairs_to};
+ghost use Rattle.crn_shape.specs.Pairs.{pairs_to};
 
 use crn_cert::Verdict;
 use crn_check::Facts;
 use crn_io::NoMemory;
 use crn_net::Network;
-use crn_pairs::is_pair;
+use crn_shape::is_pair;
 use crn_vec::Nums;
 use std::alloc::Global;
 

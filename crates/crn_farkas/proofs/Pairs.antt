@@ -1,7 +1,7 @@
 -- A vector that a basis names by a coordinate outside it and one that it names by a member: two products add up to 0.
 use Rattle.crn_farkas.proofs.Prelude.{◌≡◌, ◌≢◌, ℕ, zero, suc, ◌+◌, ◌<◌, ◌⊎◌, inl, inr, List, [], ◌∷◌, take, drop, refl, sym, ap, subst, ◌∙◌, arith, ℤ, pos, negsuc, ◌+ℤ◌, ◌*ℤ◌, neg_ℤ, unsigned_abs, true, ◌∣◌, ints, dvd-zero, false≢true, Kind, Pos, Neg, NonNeg, Free, Mat, entry, dot, column, scale, IsIn, width, InRowSpace, InDualSpace, IsNamed, IsNamedRow, IsNamedColumn, HasKind, is_signed, no_zero, mul-neg, length-scale, entry-scale, dot-scale, dot-scale-right, part, orthogonal, dot_single, take-scale, NamesRows, isIn_or, one_row, as_row}
-use lib.IntN.{*ℤ-zero, zero-*ℤ}
 use Rattle.crn_vec.specs.declared.signs.Kind.TheVariants.{Zero}
+use lib.IntN.{*ℤ-zero, zero-*ℤ}
 
 -- all products but two are 0
 dot_pair : (v w : List ℤ) (c g : ℕ) → c ≢ g → ((i : ℕ) → i ≢ c → i ≢ g → part v w i ≡ pos 0) → dot v w ≡ part v w c +ℤ part v w g

@@ -1,7 +1,7 @@
 -- Each list of vectors of one length has a rank.
 use Rattle.crn_laws.proofs.Prelude.{◌≡◌, ℕ, zero, suc, ◌<◌, inl, inr, List, [], ◌∷◌, length, get_or, map, refl, sym, subst, ◌∙◌, arith, ℤ, pos, negsuc, ints, IsIn, entry, column, scale, AreOfLength, combination_at, IsIndependent, DependsOn, IsChoice, IsRank, chosen, above_zero, ascending_suc, base_gives_rank, below_suc, chosen-suc, comb, dot-scale, entry-comb, length-scale, length-zeros, neg-mul, past_end, row_count, zeros, zeros-dot, free_or, head_counts, zero_entry}
-use lib.IntN.{zero-*ℤ}
 use Rattle.crn_vec.proofs.CallerLemmas.{Zero}
+use lib.IntN.{zero-*ℤ}
 
 -- independent vectors of a list, on which all depend
 record Base (vs : List (List ℤ)) : Type 0 where

@@ -21,8 +21,6 @@ pub use Rattle.crn_cert.specs.declared.answer.Verdict.{Verdict}
 pub use Rattle.crn_cert.specs.declared.answer.Verdict.TheVariants.{NoCycle, NoDependence, NoTerminal, NoVec, OnlyZero, Plane, Strong, Unknown, Yes, YesVec}
 pub use Rattle.crn_farkas.proofs.CallerLemmas.{as_column, column_some, own_some}
 pub use Rattle.crn_graph.specs.Pair.{GivesCutPair, HasSide, HasWayRound}
-pub use Rattle.crn_pairs.proofs.CallerLemmas.{pairs_no, pairs_yes}
-pub use Rattle.crn_pairs.specs.Pairs.{is_pair, pairs_to}
 pub use Rattle.crn_rank.proofs.CallerLemmas.{wide_column}
 pub use Rattle.crn_rank.specs.Rank.{IsWideStop}
 pub use Rattle.crn_reg.specs.Inner.Normal.{AreZeroBefore, GathersFirst, IsFirstEntry, IsFirstSum, IsSameOrNegative, class_sum}
@@ -31,6 +29,8 @@ pub use Rattle.crn_reg.specs.Inner.Spaces.{ArePlane, AreTies, GivesSpace, HasNoC
 pub use Rattle.crn_reg.specs.Inner.Verdicts.{by_dependence, plain, wide_answer}
 pub use Rattle.crn_reg.specs.declared.sides.Sides.TheVariants.{All, Cycle}
 pub use Rattle.crn_reg.specs.declared.space.Space.TheVariants.{Line, Zero}
+pub use Rattle.crn_shape.proofs.CallerLemmas.{pairs_no, pairs_yes}
+pub use Rattle.crn_shape.specs.Pairs.{is_pair, pairs_to}
 pub use Rattle.crn_tab.proofs.CallerLemmas.{as_row, isIn_or, one_column}
 pub use Rattle.crn_tab.specs.Tableau.{AreEntered, AreSmall, NamesRows}
 pub use Rattle.crn_vec.proofs.CallerLemmas.{all_from, amounts_within, and_cases, at_in, confluence_vectors_are_one, cut_back, dot-comm, dot-neg, dot-scale, dot_ratio, dot_single, dot_step, dot_zero, drop_seam, entry-column, entry-neg, entry-zeros, eq_or, filter_from, filter_no, filter_yes, flat_map_push, held, if_ok, in_at, in_cases, in_left, in_map, in_range, in_right, inside_at, is_between, label_sum, label_sum_is, length-column, length-rows_after, length-zeros, linked_back, lt_or, map_in, mul-neg, neg-mul, next_sum, no_zero, orthogonal, past_end, place_of, pos_pos, range_more, ratios_cross, reaches_step, reaction_in, rows_after, strong_back, sum_within, terminal_on, up_up, vector_long, weakly_reversible_by_reactions, within_append, within_at, zeros, zip_long, zip_push}

@@ -1,11 +1,11 @@
 ghost use Rattle.std.specs.Prelude.{◌≡◌, length, IfOk};
 ghost use Rattle.crn_vec.specs.CutPairs.{ArePairs};
 ghost use Rattle.crn_cert.specs.Says.{AreStrongClasses, from_zero};
-ghost use Rattle.crn_pairs.specs.Pairs.{pairs_to};
+ghost use Rattle.crn_shape.specs.Pairs.{pairs_to};
 
 use crn_graph::StrongData;
 use crn_net::Network;
-use crn_pairs::is_pair;
+use crn_shape::is_pair;
 use crn_vec::NoMemory;
 use std::alloc::Global;
 

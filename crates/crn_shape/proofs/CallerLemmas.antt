@@ -6,3 +6,5 @@ pub use Rattle.crn_shape.proofs.ShapeKinds.{shelf_kinds_long}
 pub use Rattle.crn_shape.proofs.SidesTested.{tested_sides}
 -- Products of vectors with narrow entries.
 pub use Rattle.crn_shape.proofs.PairSides.{narrow_within, dot_within}
+-- One reaction more joins a pair, or none that is new.
+pub use Rattle.crn_shape.proofs.Least.{pairs_yes, pairs_no}

@@ -7,4 +7,5 @@ mod ShapeKinds
 mod Opposites
 mod ShapeWidths
 mod SidesTested
+mod Least
 mod Prelude

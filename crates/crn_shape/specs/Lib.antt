@@ -1,3 +1,4 @@
+pub mod Pairs
 pub mod Sides
 pub mod Shapes
 pub mod Inner

@@ -1,4 +1,5 @@
-//! The shape of a network and of a vector over its complexes, and the kinds that the sign problem of signals gives.
+//! The linked pairs within terminal strong classes, the shape of a network and of a vector over its complexes, and the kinds
+//! that the sign problem of signals gives.
 #![tactic(auto)]
 
 mod kinds;
@@ -6,8 +7,10 @@ mod pairs;
 mod rows;
 mod shape;
 mod tops;
+mod within;
 
 pub use kinds::{row_kind, shelves};
 pub use pairs::LinkedPair;
 pub use shape::Shape;
 pub use tops::Tops;
+pub use within::is_pair;

@@ -8,7 +8,7 @@ use Rattle.crn_io.specs.Device.{SinkSeen}
 use Rattle.crn_vec.specs.Network.{Net}
 use Rattle.crn_cert.specs.Questions.{Question, Q1, questions}
 use Rattle.crn_cert.specs.declared.answer.Verdict.TheVariants.{Strong}
-use Rattle.crn_pairs.specs.Pairs.{pairs_to}
+use Rattle.crn_shape.specs.Pairs.{pairs_to}
 use Rattle.crn_cert.specs.declared.answer.Verdict.{Verdict}
 use Rattle.crn_cert.specs.declared.answer.Gap.{Gap}
 use Rattle.crn_cert.specs.declared.answer.Answer.{Answer}

@@ -6,7 +6,7 @@ use Rattle.std.specs.Prelude.{◌≡◌, ◌==◌, ◌&&◌, if◌then◌else◌
 use Rattle.std.specs.List.{AllZip, flat_map}
 use Rattle.crn_vec.specs.Network.{Net}
 use Rattle.crn_vec.specs.declared.limits.TheConstants.{MAX_COMPLEXES, MAX_REACTIONS}
-use Rattle.crn_pairs.specs.Pairs.{pairs_to}
+use Rattle.crn_shape.specs.Pairs.{pairs_to}
 use Rattle.crn_ctext.specs.Records.{Record, Form, Fits, Members, Several, Small}
 use Rattle.crn_ctext.specs.Meaning.{lists}
 use Rattle.crn_ctext.specs.Kinds.{just, small, small_form, record_form, free_form}

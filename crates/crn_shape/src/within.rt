@@ -1,7 +1,7 @@
 ghost use Rattle.std.specs.Prelude.{◌≡◌, ◌+◌, ◌-◌, ◌<◌, length, slice_index, slice_index_or};
 ghost use Rattle.crn_cert.specs.ClassTests.{of_class};
 ghost use Rattle.crn_cert.specs.Valid.{is_same_pair, is_least_of_pair};
-ghost use Rattle.crn_pairs.specs.Pairs.{is_within, is_pair};
+ghost use Rattle.crn_shape.specs.Pairs.{is_within, is_pair};
 
 use crn_net::Network;
 

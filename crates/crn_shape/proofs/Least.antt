@@ -1,5 +1,5 @@
 -- Least reactions of pairs, one reaction after another.
-use Rattle.crn_pairs.proofs.Prelude.{◌≡◌, ℕ, ◌+◌, ◌-◌, ◌<◌, ◌&&◌, ◌||◌, not, Bool, true, false, List, [], ◌∷◌, ◌++◌, get_or, refl, ap, ◌∙◌, arith, filter, list_any, range_with_len, Net, range_more, filter_yes, filter_no, before_one, any_has, in_range, ends_at, is_same_pair, is_least_of_pair, is_within, is_pair, pairs_to}
+use Rattle.crn_shape.proofs.Prelude.{◌≡◌, ℕ, ◌+◌, ◌-◌, ◌<◌, ◌&&◌, ◌||◌, not, Bool, true, false, List, [], ◌∷◌, ◌++◌, get_or, refl, ap, ◌∙◌, arith, filter, list_any, range_with_len, Net, range_more, filter_yes, filter_no, before_one, any_has, in_range, ends_at, is_same_pair, is_least_of_pair, is_within, is_pair, pairs_to}
 
 -- ---- ranges and filters with one more member at the end
 

@@ -1,6 +1,6 @@
-use Rattle.crn_pairs.proofs.Prelude.{◌≡◌, ℕ, get_or, sym, ap, ap₂, ◌∙◌, Net, is_same_pair}
-use Rattle.crn_pairs.proofs.Least.{least_hit, least_more}
-use Rattle.crn_pairs.proofs.pairs.is_least_of_pair.Goals as goal
+use Rattle.crn_shape.proofs.Prelude.{◌≡◌, ℕ, get_or, sym, ap, ap₂, ◌∙◌, Net, is_same_pair}
+use Rattle.crn_shape.proofs.Least.{least_hit, least_more}
+use Rattle.crn_shape.proofs.within.is_least_of_pair.Goals as goal
 
 ends : (net : Net) (r y z : ℕ) → y ≡ (get_or net.reactions r (0, 0)).0 → z ≡ (get_or net.reactions r (0, 0)).1 → (y, z) ≡ get_or net.reactions r (0, 0)
 ends net r y z e f = ap₂ (λ (a b : ℕ). (a, b)) e f
