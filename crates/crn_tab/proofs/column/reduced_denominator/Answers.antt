@@ -1,4 +1,4 @@
-use Rattle.crn_tab.proofs.Prelude.{◌≡◌, ◌≤◌, ◌*◌, ◌/◌, ℕ, ap, sym, subst, ◌∙◌, arith, to_z, unsigned_abs, IsGcd, ◌∣◌, w64, ints, one-dvd, dvd-mul_right, div-mul_cancel, pos_of_dvd_of_pos}
+use Rattle.crn_tab.proofs.Prelude.{◌≡◌, ◌≤◌, ◌*◌, ◌/◌, ℕ, ap, sym, subst, ◌∙◌, arith, to_z, unsigned_abs, IsGcd, ◌∣◌, w64, ints, one-dvd, dvd-mul_right, div-mul_cancel, pos_of_dvd_of_pos, dvd_refl, dvd-zero}
 use Rattle.crn_tab.proofs.Cross.{read}
 use Rattle.crn_tab.proofs.column.reduced_denominator.Goals as goal
 
@@ -50,3 +50,10 @@ pub returns-then-den-eq1-clause-is : goal.returns-then-den-eq1-clause-is
 returns-then-den-eq1-clause-is c =
     let is : unsigned_abs c.args.den.now ≡ 1 = ap unsigned_abs (sym (read c.args.den.now c.requires.den_small) ∙ ap (to_z w64) c.if-den-eq1.true) in
     (1, (one-dvd (unsigned_abs c.args.num.now), one-dvd (unsigned_abs c.args.den.now), λ d p q. subst (λ n. d ∣ n) is q), sym is)
+
+-- the divisors of 0 and a number are those of the number
+pub returns-then-num-eq0-clause-is : goal.returns-then-num-eq0-clause-is
+returns-then-num-eq0-clause-is c =
+    let zero : unsigned_abs c.args.num.now ≡ 0 = ap unsigned_abs (sym (read c.args.num.now c.requires.num_small) ∙ ap (to_z w64) c.if-num-eq0.true) in
+    let d : ℕ = unsigned_abs c.args.den.now in
+    (d, (subst (λ n. d ∣ n) (sym zero) (dvd-zero d), dvd_refl d, λ k p q. q), omega (arith))
