@@ -136,12 +136,20 @@ def form(statement):
     return min(ways), {word for word in words if WORD.match(word)}
 
 
-def is_of_lists(constants, text, crate):
-    """Whether a file has these constants of the toolchain or of `crn_vec`, and none of its own or of another crate."""
-    owners = {}
+def imports(text, prelude):
+    """Where each name that a file imports comes from, as the names of the module's path; `prelude` says it of its names."""
+    found = {}
     for module, items in IMPORT.findall(text):
+        path = module.split(".")
         for item in items.split(", "):
-            owners[item.split(" as ")[-1]] = module.split(".")
+            name, _, renamed = item.partition(" as ")
+            found[renamed or name] = prelude.get(name, path) if path[-1] == "Prelude" else path
+    return found
+
+
+def is_of_lists(constants, text, crate, prelude):
+    """Whether a file has these constants of the toolchain or of `crn_vec`, and none of its own or of another crate."""
+    owners = imports(text, prelude)
     own = set(re.findall(r"^(?:abbrev |unfoldable )?(?:pub )?(?:record |data )?([^\s(){}:]+) [:(]", text, re.MULTILINE))
     for word in constants:
         path = owners.get(word, [])
@@ -153,12 +161,14 @@ def is_of_lists(constants, text, crate):
 
 def lemmas(root):
     """The lemmas on lists, numbers, vectors and sums alone, by their form: the crate and the place of each."""
-    found = {}
+    found, preludes = {}, {}
+    for path in root.glob("crates/*/proofs/Prelude.antt"):
+        preludes[path.parts[-3]] = imports(path.read_text(), {})
     for path in sorted(root.glob("crates/*/proofs/*.antt")):
         crate, text = path.relative_to(root).parts[1], path.read_text()
         for line, name, statement in statements(text) if path.stem not in ("Lib", "CallerLemmas") else []:
             same, constants = form(statement)
-            if is_of_lists(constants, text, crate):
+            if is_of_lists(constants, text, crate, preludes.get(crate, {})):
                 found.setdefault(same, []).append((crate, f"{name} in {path.relative_to(root)}:{line}"))
     return found
 

@@ -77,7 +77,8 @@ pub use Rattle.std.proofs.lemmas.List.Sums.{count_by-le-length}
 pub use Rattle.std.proofs.lemmas.Result.{on_ok_weaker}
 pub use Rattle.std.specs.Cmp.Lexicographic.{pointwise}
 pub use Rattle.std.specs.Cmp.Rules.{signed_items}
-pub use Rattle.std.specs.List.{AllByRecursion, AllZip, IsDistinct, count_by, filter, flat_map, list_any, position, range_with_len}
+pub use Rattle.std.specs.List.{AllByRecursion, AllZip, count_by, filter, flat_map, list_any, position, range_with_len}
+unfoldable pub use Rattle.std.specs.List.{IsDistinct}
 pub use Rattle.std.specs.Option.{IsSome, IsSomeAnd}
 pub use Rattle.std.specs.Ordering.{int_eq}
 pub use Rattle.std.specs.Prelude.{None, Option, Some, codes, min, neg_ℤ, negsuc, pos, replicate, sum, unsigned_abs, ℤ, ◌*ℤ◌, ◌+ℤ◌, ◌-ℤ◌, ◌≤ℤ◌}

@@ -35,11 +35,16 @@ pub use Rattle.crn_cert.specs.declared.answer.Verdict.TheVariants.{Unknown}
 pub use Rattle.crn_cert.specs.declared.head_kind.HeadKind.{HeadKind}
 pub use Rattle.crn_cert.specs.declared.head_kind.HeadKind.TheVariants.{Classes, Deficiency, No, NoClass, NoCycle, NoDependence, NoNumber, NoPair, NoReaction, NoSum, NoTerminal, NoVec, NotApplicable, NotRegular, OnlyZero, Plane, Rank, Rests, Strong, Wide as WideHead, Yes, YesSignal, YesVec, YesWeak}
 pub use Rattle.crn_cert.specs.declared.tree_node.TreeNode.{TreeNode}
-pub use Rattle.crn_ctext.specs.Answers.{all_records, head_of, head_with, head_word, later_records, nodes, proof_nodes, proof_records, rank_records, records, records_below, side_records, small_record, verdict_records}
-pub use Rattle.crn_ctext.specs.Blocks.{AfterBlocks, CutA, CutB, Flat, IsNetworkOf, IsRecordOf, Meaning, Node, Problem, ReadOf, Split, after_sections, asks, asks_all, asks_block, asks_blocks, asks_leaf, asks_lines, asks_node, asks_table, asks_tree, asks_trees, below, claims, course, either, ended, goes_on, has_tree, if_signed, leaf, lists_of, network_line, node_of, place_of, reads, reads_of, sections, title, word_of}
-pub use Rattle.crn_ctext.specs.Course.{Code, Course, End, FailsFirst, Give, Gives, IsCode, IsReported, Kind, Line, Own, Test, due, ends, find, number_of, test, test_own, ◌>>=◌, ◌>>◌}
-pub use Rattle.crn_ctext.specs.Courses.{IsSettled, IsWrittenBy, none_own}
-pub use Rattle.crn_ctext.specs.Documents.{AreFormed, AreTrees, AreValid, FitsShare, IsDocumentOf, IsFormed, IsGoodLeaf, IsNamed, IsOneOf, IsShareable, IsTree, IsTrueAt, Parts, Share, cut_lists, document, document2, first_leaf, in_sections, is_cut_leaf, later_leaves, leaf_forms, leaf_written, naming_word, one_word, opening, record_lines, section, table_records, written}
+pub use Rattle.crn_ctext.specs.Answers.{head_of, head_with, head_word, later_records, nodes, proof_nodes, proof_records, rank_records, records, records_below, side_records, small_record, verdict_records}
+unfoldable pub use Rattle.crn_ctext.specs.Answers.{all_records}
+pub use Rattle.crn_ctext.specs.Blocks.{AfterBlocks, CutA, CutB, Flat, IsNetworkOf, IsRecordOf, Meaning, Node, Problem, ReadOf, Split, after_sections, asks, asks_block, asks_leaf, asks_node, asks_table, below, course, either, ended, goes_on, has_tree, if_signed, leaf, lists_of, network_line, node_of, place_of, reads, reads_of, sections, title, word_of}
+unfoldable pub use Rattle.crn_ctext.specs.Blocks.{asks_all, asks_blocks, asks_lines, asks_tree, asks_trees, claims}
+pub use Rattle.crn_ctext.specs.Course.{Code, Course, End, Give, IsCode, IsReported, Kind, Line, Own, Test, due, ends, find, number_of, test, test_own, ◌>>=◌, ◌>>◌}
+unfoldable pub use Rattle.crn_ctext.specs.Course.{FailsFirst, Gives}
+pub use Rattle.crn_ctext.specs.Courses.{none_own}
+unfoldable pub use Rattle.crn_ctext.specs.Courses.{IsSettled, IsWrittenBy}
+pub use Rattle.crn_ctext.specs.Documents.{AreTrees, FitsShare, IsDocumentOf, IsFormed, IsGoodLeaf, IsNamed, IsOneOf, IsShareable, IsTrueAt, Parts, Share, cut_lists, document, document2, first_leaf, in_sections, is_cut_leaf, later_leaves, leaf_forms, leaf_written, naming_word, one_word, opening, record_lines, section, table_records, written}
+unfoldable pub use Rattle.crn_ctext.specs.Documents.{AreFormed, AreValid, IsTree}
 pub use Rattle.crn_ctext.specs.Expect.{IsExpectable, IsReadAs, IsRefusedBy, MayBeDue, due_forms, forms_of, is_after, misplaced, question_of, tag_of, text_of, texts}
 pub use Rattle.crn_ctext.specs.Inner.Forms.{IsForm, IsNth, IsNthDue, later, no_form, tag}
 pub use Rattle.crn_ctext.specs.Inner.Line.{BeginsWithZero, Came, EndsAt, HasDigits, HasNatural, HasNoNatural, HasNoNumber, HasNumber, IsTail, SaysNumbers, capped, spaced}
@@ -53,12 +58,14 @@ pub use Rattle.crn_ctext.specs.Linked.{AnswersAreOne, AreSound, ReadDocumentsAre
 pub use Rattle.crn_ctext.specs.Meaning.{Known, complexes_by_class, has_vector, is_yes, learn_of, lengths, lists, meaning, nums, pairs_by, pairs_of, problem_over, problem_with, problems_by, ranks_of, reactions_by_class, class_proofs as said_classes, number as said_number, proof_of as said_proof, rank_proof as said_rank, sizes_of as said_sizes, verdict_of as said_verdict, shapes_of, signal_problem, signal_problems, sizes_of, table_problem, turn_of, verdict_by, verdict_of, verdicts_said, versions, wide_gap}
 pub use Rattle.crn_ctext.specs.PartBlocks.{HoldsNoSides, learned, verdicts_on}
 pub use Rattle.crn_ctext.specs.PartLines.{AreChoices, IsChoice, IsPartReadAs, IsPartRefusedBy, IsRun, field_of, form_in, forms_in, texts_of}
-pub use Rattle.crn_ctext.specs.Parts.{AreJudged, IsPartDocument, IsPartRead, Meant, Part, asks_part, asks_parts, part_course, part_document, part_ending, part_head, part_opening, part_title}
+pub use Rattle.crn_ctext.specs.Parts.{AreJudged, IsPartDocument, IsPartRead, Meant, Part, asks_part, part_course, part_document, part_ending, part_head, part_opening, part_title}
+unfoldable pub use Rattle.crn_ctext.specs.Parts.{asks_parts}
 pub use Rattle.crn_ctext.specs.Questions.{Shapes, Sizes, class_forms, class_rank, classes, classes as classes_of, decided, first_number, head, heads, kind_at, rows as landed_rows, later_numbers, no, no_by, none_by, open_by, open_kinds, opens, rank_forms, rests, rows, side_form, spent, wide, wide_signal, yes}
 pub use Rattle.crn_ctext.specs.Records.{AreBetween, AreNarrow, AreOf, AreRising, BeginsWith, ClassWide, CountAndPart, Field, Fits, Form, Free, IsNarrow, IsNatural, IsShaped, IsSpelled, IsWord, Members, Record, Rising, Says, Several, Small, Takes, Turn, TwoOf, field_most, kind_of, line, most_of, number_text, numbers_text, record_text}
 pub use Rattle.crn_ctext.specs.Same.{AreSame}
 pub use Rattle.crn_ctext.specs.Shares.{as_share}
-pub use Rattle.crn_ctext.specs.Steps.{Awaits, IsRest, StepAwaits, StepEnds, StepFails, StepGives, cut}
+pub use Rattle.crn_ctext.specs.Steps.{IsRest, StepAwaits, StepEnds, StepFails, StepGives, cut}
+unfoldable pub use Rattle.crn_ctext.specs.Steps.{Awaits}
 pub use Rattle.crn_ctext.specs.declared.expect.Due.{Due}
 pub use Rattle.crn_ctext.specs.declared.expect.Expect.{Expect}
 pub use Rattle.crn_ctext.specs.declared.kinds.RecordKind.{RecordKind}
@@ -127,7 +134,8 @@ pub use Rattle.std.proofs.lemmas.Slice.Eq.{bytes_eq-Decides}
 pub use Rattle.std.specs.Borrow.{Bor}
 pub use Rattle.std.specs.Char.{digit_value}
 pub use Rattle.std.specs.Cmp.Lexicographic.{pointwise}
-pub use Rattle.std.specs.Fmt.{digits, signed_decimal}
+pub use Rattle.std.specs.Fmt.{signed_decimal}
+unfoldable pub use Rattle.std.specs.Fmt.{digits}
 pub use Rattle.std.specs.Int.{from_le_bytes, to_le_bytes, w128, w64, ◌∣◌}
 pub use Rattle.std.specs.List.{All, AllByRecursion, AllZip, filter, flat_map, join_with_byte, list_all, list_any, range_with_len, slice_split}
 pub use Rattle.std.specs.Option.{IsSome, IsSomeAnd}

@@ -31,8 +31,10 @@ pub use Rattle.crn_check.specs.Check.{AsksForTree, HoldsNeeds, HoldsNoSignal, Is
 pub use Rattle.crn_check.specs.Facts.{AreFactsOf, HoldsNoneFrom, HoldsOn, KeptFacts, asked}
 pub use Rattle.crn_check.specs.declared.fault.CheckFault.{CheckFault}
 pub use Rattle.crn_ctext.proofs.CallerLemmas.{AreShort, HoldTogether, IsLike, PairsFor, awaited_open, awaits_before, awaits_parts, awaits_then, fails_before, fails_then, fails_with_a_code, gives_parts, gives_then, read_true, record_is, records_formed, rests_place, settled, spent_place, split_known, step_awaits_like, step_fails_like, step_fails_then, step_gives_like, step_then, text_says, trees_like, turn_is, zip_long}
-pub use Rattle.crn_ctext.specs.Blocks.{AfterBlocks, CutA, CutB, Flat, IsNetworkOf, Node, Problem, ReadOf, Split, after_sections, asks, asks_all, asks_block, asks_blocks, asks_leaf, asks_lines, asks_node, asks_table, asks_tree, asks_trees, below, claims, either, goes_on, has_tree, leaf, lists_of, node_of, place_of, reads, sections, word_of}
-pub use Rattle.crn_ctext.specs.Course.{Course, End, Give, Gives, IsReported, Line, due, find, test, ◌>>=◌}
+pub use Rattle.crn_ctext.specs.Blocks.{AfterBlocks, CutA, CutB, Flat, IsNetworkOf, Node, Problem, ReadOf, Split, after_sections, asks, asks_block, asks_leaf, asks_lines, asks_node, asks_table, below, either, goes_on, has_tree, leaf, lists_of, node_of, place_of, reads, sections, word_of}
+unfoldable pub use Rattle.crn_ctext.specs.Blocks.{asks_all, asks_blocks, asks_tree, asks_trees, claims}
+pub use Rattle.crn_ctext.specs.Course.{Course, End, Give, IsReported, Line, due, find, test, ◌>>=◌}
+unfoldable pub use Rattle.crn_ctext.specs.Course.{Gives}
 pub use Rattle.crn_ctext.specs.Courses.{none_own}
 pub use Rattle.crn_ctext.specs.Documents.{IsOneOf}
 pub use Rattle.crn_ctext.specs.Expect.{AreSizes, IsReadAs, MayBeDue, due_forms, forms_of, is_after, misplaced, question_of, section_names, tag_of, text_of}
@@ -42,7 +44,8 @@ pub use Rattle.crn_ctext.specs.Linked.{AreSound}
 pub use Rattle.crn_ctext.specs.Meaning.{Known, class_proofs, has_vector, is_yes, sizes_of as known_sizes, learn_of, lengths, lists, meaning, nums, pairs_by, pairs_of, problem_with, problems_by, proof_by, proof_of, rank_proof, ranks_of, row, shapes_of, signal_problem, signal_problems, sizes_of, verdict_by, verdict_of, verdicts_said}
 pub use Rattle.crn_ctext.specs.Questions.{Sizes, class_forms, decided, first_number, head, heads, kind_at, later_numbers, no, no_by, none_by, open_by, open_kinds, opens, rank_forms, rests, rows, side_form, spent, wide, wide_signal, yes}
 pub use Rattle.crn_ctext.specs.Records.{AreBetween, AreNarrow, AreOf, AreRising, BeginsWith, ClassWide, CountAndPart, Field, Fits, Form, Free, FreeSeveral, IsShaped, Members, Record, Rising, Says, Several, Small, Takes, Turn, TwoOf, kind_of, record_text}
-pub use Rattle.crn_ctext.specs.Steps.{Awaits, StepFails, StepGives, cut}
+pub use Rattle.crn_ctext.specs.Steps.{StepFails, StepGives, cut}
+unfoldable pub use Rattle.crn_ctext.specs.Steps.{Awaits}
 pub use Rattle.crn_ctext.specs.declared.expect.Due.{Due}
 pub use Rattle.crn_ctext.specs.declared.expect.Due.TheVariants.{Base as DueBase}
 pub use Rattle.crn_ctext.specs.declared.expect.Expect.{Expect}
@@ -74,7 +77,8 @@ pub use Rattle.crn_document.specs.Inner.Plain.{IsPlain, plain_form}
 pub use Rattle.crn_document.specs.Inner.Records.{AreMembers, AreRows, Expects, IsOwnDue, IsPartDue, IsRow, IsRowDue, MayBeRow, fixed_rows, many_rows, part_rows, row_form, rows_below}
 pub use Rattle.crn_document.specs.Inner.Signals.{vector_or_none}
 pub use Rattle.crn_document.specs.Inner.Table.{AreListed, IsCount, IsTable, MovesBy}
-pub use Rattle.crn_document.specs.Inner.Trees.{ExpectsNode, HasNodeDue, IsNode, IsSaidAs, JudgeGives, Leaves, NamesTo, TakesSome, after_node, asks_due, asks_node_for, asks_one, choices_in, count_a, node_test, problem_in}
+pub use Rattle.crn_document.specs.Inner.Trees.{ExpectsNode, HasNodeDue, IsNode, IsSaidAs, JudgeGives, Leaves, NamesTo, TakesSome, after_node, asks_node_for, asks_one, choices_in, count_a, node_test, problem_in}
+unfoldable pub use Rattle.crn_document.specs.Inner.Trees.{asks_due}
 pub use Rattle.crn_document.specs.declared.check.Accepted.{Accepted}
 pub use Rattle.crn_document.specs.declared.linkage.Linkage.{Linkage}
 pub use Rattle.crn_document.specs.declared.met.MetLine.{MetLine}

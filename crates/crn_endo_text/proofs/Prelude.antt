@@ -32,8 +32,10 @@ pub use Rattle.crn_endo_check.specs.Kept.{KeptCheck, KeptSlopes}
 pub use Rattle.crn_endo_check.specs.Slopes.{IsSmallEnough, is_reactant, is_slope_closed, others, reactants, slope_kinds, slope_matrix, slope_size, slopes}
 pub use Rattle.crn_endo_check.specs.declared.endo.Endo.{Endo}
 pub use Rattle.crn_endo_check.specs.declared.endo.Endo.TheVariants.{Large, Spent, Wide}
-pub use Rattle.crn_endo_text.specs.Document.{HasFewNodes, IsOwn, IsSeenOf, WrittenAreDocuments, asks_endo, asks_no, asks_node, asks_rest, asks_tree, asks_trees, asks_yes, if_split, is_small, meant, node_fault, node_forms, other_forms, part, records, said_of, seen_of, slope_forms, spent_form, verdict_forms, wide_form, words, yes_forms}
-pub use Rattle.crn_endo_text.specs.Inner.TreesRead.{GoesOnBy, Leaves, ReadsSeen, ReadsTrees, ReadsUpTo, Takes, asks_due, asks_from, number_of, said_at}
+pub use Rattle.crn_endo_text.specs.Document.{HasFewNodes, IsOwn, IsSeenOf, WrittenAreDocuments, asks_endo, asks_no, asks_node, asks_rest, asks_yes, if_split, is_small, meant, node_fault, node_forms, other_forms, part, records, said_of, seen_of, slope_forms, spent_form, verdict_forms, wide_form, words, yes_forms}
+unfoldable pub use Rattle.crn_endo_text.specs.Document.{asks_tree, asks_trees}
+pub use Rattle.crn_endo_text.specs.Inner.TreesRead.{GoesOnBy, Leaves, ReadsSeen, ReadsTrees, ReadsUpTo, Takes, asks_from, number_of, said_at}
+unfoldable pub use Rattle.crn_endo_text.specs.Inner.TreesRead.{asks_due}
 pub use Rattle.crn_endo_text.specs.Inner.Written.{record_of}
 pub use Rattle.crn_endo_text.specs.declared.seen.EndoSeen.{EndoSeen}
 pub use Rattle.crn_endo_text.specs.declared.seen.EndoSeen.TheVariants.{No, Undecided, Yes}
@@ -41,7 +43,8 @@ pub use Rattle.crn_io.proofs.CallerLemmas.{Wrote-all, WroteAll-none, WroteAll-st
 pub use Rattle.crn_io.specs.Device.{SourceSeen}
 pub use Rattle.crn_io.specs.Write.{WroteAll}
 pub use Rattle.crn_io.specs.declared.lines.TheConstants.{MAX_DOCUMENT}
-pub use Rattle.crn_reading.proofs.CallerLemmas.{IsGiven, answer_stops, answer_then, document_answered, document_gives, end_exits, find, forms_named, head_stop, head_then, last_exits, own_fails, own_holds, placed, read_to_the_end, step_exits, step_gives, step_then_ends, step_then_is, stop_after, stop_first, stops_here, words_named}
+pub use Rattle.crn_reading.proofs.CallerLemmas.{IsGiven, answer_stops, answer_then, document_answered, document_gives, end_exits, forms_named, head_stop, head_then, last_exits, own_fails, own_holds, placed, read_to_the_end, step_exits, step_gives, step_then_ends, step_then_is, stop_after, stop_first, stops_here, words_named}
+unfoldable pub use Rattle.crn_reading.proofs.CallerLemmas.{find}
 pub use Rattle.crn_reading.specs.Records.{IsPartSaid}
 pub use Rattle.crn_reading.specs.Steps.{CanRead, GoesOn, StepIs, StopIs}
 pub use Rattle.crn_reading.specs.declared.fault.CheckStop.{CheckStop}

@@ -8,8 +8,10 @@ pub use Rattle.crn_cert.specs.declared.answer.RankProof.{RankProof}
 pub use Rattle.crn_ctext.proofs.CallerLemmas.{AllDecided, AllPlain, HasNoEnd, HaveWords, IsAnswered, IsBounded, IsDecided, IsFirst, IsPlain, Say, all_decided, are_words, asks_part_settled, both_decided, documents_are_judged, each_below, either_no_end, either_settled, ends_with, first_back, fitting_is_plain, forms_yes, free_bounded, free_fits, free_row, give_back, give_no_end, give_settled, given, if_decided, in_by_test, in_decided, int_decided, line_of_word, line_on, lines_append, lines_three, moved, nat_decided, no_end_then, none_said, not_decided, number_fits, numbered_decided, one_back, one_decided, one_said, only, own_settled, part_document_short, part_no_end, part_settled, plain_is_line, rank_decided, reactions_few, record_is, rising, rising_bounded, rising_fits, settled_then, short_both, small_bounded, small_numbers, small_numbers_fit, some_below, some_number, species_few, stops_first, stops_later, test_no_end, tree_decided, wide_fields, wide_numbers, wide_numbers_fit, word_then, words_fit, written_cuts, written_then, wrote_as}
 pub use Rattle.crn_ctext.specs.Answers.{rank_records, small_record}
 pub use Rattle.crn_ctext.specs.Blocks.{either, word_of}
-pub use Rattle.crn_ctext.specs.Course.{Course, FailsFirst, Give, Gives, test_own, ◌>>=◌}
-pub use Rattle.crn_ctext.specs.Courses.{IsSettled, IsWrittenBy}
+pub use Rattle.crn_ctext.specs.Course.{Course, Give, test_own, ◌>>=◌}
+unfoldable pub use Rattle.crn_ctext.specs.Course.{FailsFirst, Gives}
+pub use Rattle.crn_ctext.specs.Courses.{IsSettled}
+unfoldable pub use Rattle.crn_ctext.specs.Courses.{IsWrittenBy}
 pub use Rattle.crn_ctext.specs.Documents.{IsOneOf, one_word, record_lines}
 pub use Rattle.crn_ctext.specs.Kinds.{end_form, free_form, record_form, small, small_form}
 pub use Rattle.crn_ctext.specs.PartLines.{AreChoices, field_of, forms_in}
@@ -25,14 +27,16 @@ pub use Rattle.crn_indep_check.specs.Parts.{AreValidParts, IsFormedParts}
 pub use Rattle.crn_indep_check.specs.Shown.{AreEvenLabels, AreLinked, AreTied, DrawsOn, FailsLink, FailsShown, HangsByTie, IsProofForm, IsShown, IsShownForm, comb_for, combined, greatest, label_record, part_code, part_ranks, proof_tests, reactions}
 pub use Rattle.crn_indep_check.specs.declared.parts.Parts.{Parts}
 pub use Rattle.crn_indep_check.specs.declared.parts.Parts.TheVariants.{Split, Wide}
-pub use Rattle.crn_indep_text.specs.Document.{IsOwn, IsSeenOf, Seen, WrittenAreDocuments, asks_decomposition, asks_links, asks_proof, asks_rest, asks_rows, asks_shown, asks_split, base_forms, comb_forms, depth_forms, dual_forms, first_forms, label_forms, link_records, meant, naturals, open_seen, own_tests, part, proof_of, records, seen_of, split_seen, up_forms, words}
+pub use Rattle.crn_indep_text.specs.Document.{IsOwn, IsSeenOf, Seen, WrittenAreDocuments, asks_decomposition, asks_links, asks_proof, asks_rest, asks_shown, asks_split, base_forms, comb_forms, depth_forms, dual_forms, first_forms, label_forms, link_records, meant, naturals, open_seen, part, proof_of, records, seen_of, split_seen, up_forms, words}
+unfoldable pub use Rattle.crn_indep_text.specs.Document.{asks_rows, own_tests}
 pub use Rattle.crn_indep_text.specs.Inner.LinesRead.{AreOfRow, AreSmall, IsRowSaid, JudgesLines, ReadsNums, ReadsProof, ReadsRow, ReadsRows, ReadsSeen, run_forms}
 pub use Rattle.crn_indep_text.specs.declared.seen.PartsSeen.{PartsSeen}
 pub use Rattle.crn_io.proofs.CallerLemmas.{WroteAll-then}
 pub use Rattle.crn_io.specs.Device.{SourceSeen}
 pub use Rattle.crn_io.specs.Lines.{Place}
 pub use Rattle.crn_io.specs.declared.lines.TheConstants.{MAX_NUMBERS}
-pub use Rattle.crn_reading.proofs.CallerLemmas.{IsGiven, answer_stops, answer_then, document_answered, document_gives, end_exits, find, forms_named, head_stop, head_then, last_exits, memory_stops, placed, read_to_the_end, step_exits, step_gives, step_map, step_then_ends, step_then_is, stop_first, stops_here, tests_fail, tests_give, words_named}
+pub use Rattle.crn_reading.proofs.CallerLemmas.{IsGiven, answer_stops, answer_then, document_answered, document_gives, end_exits, forms_named, head_stop, head_then, last_exits, memory_stops, placed, read_to_the_end, step_exits, step_gives, step_map, step_then_ends, step_then_is, stop_first, stops_here, tests_fail, tests_give, words_named}
+unfoldable pub use Rattle.crn_reading.proofs.CallerLemmas.{find}
 pub use Rattle.crn_reading.specs.Records.{IsPartSaid}
 pub use Rattle.crn_reading.specs.Steps.{CanRead, StepIs, StopIs}
 pub use Rattle.crn_reading.specs.declared.fault.CheckStop.{CheckStop}

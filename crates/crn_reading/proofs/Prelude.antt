@@ -1,8 +1,10 @@
 -- What this crate's proofs use of other crates and of its specs.
 pub use Rattle.crn_cert.specs.Faults.{BadHeader, BadNetwork, Fault, WrongOrder, fault_number}
 pub use Rattle.crn_ctext.proofs.CallerLemmas.{IsNoLine, first_is_one, gives_counts, gives_one, gives_or_fails, line_is_awaited, line_is_due, line_is_missing, step_awaits_before, step_awaits_then, step_ends_then, step_fails_before, step_fails_then, step_then}
-pub use Rattle.crn_ctext.specs.Blocks.{IsNetworkOf, asks_lines, ended, network_line, reads_of, title, word_of}
-pub use Rattle.crn_ctext.specs.Course.{Course, FailsFirst, Give, Gives, Test, due, ends, find, test, test_own, ◌>>=◌}
+pub use Rattle.crn_ctext.specs.Blocks.{IsNetworkOf, ended, network_line, reads_of, title, word_of}
+unfoldable pub use Rattle.crn_ctext.specs.Blocks.{asks_lines}
+pub use Rattle.crn_ctext.specs.Course.{Course, Give, Test, due, ends, find, test, test_own, ◌>>=◌}
+unfoldable pub use Rattle.crn_ctext.specs.Course.{FailsFirst, Gives}
 pub use Rattle.crn_ctext.specs.Courses.{IsSettled}
 pub use Rattle.crn_ctext.specs.Documents.{IsOneOf}
 pub use Rattle.crn_ctext.specs.Expect.{forms_of, is_after, misplaced, tests_of}
@@ -10,7 +12,8 @@ pub use Rattle.crn_ctext.specs.Kinds.{known_words, tree_words}
 pub use Rattle.crn_ctext.specs.PartLines.{forms_in, texts_of}
 pub use Rattle.crn_ctext.specs.Parts.{Part, asks_part, part_course, part_ending, part_opening, part_title, reads_part}
 pub use Rattle.crn_ctext.specs.Records.{Form, Record}
-pub use Rattle.crn_ctext.specs.Steps.{Awaits, IsRest, StepAwaits, StepEnds, StepFails, StepGives, cut}
+pub use Rattle.crn_ctext.specs.Steps.{IsRest, StepAwaits, StepEnds, StepFails, StepGives, cut}
+unfoldable pub use Rattle.crn_ctext.specs.Steps.{Awaits}
 pub use Rattle.crn_ctext.specs.declared.part.Choice.{Choice}
 pub use Rattle.crn_ctext.specs.declared.part.Field.{Field as Run}
 pub use Rattle.crn_io.proofs.CallerLemmas.{Consumes-none, Consumes-then, asked_begun, begun_none, end_is}

@@ -23,16 +23,21 @@ pub use Rattle.crn_io.proofs.CallerLemmas.{Wrote-all, Wrote-prefix, Wrote-then, 
 pub use Rattle.crn_io.specs.Joined.{joined, with_separator}
 pub use Rattle.crn_io.specs.Write.{WroteAll}
 pub use Rattle.crn_io.specs.declared.lines.TheConstants.{MAX_DOCUMENT}
-pub use Rattle.crn_render.specs.Details.{arrow_text, class_line, class_text, complex_texts, details, gap_details, index_line, lines_from, members_text, of_label, reaction_text, shelf, shelves_text, sigma, signal_details, strong_line, system_line, terminal_text, titled_line, vector_text, vector_title, walk_text}
-pub use Rattle.crn_render.specs.Faults.{TextCodesHaveTheirNames, document_codes, document_name, fault_line, name_beside}
+pub use Rattle.crn_render.specs.Details.{arrow_text, class_text, complex_texts, details, gap_details, lines_from, members_text, of_label, reaction_text, shelf, shelves_text, sigma, signal_details, terminal_text, titled_line, vector_text, vector_title, walk_text}
+unfoldable pub use Rattle.crn_render.specs.Details.{class_line, index_line, strong_line, system_line}
+pub use Rattle.crn_render.specs.Faults.{TextCodesHaveTheirNames, document_codes, document_name, name_beside}
+unfoldable pub use Rattle.crn_render.specs.Faults.{fault_line}
 pub use Rattle.crn_render.specs.Inner.Reading.{IsReadable, question_at}
 pub use Rattle.crn_render.specs.Length.{FaultLinesAreShort, ReportsAreShort, SummariesAreShort}
-pub use Rattle.crn_render.specs.Report.{all_lines, complexes_line, first_line, head, one_if_open, open_count, open_line, question_lines, reactions_line, render, species_line}
-pub use Rattle.crn_render.specs.Summary.{accepted_line, brief, briefs, sample_line, summary, verdicts_line}
+pub use Rattle.crn_render.specs.Report.{all_lines, head, one_if_open, open_count, question_lines, render}
+unfoldable pub use Rattle.crn_render.specs.Report.{complexes_line, first_line, open_line, reactions_line, species_line}
+pub use Rattle.crn_render.specs.Summary.{brief, briefs, summary}
+unfoldable pub use Rattle.crn_render.specs.Summary.{accepted_line, sample_line, verdicts_line}
 pub use Rattle.crn_render.specs.Titles.{AreTwoReasons, TrueVerdictsHaveOneLine}
 pub use Rattle.crn_render.specs.Words.{gap_words, no_words, numbers_text, question_line, title, verdict_words, weak_words, yes_words}
 pub use Rattle.crn_text.proofs.CallerLemmas.{good_terms, held_length, side_held, side_length}
-pub use Rattle.crn_text.specs.Canonical.{complex_text, side}
+pub use Rattle.crn_text.specs.Canonical.{complex_text}
+unfoldable pub use Rattle.crn_text.specs.Canonical.{side}
 pub use Rattle.crn_text.specs.Codes.{code_name, code_number}
 pub use Rattle.crn_text.specs.declared.fault.TextCode.{TextCode}
 pub use Rattle.crn_text.specs.declared.fault.TextCode.TheVariants.{BadName, CoefficientTooLarge, EmptySide, NameTooLong, NoArrow, NoMemory, NotAscii, SelfReaction, StrayMark, TextTooLong, TooManyComplexes, TooManyReactions, TooManySpecies, ZeroCoefficient}
@@ -62,7 +67,8 @@ pub use Rattle.std.proofs.lemmas.List.FromFn.{get_or-range_with_len, length-rang
 pub use Rattle.std.proofs.lemmas.Option.{get_or_from_slice_get}
 pub use Rattle.std.proofs.lemmas.Result.{err_from_is_err_and}
 pub use Rattle.std.proofs.lemmas.Slice.Zip.{get_or-zip, length-zip}
-pub use Rattle.std.specs.Fmt.{digits, signed_decimal}
+pub use Rattle.std.specs.Fmt.{signed_decimal}
+unfoldable pub use Rattle.std.specs.Fmt.{digits}
 pub use Rattle.std.specs.Int.{w128}
 pub use Rattle.std.specs.List.{AllByRecursion, flat_map, range_with_len, zip}
 pub use Rattle.std.specs.Prelude.{Bool, IsTrue, decimal, false, filter, if◌then◌else◌, map, min, negsuc, pos, slice_get, slice_index, sum, true, unsigned_abs, ℤ, ◌*ℤ◌, ◌+ℤ◌, ◌-ℤ◌, ◌↔◌}

@@ -15,8 +15,10 @@ pub use Rattle.crn_cert.specs.declared.answer.Verdict.{Verdict}
 pub use Rattle.crn_cert.specs.declared.answer.Verdict.TheVariants.{Rank, Yes as SaysYes, Unknown}
 pub use Rattle.crn_check.specs.Facts.{AreFactsOf, HoldsNoneFrom, HoldsOn, KeptFacts}
 pub use Rattle.crn_ctext.proofs.CallerLemmas.{AllPlain, AreInOrder, AreTreeless, FitFields, HasNoEnd, IsAnswered, IsBounded, IsDecided, IsPlain, IsSmall, OfNetwork, Say, all_of, answers_by, answers_few, answers_learned, are_words, asks_part_settled, back_by, bare_back, bare_row, blocks_no_end, blocks_read, blocks_settled, blocks_written, both_decided, built_few, documents_are_judged, each_below, either_no_end, either_settled, ends_with, first_back, fitting_is_plain, formed_are_plain, formed_by, forms_yes, give_back, give_no_end, give_settled, given, if_decided, in_by_test, int_decided, le_decided, left_decided, line_of_word, line_on, lines_append, lines_two, lt_decided, meaning_decided, meaning_short, moved, nat_decided, networks_are_small, no_end_then, none_said, not_decided, number_back, number_then, one_back, one_decided, one_said, only, own_settled, part_document_short, part_no_end, part_settled, plain_is_line, record_is, sees_first, sees_rank, sees_second, settled_then, short_both, small_numbers, stops_first, stops_later, terminal_decided, test_back, test_no_end, test_on, valid_are_formed, valid_by, written_cuts, written_then, wrote_as}
-pub use Rattle.crn_ctext.specs.Answers.{all_records, records as answer_records, head_of, records_below, small_record}
-pub use Rattle.crn_ctext.specs.Blocks.{AfterBlocks, asks_all, asks_block, asks_blocks, either, word_of}
+pub use Rattle.crn_ctext.specs.Answers.{records as answer_records, head_of, records_below, small_record}
+unfoldable pub use Rattle.crn_ctext.specs.Answers.{all_records}
+pub use Rattle.crn_ctext.specs.Blocks.{AfterBlocks, asks_block, either, word_of}
+unfoldable pub use Rattle.crn_ctext.specs.Blocks.{asks_all, asks_blocks}
 pub use Rattle.crn_ctext.specs.Course.{Course, Give, test_own, ◌>>=◌}
 pub use Rattle.crn_ctext.specs.Courses.{IsSettled, IsWrittenBy}
 pub use Rattle.crn_ctext.specs.Documents.{AreValid, IsOneOf, record_lines}
@@ -33,7 +35,8 @@ pub use Rattle.crn_ctext.specs.declared.part.Field.{Field as Run}
 pub use Rattle.crn_document.specs.Facts.{IsAfterFacts, IsKnownFor, after_facts, with_next}
 pub use Rattle.crn_io.proofs.CallerLemmas.{WroteAll-then}
 pub use Rattle.crn_io.specs.Device.{SourceSeen}
-pub use Rattle.crn_reading.proofs.CallerLemmas.{IsGiven, answer_stops, answer_then, document_answered, document_gives, end_exits, find, forms_named, head_stop, head_then, last_exits, own_fails, own_holds, place_is, read_to_the_end, step_exits, step_gives, step_map, step_then_ends, step_then_is, stop_after, stop_first, stops_here, words_named}
+pub use Rattle.crn_reading.proofs.CallerLemmas.{IsGiven, answer_stops, answer_then, document_answered, document_gives, end_exits, forms_named, head_stop, head_then, last_exits, own_fails, own_holds, place_is, read_to_the_end, step_exits, step_gives, step_map, step_then_ends, step_then_is, stop_after, stop_first, stops_here, words_named}
+unfoldable pub use Rattle.crn_reading.proofs.CallerLemmas.{find}
 pub use Rattle.crn_reading.specs.Records.{IsPartSaid}
 pub use Rattle.crn_reading.specs.Steps.{CanRead, StepIs, StopIs}
 pub use Rattle.crn_reading.specs.declared.fault.CheckStop.{CheckStop}

@@ -1,11 +1,13 @@
 -- What this crate's proofs use of other crates and of its specs.
-pub use Rattle.clap.proofs.OnLiterals.{clap_on_literals}
+unfoldable pub use Rattle.clap.proofs.OnLiterals.{clap_on_literals}
 pub use Rattle.clap.proofs.WalkLemmas.{both, first_value-rows}
-pub use Rattle.clap.specs.Faults.{bundle_fault, bundle_step_fault, check_fault, defaults_fault, entered_fault, flag_word_fault, flags_fault, long_fault, other_fault, settle_fault, short_fault, step_fault, turn_fault, use_fault, walk_fault, word_fault}
+pub use Rattle.clap.specs.Faults.{bundle_fault, bundle_step_fault, check_fault, defaults_fault, entered_fault, flag_word_fault, long_fault, other_fault, settle_fault, short_fault, step_fault, turn_fault, use_fault, word_fault}
+unfoldable pub use Rattle.clap.specs.Faults.{flags_fault, walk_fault}
 pub use Rattle.clap.specs.Kinds.{HasKind, IsAmong, Kinds, or_else}
 pub use Rattle.clap.specs.Lexer.{has_byte, long_of, long_of_rest, name_and_value, short_of, short_of_rest, strip_byte}
 pub use Rattle.clap.specs.Simple.{Shape, entered, new_app, new_rule, with_rule}
-pub use Rattle.clap.specs.Walk.{Held, Row, Rule, Step, Text, Waiting, Walk, after_flag, after_step, arg_by_index, arg_by_long, arg_by_short, bundle_met, bundle_step, default_rows, finished, first_of, has_row, idle, is_empty, is_pending, long_or_other, nothing_held, option, plain, plain_word, positional, pushed, reading_by, settled, short_or_plain, subcommand_or_other, trailing, used, option as waits_for, walk_from, walked, with_default, word_met}
+pub use Rattle.clap.specs.Walk.{Held, Row, Rule, Step, Text, Waiting, Walk, after_flag, after_step, arg_by_index, arg_by_long, arg_by_short, bundle_step, default_rows, finished, first_of, has_row, idle, is_empty, is_pending, long_or_other, nothing_held, option, plain, plain_word, positional, pushed, reading_by, settled, short_or_plain, subcommand_or_other, trailing, used, option as waits_for, walk_from, with_default, word_met}
+unfoldable pub use Rattle.clap.specs.Walk.{bundle_met, walked}
 pub use Rattle.clap.specs.Words.{App, HasMatchesOf, app_of, fault_of, first_value, found_of, is_simple, is_simple_and_free, kind_of, matches_of, rule_of}
 pub use Rattle.clap.specs.declared.builder.action.ArgAction.TheVariants.{Set}
 pub use Rattle.clap.specs.declared.error.Error.{Error}
@@ -67,7 +69,8 @@ pub use Rattle.crn_io.specs.declared.lines.TheConstants.{MAX_DOCUMENT}
 pub use Rattle.crn_reading.specs.Reads.{IsTextOf, PullsAwaited, ReadingGives, ReadsAll}
 pub use Rattle.crn_reading.specs.declared.fault.CheckStop.{CheckStop}
 pub use Rattle.crn_render.proofs.CallerLemmas.{fault_lines_are_short, reports_are_short, summaries_are_short}
-pub use Rattle.crn_render.specs.Faults.{IsDocumentCode, usage_line}
+pub use Rattle.crn_render.specs.Faults.{IsDocumentCode}
+unfoldable pub use Rattle.crn_render.specs.Faults.{usage_line}
 pub use Rattle.crn_render.specs.Length.{Has32Bits}
 pub use Rattle.crn_render.specs.Report.{render}
 pub use Rattle.crn_render.specs.Summary.{summary}
@@ -78,7 +81,8 @@ pub use Rattle.crn_robust.specs.declared.robust.Robust.TheVariants.{Number, Rest
 pub use Rattle.crn_robust_text.proofs.CallerLemmas.{blocks_learned, course_settled, robust_is_answered, course_settled as robust_settled}
 pub use Rattle.crn_robust_text.specs.Document.{AreInside, IsFormed, IsReadAs, IsValid, ValidAreTrue, ValidLinesAreTrue, blocks_of, earlier_of, rests_on, said_of}
 pub use Rattle.crn_run.specs.Inner.Network.{NetworkRead}
-pub use Rattle.crn_run.specs.Inner.Parse.{Gives, IsRead, Means, MeansBudget, MeansNumber, MeansPart, crnt_app, is_two_dashes}
+pub use Rattle.crn_run.specs.Inner.Parse.{Means, MeansBudget, MeansNumber, MeansPart, is_two_dashes}
+unfoldable pub use Rattle.crn_run.specs.Inner.Parse.{Gives, IsRead, crnt_app}
 pub use Rattle.crn_run.specs.Inner.Steps.{DocumentStopGives, HasNamedCode, HasNoMemory, LineGives, NetworkGives, OutputGives, StopGives}
 pub use Rattle.crn_run.specs.Parts.{AreTrueOnRobustness, IsFaultyOf, IsGoodOf, IsLeftBy, IsLicensedOnRobustness, IsPartRejectionOf, IsProofOf, IsVerdictOf, Subject, course_of, endo_verdict, parts_verdict, persist_verdict, ranks_line, robust_verdict, subject_of}
 pub use Rattle.crn_run.specs.Run.{AreAnswersOf, AreLeftBy, Devices, EndsWritten, HasOpen, IsAllowed, IsCertificateOf, IsCheckOf, IsComplete, IsFaulty, IsFaultyDocument, IsOutput, IsQuiet, IsReadBy, IsReadFor, IsReadForOutput, IsReadOut, IsReadWithin, IsRefusalOf, IsRejectionOf, IsReportOf, IsSpelled, IsSummaryOf, OrRefused, OrRejected, ReadsNetwork, RunGives, Shows, WasLeft, certificate, refused_line, rejected_line, verdicts_in}

@@ -2,10 +2,12 @@
 pub use Rattle.crn_sample.specs.Sample.{sample_text}
 pub use Rattle.crn_sample.specs.declared.limits.TheConstants.{MAX_SAMPLE}
 pub use Rattle.crn_text.proofs.CallerLemmas.{flat_map_whole, judged, no_fault}
-pub use Rattle.crn_text.specs.Faults.{both_of, complexes_of, is_empty, is_self, limits_fault, names_of, own_fault, reactions_of, statement_fault, statements_fault}
+pub use Rattle.crn_text.specs.Faults.{both_of, complexes_of, is_empty, is_self, limits_fault, names_of, reactions_of, statements_fault}
+unfoldable pub use Rattle.crn_text.specs.Faults.{own_fault, statement_fault}
 pub use Rattle.crn_text.specs.Sides.{all_statements, line_statements}
 pub use Rattle.crn_text.specs.Spells.{Spells, TextGives, fault_on}
-pub use Rattle.crn_text.specs.Tokens.{first_token, lines, tokens_after}
+pub use Rattle.crn_text.specs.Tokens.{lines}
+unfoldable pub use Rattle.crn_text.specs.Tokens.{first_token, tokens_after}
 pub use Rattle.crn_text.specs.declared.fault.TextCode.{TextCode}
 pub use Rattle.crn_text.specs.declared.fault.TextCode.TheVariants.{NoMemory}
 pub use Rattle.crn_text.specs.declared.fault.TextFault.{TextFault}
@@ -20,7 +22,7 @@ pub use Rattle.std.proofs.lemmas.List.Concat.{flat_map-append}
 pub use Rattle.std.proofs.lemmas.List.Filters.{length-filter_both}
 pub use Rattle.std.proofs.lemmas.List.Folds.{list_all-append}
 pub use Rattle.std.specs.Cmp.Lexicographic.{pointwise}
-pub use Rattle.std.specs.Fmt.{digits}
+unfoldable pub use Rattle.std.specs.Fmt.{digits}
 pub use Rattle.std.specs.List.{flat_map, list_all}
 pub use Rattle.std.specs.Ordering.{int_eq}
 pub use Rattle.std.specs.Prelude.{is_some, map, nat_le, nat_lt, not, string_bytes, ℤ}

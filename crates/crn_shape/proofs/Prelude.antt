@@ -1,5 +1,6 @@
 -- What this crate's proofs use of other crates and of its specs.
-pub use Rattle.crn_cert.proofs.CallerLemmas.{pair_places_are_pairs, some_top, tested_marks_are_sides, top_for as top_of, tops_are, tops_below, tops_of, widths, zeros_below as zeros_to}
+pub use Rattle.crn_cert.proofs.CallerLemmas.{pair_places_are_pairs, some_top, tested_marks_are_sides, tops_are, tops_below, tops_of, widths}
+unfoldable pub use Rattle.crn_cert.proofs.CallerLemmas.{top_for as top_of, zeros_below as zeros_to}
 pub use Rattle.crn_cert.specs.ClassTests.{AreSideMarks}
 pub use Rattle.crn_cert.specs.Parts.{AreSides as AreFormedSides}
 pub use Rattle.crn_cert.specs.Questions.{Earlier, Q2, on}

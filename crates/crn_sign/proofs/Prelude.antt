@@ -8,7 +8,8 @@ pub use Rattle.crn_farkas.proofs.CallerLemmas.{drop-scale, dual_scaled, row_plus
 pub use Rattle.crn_farkas.specs.Decision.{IsSmallCut, factor}
 pub use Rattle.crn_sign.specs.Inner.Bits.{IsMarked, mark_at, mark_in, mark_of, none, word_at, word_count}
 pub use Rattle.crn_sign.specs.Inner.Columns.{AreColumns}
-pub use Rattle.crn_sign.specs.Inner.Marks.{AreMadeBy, AreMet, AreOpposite, AreRowMarks, AreSuited, HasMark, Suits, kind_of_mark, kind_there, kinds_of, laid, negative, sign_mark, sign_there, united}
+pub use Rattle.crn_sign.specs.Inner.Marks.{AreMadeBy, AreMet, AreOpposite, AreRowMarks, AreSuited, HasMark, Suits, kind_of_mark, kind_there, laid, negative, sign_mark, sign_there, united}
+unfoldable pub use Rattle.crn_sign.specs.Inner.Marks.{kinds_of}
 pub use Rattle.crn_sign.specs.Inner.Parts.{IsFinder, IsRuling}
 pub use Rattle.crn_sign.specs.Inner.Past.{AllWeigh, AreMarksOf, Counts, IsPast, SomeCounts, Weighs, mark_of_multiple}
 pub use Rattle.crn_sign.specs.Inner.PastCuts.{ArePastCuts}

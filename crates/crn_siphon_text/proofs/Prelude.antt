@@ -5,8 +5,10 @@ pub use Rattle.crn_cert.specs.Says.{RuleOutConservation}
 pub use Rattle.crn_ctext.proofs.CallerLemmas.{AllPlain, HasNoEnd, HaveWords, IsAnswered, IsBounded, IsDecided, IsFirst, IsPlain, Say, all_decided, are_words, asks_part_settled, bare_back, bare_row, bits_back, bits_fit, bool_decided, both_decided, documents_are_judged, each_below, either_no_end, either_settled, ends_with, first_back, fitting_is_plain, forms_yes, free_fits, free_row, give_back, give_no_end, give_settled, given, if_decided, in_by_test, int_decided, int_le_decided, law_decided, le_decided, line_of_word, line_on, lines_append, lines_three, lines_two, moved, nat_decided, no_end_then, no_law_decided, none_said, not_decided, number_back, number_fits, number_then, one_back, one_said, only, own_settled, part_document_short, part_no_end, part_settled, plain_bare, plain_is_line, reactions_few, reactions_row, record_is, settled_then, short_both, small_bounded, some_below, species_few, species_row, step_fails_then, step_then, stops_first, stops_later, test_back, test_no_end, test_on, wide_fields, wide_numbers, wide_numbers_fit, word_then, written_cuts, written_then, wrote_as}
 pub use Rattle.crn_ctext.specs.Answers.{small_record}
 pub use Rattle.crn_ctext.specs.Blocks.{either, word_of}
-pub use Rattle.crn_ctext.specs.Course.{Course, FailsFirst, Give, Gives, test_own, ◌>>=◌}
-pub use Rattle.crn_ctext.specs.Courses.{IsSettled, IsWrittenBy}
+pub use Rattle.crn_ctext.specs.Course.{Course, Give, test_own, ◌>>=◌}
+unfoldable pub use Rattle.crn_ctext.specs.Course.{FailsFirst, Gives}
+pub use Rattle.crn_ctext.specs.Courses.{IsSettled}
+unfoldable pub use Rattle.crn_ctext.specs.Courses.{IsWrittenBy}
 pub use Rattle.crn_ctext.specs.Documents.{IsOneOf, one_word, record_lines}
 pub use Rattle.crn_ctext.specs.Kinds.{end_form, free_form, just, record_form, small, small_form}
 pub use Rattle.crn_ctext.specs.PartLines.{AreChoices, field_of, forms_in}
@@ -19,7 +21,8 @@ pub use Rattle.crn_io.proofs.CallerLemmas.{WroteAll-then}
 pub use Rattle.crn_io.specs.Device.{SourceSeen}
 pub use Rattle.crn_io.specs.Lines.{Place}
 pub use Rattle.crn_io.specs.Next.{KeptLines}
-pub use Rattle.crn_reading.proofs.CallerLemmas.{IsGiven, answer_stops, answer_then, document_answered, document_gives, end_exits, find, forms_named, head_stop, head_then, last_exits, memory_stops, own_fails, own_holds, place_is, placed, read_to_the_end, step_exits, step_gives, step_map, step_then_ends, step_then_is, stop_after, stop_first, tests_fail, tests_give, words_named}
+pub use Rattle.crn_reading.proofs.CallerLemmas.{IsGiven, answer_stops, answer_then, document_answered, document_gives, end_exits, forms_named, head_stop, head_then, last_exits, memory_stops, own_fails, own_holds, place_is, placed, read_to_the_end, step_exits, step_gives, step_map, step_then_ends, step_then_is, stop_after, stop_first, tests_fail, tests_give, words_named}
+unfoldable pub use Rattle.crn_reading.proofs.CallerLemmas.{find}
 pub use Rattle.crn_reading.specs.Records.{IsPartSaid}
 pub use Rattle.crn_reading.specs.Steps.{CanRead, StepIs, StopIs}
 pub use Rattle.crn_reading.specs.declared.fault.CheckStop.{CheckStop}
@@ -31,7 +34,8 @@ pub use Rattle.crn_siphon_check.specs.Siphons.{Covers, HasMember, HoldsMember, I
 pub use Rattle.crn_siphon_check.specs.Trees.{Bad, Fork, IsFormedTree, IsValidTree, Law, Plan, Void, node_count, plan_of}
 pub use Rattle.crn_siphon_check.specs.declared.answer.Outcome.{Outcome}
 pub use Rattle.crn_siphon_check.specs.declared.answer.Outcome.TheVariants.{No, Undecided, Yes}
-pub use Rattle.crn_siphon_text.specs.Document.{Forks, HasFewNodes, HasLaw, IsBadBy, IsOutcomeOf, IsOwn, Node, Voids, WrittenAreDocuments, asks_cover, asks_no, asks_node, asks_none, asks_persist, asks_rest, asks_tree, asks_yes, cover_forms, goes_on, law_forms, leaf, meant, no_forms, node_forms, node_of, outcome_of, part, records, tree_records, verdict_forms, wide_form, words}
+pub use Rattle.crn_siphon_text.specs.Document.{Forks, HasFewNodes, HasLaw, IsBadBy, IsOutcomeOf, IsOwn, Node, Voids, WrittenAreDocuments, asks_cover, asks_no, asks_node, asks_none, asks_persist, asks_rest, asks_yes, cover_forms, goes_on, law_forms, leaf, meant, no_forms, node_forms, node_of, outcome_of, part, records, tree_records, verdict_forms, wide_form, words}
+unfoldable pub use Rattle.crn_siphon_text.specs.Document.{asks_tree}
 pub use Rattle.crn_siphon_text.specs.Inner.LinesRead.{ReadsOutcome}
 pub use Rattle.crn_siphon_text.specs.Inner.NodesRead.{asks_children}
 pub use Rattle.crn_vec.proofs.CallerLemmas.{all_at, all_from, all_given, all_in, lt_or, map_more, past_end, refused, same_test, vector_at, vectors_count, zip_append}

@@ -7,9 +7,11 @@ pub use Rattle.crn_net.specs.Grows.{AddGives, FinishGives, Grown, GrownFrom, Gro
 pub use Rattle.crn_net.specs.Terms.{IsSide, IsTerm, name_at, side_of, statement_of}
 pub use Rattle.crn_net.specs.declared.fault.NetFault.{NetFault}
 pub use Rattle.crn_net.specs.declared.term.Term.{Term}
-pub use Rattle.crn_text.specs.Canonical.{canonical, complex_text, or_zero, reaction_line, side, term, term_if_some, terms}
+pub use Rattle.crn_text.specs.Canonical.{canonical, complex_text, or_zero, reaction_line, term, term_if_some, terms}
+unfoldable pub use Rattle.crn_text.specs.Canonical.{side}
 pub use Rattle.crn_text.specs.Codes.{net_code}
-pub use Rattle.crn_text.specs.Faults.{both_of, complexes_of, has_empty_place, has_large, has_long_name, has_zero, is_empty, is_plain, is_self, line_fault, names_of, or_else, own_fault, reactions_of, sides_fault, statement_fault, statements_fault, tokens_fault}
+pub use Rattle.crn_text.specs.Faults.{both_of, complexes_of, has_empty_place, has_large, has_long_name, has_zero, is_empty, is_plain, is_self, line_fault, names_of, or_else, reactions_of, sides_fault, statements_fault, tokens_fault}
+unfoldable pub use Rattle.crn_text.specs.Faults.{own_fault, statement_fault}
 pub use Rattle.crn_text.specs.Inner.Flaws.{first_flaw, flaw_code, place_flaw, side_flaw, sides_flaw, term_flaw}
 pub use Rattle.crn_text.specs.Inner.Found.{AreFound, Follows, IsPiece}
 pub use Rattle.crn_text.specs.Inner.Held.{IsTrimmed, moved}
@@ -19,7 +21,8 @@ pub use Rattle.crn_text.specs.Inner.Said.{AreIn, AreSaid, HasSaid, says}
 pub use Rattle.crn_text.specs.Sides.{IsStep, all_statements, arrows, by_arrow, by_arrows, is_arrow, is_arrow_kind, is_name, is_name_kind, is_number, is_number_kind, is_plus, is_plus_kind, is_side, is_stray, is_stray_kind, is_term, is_zero, line_statements, places, sides, statements_of, term_of, terms_of}
 pub use Rattle.crn_text.specs.SoundLines.{IsNoStray, IsPlain, IsSoundLine, IsSoundSide, IsSoundStatement, IsSoundTerm}
 pub use Rattle.crn_text.specs.Spells.{AreFaultless, Fault, IsFirstFault, IsWithoutReaction, Spells, fault_on}
-pub use Rattle.crn_text.specs.Tokens.{BeginsNone, BeginsNot, IsSplitInto, IsToken, TextsAreSplitInOneWay, Token, before_comment, first_token, is_blank, is_digit, lines, token, tokens, tokens_after}
+pub use Rattle.crn_text.specs.Tokens.{BeginsNone, BeginsNot, IsSplitInto, IsToken, TextsAreSplitInOneWay, Token, before_comment, is_blank, is_digit, lines, token, tokens}
+unfoldable pub use Rattle.crn_text.specs.Tokens.{first_token, tokens_after}
 pub use Rattle.crn_text.specs.declared.canonical.Piece.{Piece}
 pub use Rattle.crn_text.specs.declared.fault.TextCode.{TextCode}
 pub use Rattle.crn_text.specs.declared.fault.TextCode.TheVariants.{BadName, CoefficientTooLarge, EmptySide, NameTooLong, NoArrow, NoMemory, NoReaction, NotAscii, StrayMark, TextTooLong, ZeroCoefficient}
