@@ -126,18 +126,20 @@ def few(hostile):
     """Each read and each write of one input for each command fails in turn."""
     sites = (NETWORKS / "two_site_futile_cycle.crn").read_bytes()
     for name, words, text, most in [
-        ("report on the two-site futile cycle", ["report"], sites, 7), ("check of A <-> B", ["check"], joined(ends.ENDS), 64),
+        ("report on the two-site futile cycle", ["report"], sites, 7), ("report on one reaction", ["report"], b"A -> B\n", 1), ("check of A <-> B", ["check"], joined(ends.ENDS), 64),
         ("certify on one reaction", ["certify"], b"A -> B\n", 7), ("verify persist of A <-> B", ["verify", "persist"], PROOF, 7),
         ("prove persist on the two-site futile cycle", ["prove", "persist"], sites, 7),
     ]:
         # as few reads as give all bytes, and one more that says that none is left
         reads = [-(-len(text) // most) + 1]
         yield from hostile.each(f"reads of at most {most}, {name}", words, text, "FAIL_READ", is_read_fault, reads, MOST_READ=most)
-    for name, words, text in [("report on one reaction", ["report"], b"A -> B\n"), ("sample 1", ["sample", "1"], b""),
-                              ("check of A <-> B", ["check"], joined(ends.ENDS)), ("no command", ["frobnicate"], b""),
-                              ("prove persist on A <-> B", ["prove", "persist"], b"A <-> B\n"),
-                              ("verify persist of A <-> B", ["verify", "persist"], PROOF)]:
-        yield from hostile.each(f"writes of at most 7, {name}", words, text, "FAIL_WRITE", is_write_fault_after(7), MOST_WRITTEN=7)
+    for name, words, text, most in [
+        ("report on one reaction", ["report"], b"A -> B\n", 1), ("sample 1", ["sample", "1"], b"", 7),
+        ("check of A <-> B", ["check"], joined(ends.ENDS), 7), ("no command", ["frobnicate"], b"", 7),
+        ("prove persist on A <-> B", ["prove", "persist"], b"A <-> B\n", 7), ("verify persist of A <-> B", ["verify", "persist"], PROOF, 7),
+    ]:
+        bound = {"MOST_WRITTEN": most}
+        yield from hostile.each(f"writes of at most {most}, {name}", words, text, "FAIL_WRITE", is_write_fault_after(most), **bound)
 
 
 def pieces(hostile):

@@ -1,88 +1,8 @@
 // Devices that fail.
-use super::reports::ROW;
 use super::runs::{run_over, sink_of, source_of};
 use crn_io::{Pull, Source};
 use crn_run::Status;
 use std::process::Abort;
-
-// A source of `A -> B` that gives at most this many bytes a pull and fails at these pulls, a sink that takes at most this
-// many bytes a push and fails at these pushes, and how a report ends: its status, and the most bytes that are written.
-struct Devices {
-    name: &'static str,
-    most: usize,
-    pulls: &'static [u32],
-    most_taken: usize,
-    pushes: &'static [u32],
-    status: Status,
-    written: usize,
-}
-
-const FAILURES: &[Devices] = &[
-    Devices {
-        name: "a pull fails in mid-stream",
-        most: 64,
-        pulls: &[2],
-        most_taken: 64,
-        pushes: &[],
-        status: Status::ReadFault,
-        written: 0,
-    },
-    Devices {
-        name: "a pull fails at once",
-        most: 1,
-        pulls: &[1],
-        most_taken: 64,
-        pushes: &[],
-        status: Status::ReadFault,
-        written: 0,
-    },
-    Devices {
-        name: "a push fails in mid-stream",
-        most: 64,
-        pulls: &[],
-        most_taken: 7,
-        pushes: &[2],
-        status: Status::WriteFault,
-        written: 7,
-    },
-    Devices {
-        name: "a push fails at once",
-        most: 64,
-        pulls: &[],
-        most_taken: 7,
-        pushes: &[1],
-        status: Status::WriteFault,
-        written: 0,
-    },
-    Devices {
-        name: "one byte a call",
-        most: 1,
-        pulls: &[],
-        most_taken: 1,
-        pushes: &[],
-        status: Status::Done,
-        written: ROW.len(),
-    },
-];
-
-// Whether a report over these devices ends as it is to: what is written is a prefix of the report.
-fn ends_so(rt: &(impl Abort + AllocGlobal), row: &Devices) -> bool {
-    let mut source = source_of(rt, b"A -> B", row.most, row.pulls);
-    let mut sink = sink_of(rt, row.most_taken, row.pushes);
-    let status = run_over(rt, "crnt report", &mut source, &mut sink);
-    let written = sink.bytes();
-    status == row.status
-        && written.len() <= row.written
-        && written.is_empty() == (row.written == 0)
-        && ROW.starts_with(written)
-}
-
-#[test]
-fn a_failing_device_ends_the_run(rt: HostRuntime) {
-    for row in FAILURES {
-        assert!(rt; ends_so(&rt, row), "{}", row.name);
-    }
-}
 
 #[test]
 fn nothing_is_pulled_after_a_read_fault(rt: HostRuntime) {

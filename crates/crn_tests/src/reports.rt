@@ -1,8 +1,4 @@
-// Networks, and a report.
-
-// The report of `A -> B`. Other multipliers and another positive law would do as well.
-pub const ROW: &[u8] =
-    b"crn report 1\nspecies 2: A B\ncomplexes 2: A; B\nreactions 1\nQ1 linkage classes: 1\n  class 1: A; B\nQ2 strong classes: 2, terminal 1\n  strong 1: A\n  strong 2: B (terminal)\nQ3 reversible: no\n  reaction 1: A -> B\nQ4 weakly reversible: no\n  reaction 1: A -> B\nQ5 rank: 1\n  independent reactions: 1\nQ6 deficiency: 0, classes 0\nQ7 positively dependent: no\n  multipliers: 1 0\nQ8 conservative: yes\n  positive law: 1 1\nQ9 deficiency zero theorem: hypotheses hold, not weakly reversible\nQ10 deficiency one theorem: hypotheses hold\nQ11 regular: no, not positively dependent\nQ12 confluence vector: not applicable, not regular\nQ13 signal: not applicable\nQ14 concordant: yes\nQ15 strongly concordant: yes\nopen: 0\n";
+// Networks.
 
 // A protein that is phosphorylated at two sites by one enzyme, and dephosphorylated by another.
 const TWO_SITES: &str =
