@@ -66,6 +66,12 @@ def main():
     tests = own.replace("crn_vec.specs.Lists", "crn_tab.specs.Marks")
     of_marks = {"crates/crn_tab/proofs/Rows.antt": tests, "crates/crn_sign/proofs/Marks.antt": tests}
     tally.count("a definition of another crate", not found({**FILES, **of_marks}))
+    prelude, taken = "crates/crn_sign/proofs/Prelude.antt", "use Rattle.crn_sign.proofs.Prelude.{IsIn, List, ℕ, get_or, length, ◌<◌}\n"
+    by_prelude = {"crates/crn_sign/proofs/Marks.antt": f"-- Marks.\n{taken}\n{PLANTED[0][1]}\n"}
+    passed_on = "".join(f"pub {line}\n" for line in USES.splitlines())
+    tally.count("by the Prelude", len(found({**FILES, **by_prelude, prelude: passed_on})) == 1)
+    of_marks_passed_on = passed_on.replace("crn_vec.specs.Lists", "crn_tab.specs.Marks")
+    tally.count("another definition by the Prelude", not found({**FILES, **by_prelude, prelude: of_marks_passed_on}))
     answers = "crates/crn_tab/proofs/row/put/Answers.antt"
     tally.count("the answers of a function", not found({**FILES, answers: own}))
     return tally.end()
