@@ -1,5 +1,5 @@
 -- What a part knows at a prefix, while kinds are asked and after.
-use Rattle.crn_sign.proofs.Prelude.{◌≡◌, ◌≢◌, ℕ, zero, suc, ◌+◌, ◌-◌, ◌%◌, ◌<◌, ◌≤◌, inl, inr, List, [], ◌∷◌, ◌++◌, length, get_or, take, drop, drop-cons, Bool, true, false, refl, sym, ap, ap₂, subst, ◌∙◌, add-one, arith, bit_at-zero, length-append, ext_get_or, drop_all, take-append-le, take_all, Sign, Kind, Pos, Neg, NonNeg, Free, Mat, width, kind_at, one_if, Signed, eq_or, Bits, Place, Level, Asked, AskKinds, AskKindsBy, IsPut, asked_kind, bit_of, asked_by, kind_by_words, kind_in, kind_of_bits, minus_at, plus_at, weakened, SettlesOnly, mark_of, AreRowMarks, kind_of_mark, kinds_of, HasRoom, IsAround, IsAsked, IsHere, IsPlace, IsSettledAt, IsSettling, AreAround, AreAsked, AreMarked, IsLevel}
+use Rattle.crn_sign.proofs.Prelude.{◌≡◌, ◌≢◌, ℕ, zero, suc, ◌+◌, ◌-◌, ◌%◌, ◌<◌, ◌≤◌, inl, inr, List, [], ◌∷◌, ◌++◌, length, get_or, take, drop, drop-cons, Bool, true, false, refl, sym, ap, ap₂, subst, ◌∙◌, add-one, arith, bit_at-zero, length-append, ext_get_or, drop_all, take-append-le, take_all, Sign, Kind, Pos, Neg, NonNeg, Free, Mat, width, kind_at, one_if, Signed, eq_or, Bits, Place, Level, Asked, AskKinds, AskKindsBy, IsPut, asked_kind, bit_of, asked_by, kind_by_words, kind_in, kind_of_bits, minus_at, plus_at, weakened, SettlesOnly, mark_of, AreRowMarks, kind_of_mark, kinds_of, HasRoom, IsAround, IsAsked, IsHere, IsPlace, IsSettledAt, IsSettling, AreAround, AreAsked, AreMarked, IsLevel, row_kinds}
 use Rattle.crn_vec.specs.declared.signs.Kind.TheVariants.{Zero}
 use Rattle.crn_sign.specs.Options.{word_count}
 use Rattle.crn_sign.proofs.MarkLaws.{kind_asked, kinds_long}
@@ -113,6 +113,14 @@ pub around_settling : (a : Mat) (kinds : List Sign → List Kind) (p q : List Si
 around_settling a kinds p q s here depth settled e h only de =
     let long : length p + 1 ≡ depth = omega (arith, de, ap (λ (l : List Sign). length l) e, length-append p (s ∷ [])) in
     record { room = h.room; same = λ k lt out. h.same k lt (λ t. only p t k long lt out) ∙ sym (only p s k long lt out) ∙ ap (λ (r : List Sign). kind_at (kinds r) k) (sym e) }
+
+-- one choice more leaves the rows of the other species in a table's part B
+pub row_kept : (n : ℕ) (p : List Sign) (s : Sign) (j : ℕ) → j ≢ length p → kind_at (row_kinds n (p ++ s ∷ [])) j ≡ kind_at (row_kinds n p) j
+row_kept zero p s j ne = refl
+row_kept (suc n) [] s zero ne = absurd (ne refl)
+row_kept (suc n) [] s (suc j) ne = refl
+row_kept (suc n) (t ∷ p) s zero ne = refl
+row_kept (suc n) (t ∷ p) s (suc j) ne = row_kept n p s j (λ e. ne (ap suc e))
 
 -- the next kind to ask, and none left
 pub first_of : (a : Mat) (kinds : List Kind) (settled : List ℕ) (i : ℕ) (l : Place) → i < length settled → IsSettling a kinds (drop i settled) l → IsSettling a kinds (get_or settled i 0 ∷ drop (i + 1) settled) l

@@ -33,6 +33,7 @@ pub use Rattle.crn_sign.specs.declared.walk.Ending.TheVariants.{Found, Refuted, 
 pub use Rattle.crn_sign.specs.declared.walk.Level.{Level}
 pub use Rattle.crn_sign.specs.declared.walk.Listing.{Listing}
 pub use Rattle.crn_vec.proofs.CallerLemmas.{below_two, cuts_exclude_solutions, dot-zeros, entry-plus, entry-scale, entry-zeros, eq_or, length-column, length-scale, length-zeros, lt_or, passes_at, passes_first, passes_then, plus, positive_some, range_more, take-zeros, visits_ended, visits_then, weigh_zero, within_append, within_from, written, zeros, zip_at, zip_from}
+pub use Rattle.crn_vec.specs.Concordance.{row_kinds}
 pub use Rattle.crn_vec.specs.Elementary.{InDualSpace, InRowSpace, width}
 pub use Rattle.crn_vec.specs.Kept.{KeptInts}
 pub use Rattle.crn_vec.specs.Problems.{IsFeasible, IsFull, Signed, SolvesA, SolvesB, all_zero, children, options_below}

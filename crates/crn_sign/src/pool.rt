@@ -4,7 +4,6 @@ ghost use Rattle.crn_sign.specs.Inner.Marks.{AreRowMarks};
 ghost use Rattle.crn_sign.specs.Inner.Pools.{IsPool};
 
 use crate::bits::{Bits, push_places};
-use crate::marks::opposite;
 use crn_vec::{Matrix, NoMemory, Sign};
 use std::alloc::Global;
 
@@ -23,20 +22,11 @@ pub(crate) struct Ray {
     pub marks: Vec<Bits>,
 }
 
-/// The number of a vector, the word of its marks that refused it last, and what may not be required there:
-/// the marks of its negative.
-#[derive(Clone, Copy)]
-pub(crate) struct Server {
-    pub number: u32,
-    pub word: u32,
-    pub barred: Bits,
-}
-
-/// The vectors that are positive at a coordinate, and those that are negative there.
+/// The numbers of the vectors that are positive at a coordinate, and of those that are negative there.
 #[derive(Drop)]
 pub(crate) struct Servers {
-    pub plus: Vec<Server>,
-    pub minus: Vec<Server>,
+    pub plus: Vec<u32>,
+    pub minus: Vec<u32>,
 }
 
 /// Vectors (x, Ax) that were found, with their negatives, and lists of those that are positive or
@@ -54,32 +44,17 @@ fn is_refused(asked: Bits, bits: Bits) -> bool {
     ((bits.plus & asked.minus) | (bits.minus & asked.plus)) != 0
 }
 
-// Whether something is required that is barred.
-fn is_barred(asked: Bits, barred: Bits) -> bool {
-    ((barred.plus & asked.plus) | (barred.minus & asked.minus)) != 0
-}
-
-// Whether the vector may be taken everywhere. A word at which it may not is kept.
-fn serves(asked: &[Bits], marks: &[Bits], server: &mut Server) -> bool {
+// Whether the vector may be taken everywhere.
+fn serves(asked: &[Bits], marks: &[Bits]) -> bool {
     if asked.len() != marks.len() {
         return false;
     }
     for w in 0..asked.len() {
         if is_refused(asked[w], marks[w]) {
-            if w < MAX_WORDS {
-                server.word = w as u32;
-                server.barred = opposite(marks[w]);
-            }
             return false;
         }
     }
     true
-}
-
-// Whether the word that refused a vector last may not be taken.
-fn is_refused_again(asked: &[Bits], server: &Server) -> bool {
-    let word = server.word as usize;
-    word < asked.len() && is_barred(asked[word], server.barred)
 }
 
 // Whether a vector has this sign at a coordinate.
@@ -97,35 +72,28 @@ fn has_sign(marks: &[Bits], g: usize, sign: Sign) -> bool {
 
 // Whether a vector has this sign at g, and may be taken everywhere. The place of an older vector may
 // hold another one by now, which does not have this sign at g.
-fn takes(asked: &[Bits], rays: &[Ray], server: &mut Server, g: usize, sign: Sign) -> bool {
-    let number = server.number as usize;
+fn takes(asked: &[Bits], rays: &[Ray], number: usize, g: usize, sign: Sign) -> bool {
     if number < rays.len() {
         let marks = &rays[number].marks;
-        return serves(asked, marks, server) && has_sign(marks, g, sign);
+        return serves(asked, marks) && has_sign(marks, g, sign);
     }
     false
 }
 
 // The place in a list of the first vector that serves, or the length of the list.
-fn first_serving(
-    asked: &[Bits],
-    rays: &[Ray],
-    servers: &mut [Server],
-    g: usize,
-    sign: Sign,
-) -> usize {
+fn first_serving(asked: &[Bits], rays: &[Ray], servers: &[u32], g: usize, sign: Sign) -> usize {
     for i in 0..servers.len() {
-        if !is_refused_again(asked, &servers[i]) && takes(asked, rays, &mut servers[i], g, sign) {
+        if takes(asked, rays, servers[i] as usize, g, sign) {
             return i;
         }
     }
     servers.len()
 }
 
-// Brings a server forward, and answers its number.
-fn bring_forward(servers: &mut [Server], i: usize) -> Option<usize> {
+// Brings a vector forward in its list, and answers its number.
+fn bring_forward(servers: &mut [u32], i: usize) -> Option<usize> {
     if i < servers.len() {
-        let number = servers[i].number as usize;
+        let number = servers[i] as usize;
         servers.swap(i / 2, i);
         return Some(number);
     }
@@ -145,31 +113,31 @@ fn empty_lists(alloc: Global, count: usize) -> Result<Vec<Servers>, NoMemory> {
 }
 
 // Enters a vector in a list, in the place of its last member if the list is full.
-fn enter_one(servers: &mut Vec<Server>, server: Server) -> Result<(), NoMemory> {
+fn enter_one(servers: &mut Vec<u32>, number: u32) -> Result<(), NoMemory> {
     if servers.len() >= MAX_SERVERS {
         servers.pop();
     }
-    servers.push(server)?;
+    servers.push(number)?;
     Ok(())
 }
 
 // Enters a vector in the lists of those that are positive at these coordinates.
-fn enter_plus(servers: &mut [Servers], places: &[usize], server: Server) -> Result<(), NoMemory> {
+fn enter_plus(servers: &mut [Servers], places: &[usize], number: u32) -> Result<(), NoMemory> {
     for i in 0..places.len() {
         let k = places[i];
         if k < servers.len() {
-            enter_one(&mut servers[k].plus, server)?;
+            enter_one(&mut servers[k].plus, number)?;
         }
     }
     Ok(())
 }
 
 // Enters a vector in the lists of those that are negative at these coordinates.
-fn enter_minus(servers: &mut [Servers], places: &[usize], server: Server) -> Result<(), NoMemory> {
+fn enter_minus(servers: &mut [Servers], places: &[usize], number: u32) -> Result<(), NoMemory> {
     for i in 0..places.len() {
         let k = places[i];
         if k < servers.len() {
-            enter_one(&mut servers[k].minus, server)?;
+            enter_one(&mut servers[k].minus, number)?;
         }
     }
     Ok(())
@@ -187,17 +155,12 @@ fn enter(
     }
     for w in 0..marks.len() {
         if w < MAX_WORDS {
-            let server = Server {
-                number: number as u32,
-                word: w as u32,
-                barred: opposite(marks[w]),
-            };
             places.clear();
             push_places(places, 64 * w, marks[w].plus)?;
-            enter_plus(servers, places, server)?;
+            enter_plus(servers, places, number as u32)?;
             places.clear();
             push_places(places, 64 * w, marks[w].minus)?;
-            enter_minus(servers, places, server)?;
+            enter_minus(servers, places, number as u32)?;
         }
     }
     Ok(())
