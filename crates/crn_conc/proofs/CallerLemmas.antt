@@ -9,4 +9,4 @@ pub use Rattle.crn_cert.proofs.CallerLemmas.{wide_basis}
 -- Small solutions are numbers of a certificate.
 pub use Rattle.crn_conc.proofs.Ended.{solution_free}
 -- Which kinds one choice more leaves as they are.
-pub use Rattle.crn_conc.proofs.SettledLaws.{all_settle, coordinate_at, coordinates_long, row_same, rows_settle}
+pub use Rattle.crn_conc.proofs.SettledLaws.{all_settle, coordinate_at, coordinates_long, rows_settle}

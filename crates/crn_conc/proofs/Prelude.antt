@@ -21,7 +21,7 @@ pub use Rattle.crn_conc.specs.declared.answer.Searched.{Searched}
 pub use Rattle.crn_conc.specs.declared.answer.WideName.{WideName}
 pub use Rattle.crn_conc.specs.declared.chosen.Chosen.{Chosen}
 pub use Rattle.crn_farkas.specs.Decision.{IsSmallSolution}
-pub use Rattle.crn_sign.proofs.CallerLemmas.{firm_kinds}
+pub use Rattle.crn_sign.proofs.CallerLemmas.{firm_kinds, row_kept}
 pub use Rattle.crn_sign.specs.Options.{AskKinds, IsPut, kind_of_bits, minus_at, none, plus_at, sign_at, word_at, word_count}
 pub use Rattle.crn_sign.specs.Search.{IsSearchEnd, IsSearchStop}
 pub use Rattle.crn_sign.specs.Settled.{SettlesOnly}

@@ -1,5 +1,5 @@
 -- Which kinds one choice more leaves as they are.
-use Rattle.crn_conc.proofs.Prelude.{◌≡◌, ◌≢◌, ℕ, zero, suc, ◌+◌, ◌-◌, ◌<◌, inl, inr, List, [], ◌∷◌, ◌++◌, length, get_or, refl, sym, ap, subst, ◌∙◌, arith, range_with_len, get_or-range_with_len, length-range_with_len, Sign, Kind, Mat, IsIn, width, kind_at, kinds_b_of, row_kinds, in_range, lt_or, column_in_b, row_in_b, SettlesOnly}
+use Rattle.crn_conc.proofs.Prelude.{◌≡◌, ◌≢◌, ℕ, zero, suc, ◌+◌, ◌-◌, ◌<◌, inl, inr, List, [], ◌∷◌, ◌++◌, length, get_or, refl, sym, ap, subst, ◌∙◌, arith, range_with_len, get_or-range_with_len, length-range_with_len, Sign, Kind, Mat, IsIn, width, kind_at, kinds_b_of, row_kinds, in_range, lt_or, column_in_b, row_in_b, SettlesOnly, row_kept}
 
 -- all coordinates may be settled
 pub all_settle : (kinds : List Sign → List Kind) (n choices : ℕ) (list : List ℕ) → list ≡ range_with_len 0 n → SettlesOnly kinds n choices list
@@ -8,19 +8,12 @@ all_settle kinds n choices list is p s k e lt out = absurd (out (subst (λ (l : 
 -- ---- part B
 
 -- one choice more settles the row of its species
-pub row_same : (n : ℕ) (p : List Sign) (s : Sign) (j : ℕ) → j ≢ length p → kind_at (row_kinds n (p ++ s ∷ [])) j ≡ kind_at (row_kinds n p) j
-row_same zero p s j ne = refl
-row_same (suc n) [] s zero ne = absurd (ne refl)
-row_same (suc n) [] s (suc j) ne = refl
-row_same (suc n) (t ∷ p) s zero ne = refl
-row_same (suc n) (t ∷ p) s (suc j) ne = row_same n p s j (λ e. ne (ap suc e))
-
 pub rows_settle : (m : Mat) (choices k : ℕ) (list : List ℕ) → k + 1 ≡ m.cols + choices → list ≡ k ∷ [] → SettlesOnly (kinds_b_of m) (width m) choices list
 rows_settle m choices k list is e p s j le lt out =
     let other : j ≢ k = λ same. out (subst (λ (l : List ℕ). IsIn j l) (sym e) (inl same)) in
     elim (lt_or j m.cols) as (λ _. kind_at (kinds_b_of m (p ++ s ∷ [])) j ≡ kind_at (kinds_b_of m p) j) [
       | inl inside ↦ column_in_b m (p ++ s ∷ []) j inside ∙ sym (column_in_b m p j inside)
-      | inr past ↦ row_in_b m (p ++ s ∷ []) j past ∙ row_same (length m.rows) p s (j - m.cols) (λ same. other (omega (arith, same, past, le, is))) ∙ sym (row_in_b m p j past)
+      | inr past ↦ row_in_b m (p ++ s ∷ []) j past ∙ row_kept (length m.rows) p s (j - m.cols) (λ same. other (omega (arith, same, past, le, is))) ∙ sym (row_in_b m p j past)
     ]
 
 -- a coordinate is at its own place
