@@ -37,11 +37,11 @@ formed_next b q qs known a answers n j f more = subst (λ (es : Earlier). AreFor
 
 -- after an answer to question 1
 pub linkage_next : (known : Known) (a : Answer) → IsFormedOf known.net known.earlier Q1 a.verdict a.proof → (known_after Q1 known a).earlier ≡ known.earlier ++ (Q1, tight a.verdict) ∷ []
-linkage_next known a f = ap (λ (v : Verdict). known.earlier ++ (Q1, v) ∷ []) (block_says known Q1 a.verdict a.proof tt f)
+linkage_next known a f = ap (λ (v : Verdict). known.earlier ++ (Q1, v) ∷ []) (block_says known Q1 a.verdict a.proof f)
 
 -- and to question 2
 pub strong_next : (known : Known) (a : Answer) → IsFormedOf known.net known.earlier Q2 a.verdict a.proof → (known_after Q2 known a).earlier ≡ known.earlier ++ (Q2, tight a.verdict) ∷ []
-strong_next known a f = ap (λ (v : Verdict). known.earlier ++ (Q2, v) ∷ []) (block_says known Q2 a.verdict a.proof tt f)
+strong_next known a f = ap (λ (v : Verdict). known.earlier ++ (Q2, v) ∷ []) (block_says known Q2 a.verdict a.proof f)
 
 pub formed_by : (b : Bool) (qs : List Question) → AreInOrder b qs → (known : Known) (answers : List Answer) → AreKnown b known.earlier → AreFormed known.net known.earlier qs answers → documents.AreFormed meaning qs known (all_records meaning qs known answers)
 unfolding documents.AreFormed all_records

@@ -1,21 +1,9 @@
 -- What the forms and the records of documents have to do with blocks.
-use Rattle.crn_ctext.proofs.Prelude.{AllZip, Verdict, Proof, Question, Q11, Q13, pair_places, Datum, FitsHead, FitsRow, block_of, IsFormedOf, HeadKind, Record, head_of, records_below, heads, below, IsOneOf, Known, pairs_of, sizes_of, shapes_of}
+use Rattle.crn_ctext.proofs.Prelude.{AllZip, Verdict, Proof, Question, Datum, FitsHead, FitsRow, block_of, IsFormedOf, HeadKind, Record, head_of, records_below, heads, below, IsOneOf, Known, sizes_of, shapes_of}
 use Rattle.std.specs.Prelude.{◌≡◌, List, ◌∷◌, map}
 use Rattle.crn_cert.specs.Table as table
 use Rattle.crn_ctext.specs.Records as records
-use Rattle.crn_ctext.proofs.Forms.{forms, row_form, head_record, row_records}
-
--- the linked pairs are known where the forms of a question rest on them
-abbrev pub PairsFor : Question → Known → Type 0
-PairsFor Q11 known = pairs_of known ≡ pair_places known.net known.earlier
-PairsFor Q13 known = pairs_of known ≡ pair_places known.net known.earlier
-PairsFor q known = Unit {0}
-
--- the forms of heads
-abbrev pub HeadsAsBefore : Type 0
-HeadsAsBefore = (known : Known) (q : Question)
-    → PairsFor q known
-    → heads q (sizes_of known) ≡ forms q (table.sizes_of known.net known.earlier)
+use Rattle.crn_ctext.proofs.Forms.{row_form, head_record, row_records}
 
 -- the records of an answer, but for its trees, are those of its block
 abbrev pub AreRecordsOf : Known → Question → Verdict → Proof → Type 0
@@ -27,13 +15,12 @@ AreRecordsOf known q v p = let b = block_of known.net known.earlier v p in
 -- the records of formed answers
 abbrev pub RecordsAsBefore : Type 0
 RecordsAsBefore = (known : Known) (q : Question) (v : Verdict) (p : Proof)
-    → PairsFor q known → IsFormedOf known.net known.earlier q v p
+    → IsFormedOf known.net known.earlier q v p
     → AreRecordsOf known q v p
 
 -- the forms of the records below a head are those of the table
 abbrev pub RowsAsBefore : Type 0
 RowsAsBefore = (known : Known) (q : Question) (kind : HeadKind) (h : List Datum)
-    → PairsFor q known
     → FitsHead q (table.sizes_of known.net known.earlier) kind h
     → below q (shapes_of known) (head_record q kind h)
     ≡ map row_form (table.rows known.net known.earlier q kind h)
@@ -51,11 +38,11 @@ pub record AreOfBlock (known : Known) (q : Question) (h : Record) (rs : List Rec
 -- a head that fits a form of its question, and records that fit the forms below it, are of a block
 abbrev pub RecordsAreBlocks : Type 0
 RecordsAreBlocks = (known : Known) (q : Question) (h : Record) (rs : List Record)
-    → PairsFor q known → IsOneOf (heads q (sizes_of known)) h
+    → IsOneOf (heads q (sizes_of known)) h
     → AllZip records.Fits (below q (shapes_of known) h) rs → AreOfBlock known q h rs
 
 -- and the other way round: the records of a block that fits, but for its trees, fit the forms
 abbrev pub BlocksAreRecords : Type 0
 BlocksAreRecords = (known : Known) (q : Question) (h : Record) (rs : List Record)
-    → PairsFor q known → AreOfBlock known q h rs
+    → AreOfBlock known q h rs
     → IsOneOf (heads q (sizes_of known)) h × AllZip records.Fits (below q (shapes_of known) h) rs

@@ -11,7 +11,6 @@ use Rattle.crn_ctext.proofs.Forms.{head_record, row_records, spent_place, rests_
 use Rattle.crn_ctext.proofs.RowsDerived.{HeadOf, head_by}
 use Rattle.crn_ctext.proofs.RecordsTyped.{records_are_blocks}
 use Rattle.crn_ctext.proofs.RowsSaid.{blocks_are_records}
-use Rattle.crn_ctext.proofs.BlockLaws.{PairsFor}
 
 -- ---- the trees that are due
 
@@ -25,71 +24,71 @@ AreLike [] [] = Unit {0}
 AreLike (t ∷ ts) (w ∷ ws) = HasSizes t w × AreLike ts ws
 AreLike ts ws = ⊥
 
-signals_like : (known : Known) → pairs_of known ≡ pair_places known.net known.earlier → (b : Bool) → AreLike (one_or_two b (signal_tree (table.sizes_of known.net known.earlier))) (signal_problems known b)
-signals_like known e true = let n = ap (λ (ps : List ℕ). length known.net.complexes + length ps) (sym e) in ((refl, n, refl), ((refl, n, refl), tt))
-signals_like known e false = let n = ap (λ (ps : List ℕ). length known.net.complexes + length ps) (sym e) in ((refl, n, refl), tt)
+signals_like : (known : Known) → (b : Bool) → AreLike (one_or_two b (signal_tree (table.sizes_of known.net known.earlier))) (signal_problems known b)
+signals_like known true = ((refl, refl, refl), ((refl, refl, refl), tt))
+signals_like known false = ((refl, refl, refl), tt)
 
 abbrev pub AreDue : Known → Question → HeadKind → List Datum → Type 0
 AreDue known q kind h = AreLike (trees known.net known.earlier q kind) (meaning.problems q known (head_record q kind h))
 
-like_by : (known : Known) (q : Question) (kind : HeadKind) (a : HeadOf known q kind) → PairsFor q known → FitsHead q (table.sizes_of known.net known.earlier) kind (head_by known q kind a) → AreDue known q kind (head_by known q kind a)
-like_by known Q1 Classes a e h = tt
-like_by known Q2 Strong a e h = tt
-like_by known Q3 Yes a e h = tt
-like_by known Q3 NoReaction a e h = tt
-like_by known Q4 Yes a e h = tt
-like_by known Q4 NoReaction a e h = tt
-like_by known Q5 Rank a e h = tt
-like_by known Q5 Wide a e h = tt
-like_by known Q6 Deficiency a e h = tt
-like_by known Q6 Wide a e h = tt
-like_by known Q6 Rests a e h = tt
-like_by known Q7 YesVec a e h = tt
-like_by known Q7 NoVec a e h = tt
-like_by known Q7 Wide a e h = tt
-like_by known Q8 YesVec a e h = tt
-like_by known Q8 NoVec a e h = tt
-like_by known Q8 Wide a e h = tt
-like_by known Q9 YesWeak a e h = tt
-like_by known Q9 NoNumber a e h = tt
-like_by known Q9 Rests a e h = tt
-like_by known Q10 Yes a e h = tt
-like_by known Q10 NoTerminal a e h = tt
-like_by known Q10 NoClass a e h = tt
-like_by known Q10 NoSum a e h = tt
-like_by known Q10 Rests a e h = tt
-like_by known Q11 Yes a e h = tt
-like_by known Q11 NoTerminal a e h = tt
-like_by known Q11 NoDependence a e h = tt
-like_by known Q11 NoCycle a e h = tt
-like_by known Q11 Rests a e h = tt
-like_by known Q12 YesVec a e h = tt
-like_by known Q12 NotRegular a e h = tt
-like_by known Q12 OnlyZero a e h = tt
-like_by known Q12 Plane a e h = tt
-like_by known Q12 Wide a e h = tt
-like_by known Q12 Rests a e h = tt
-like_by known Q13 YesSignal a e h = tt
-like_by known Q13 No a e h = signals_like known e (is_yes (on known.earlier Q4))
-like_by known Q13 NotApplicable a e h = tt
-like_by known Q13 Wide a e h = tt
-like_by known Q13 Budget a e h = subst (λ (place : ℕ). AreLike [] (problems_by Q13 known place)) (sym (spent_place (has_vector (on known.earlier Q12)) (sizes_of known))) tt
-like_by known Q13 Rests a e h = subst (λ (place : ℕ). AreLike [] (problems_by Q13 known place)) (sym (rests_place (has_vector (on known.earlier Q12)) (sizes_of known))) tt
-like_by known Q14 Yes a e h = ((refl, refl, refl), tt)
-like_by known Q14 NoPair a e h = tt
-like_by known Q14 Wide a e h = tt
-like_by known Q14 Budget a e h = tt
-like_by known Q15 Yes a e h = ((refl, refl, refl), tt)
-like_by known Q15 NoPair a e h = tt
-like_by known Q15 Wide a e h = tt
-like_by known Q15 Budget a e h = tt
-like_by known q kind a e h = absurd h
+like_by : (known : Known) (q : Question) (kind : HeadKind) (a : HeadOf known q kind) → FitsHead q (table.sizes_of known.net known.earlier) kind (head_by known q kind a) → AreDue known q kind (head_by known q kind a)
+like_by known Q1 Classes a h = tt
+like_by known Q2 Strong a h = tt
+like_by known Q3 Yes a h = tt
+like_by known Q3 NoReaction a h = tt
+like_by known Q4 Yes a h = tt
+like_by known Q4 NoReaction a h = tt
+like_by known Q5 Rank a h = tt
+like_by known Q5 Wide a h = tt
+like_by known Q6 Deficiency a h = tt
+like_by known Q6 Wide a h = tt
+like_by known Q6 Rests a h = tt
+like_by known Q7 YesVec a h = tt
+like_by known Q7 NoVec a h = tt
+like_by known Q7 Wide a h = tt
+like_by known Q8 YesVec a h = tt
+like_by known Q8 NoVec a h = tt
+like_by known Q8 Wide a h = tt
+like_by known Q9 YesWeak a h = tt
+like_by known Q9 NoNumber a h = tt
+like_by known Q9 Rests a h = tt
+like_by known Q10 Yes a h = tt
+like_by known Q10 NoTerminal a h = tt
+like_by known Q10 NoClass a h = tt
+like_by known Q10 NoSum a h = tt
+like_by known Q10 Rests a h = tt
+like_by known Q11 Yes a h = tt
+like_by known Q11 NoTerminal a h = tt
+like_by known Q11 NoDependence a h = tt
+like_by known Q11 NoCycle a h = tt
+like_by known Q11 Rests a h = tt
+like_by known Q12 YesVec a h = tt
+like_by known Q12 NotRegular a h = tt
+like_by known Q12 OnlyZero a h = tt
+like_by known Q12 Plane a h = tt
+like_by known Q12 Wide a h = tt
+like_by known Q12 Rests a h = tt
+like_by known Q13 YesSignal a h = tt
+like_by known Q13 No a h = signals_like known (is_yes (on known.earlier Q4))
+like_by known Q13 NotApplicable a h = tt
+like_by known Q13 Wide a h = tt
+like_by known Q13 Budget a h = subst (λ (place : ℕ). AreLike [] (problems_by Q13 known place)) (sym (spent_place (has_vector (on known.earlier Q12)) (sizes_of known))) tt
+like_by known Q13 Rests a h = subst (λ (place : ℕ). AreLike [] (problems_by Q13 known place)) (sym (rests_place (has_vector (on known.earlier Q12)) (sizes_of known))) tt
+like_by known Q14 Yes a h = ((refl, refl, refl), tt)
+like_by known Q14 NoPair a h = tt
+like_by known Q14 Wide a h = tt
+like_by known Q14 Budget a h = tt
+like_by known Q15 Yes a h = ((refl, refl, refl), tt)
+like_by known Q15 NoPair a h = tt
+like_by known Q15 Wide a h = tt
+like_by known Q15 Budget a h = tt
+like_by known q kind a h = absurd h
 
-pub trees_due : (known : Known) (q : Question) (kind : HeadKind) (h : List Datum) → PairsFor q known → FitsHead q (table.sizes_of known.net known.earlier) kind h → AreDue known q kind h
-trees_due known q kind h e f =
+pub trees_due : (known : Known) (q : Question) (kind : HeadKind) (h : List Datum) → FitsHead q (table.sizes_of known.net known.earlier) kind h → AreDue known q kind h
+trees_due known q kind h f =
     let a = head_back (fields q (table.sizes_of known.net known.earlier) kind) h f in
     let head = subst (λ (h : List Datum). FitsHead q (table.sizes_of known.net known.earlier) kind h) a.1 f in
-    subst (λ (h : List Datum). AreDue known q kind h) (sym a.1) (like_by known q kind a.0 e head)
+    subst (λ (h : List Datum). AreDue known q kind h) (sym a.1) (like_by known q kind a.0 head)
 
 -- ---- trees as records, by the laws of one tree
 
@@ -137,28 +136,28 @@ records_in known q b = head_record q b.kind b.head ∷ row_records (table.rows k
 abbrev pub parts_in : (known : Known) (q : Question) (b : Block) → Parts (records_in known q b)
 parts_in known q b = record { head = head_record q b.kind b.head; rows = row_records (table.rows known.net known.earlier q b.kind b.head) b.rows; nodes = flat_map nodes b.trees; all = refl }
 
-pub blocks_are_formed : OfTrees → (known : Known) (q : Question) (b : Block) → PairsFor q known → FitsBlock known.net known.earlier q b → documents.IsFormed meaning q known (records_in known q b) (parts_in known q b)
-blocks_are_formed o known q b e f =
+pub blocks_are_formed : OfTrees → (known : Known) (q : Question) (b : Block) → FitsBlock known.net known.earlier q b → documents.IsFormed meaning q known (records_in known q b) (parts_in known q b)
+blocks_are_formed o known q b f =
     let head = f.head in
     let rows = f.rows in
     let plans = f.trees in
-    let there = blocks_are_records known q (head_record q b.kind b.head) (row_records (table.rows known.net known.earlier q b.kind b.head) b.rows) e
+    let there = blocks_are_records known q (head_record q b.kind b.head) (row_records (table.rows known.net known.earlier q b.kind b.head) b.rows)
     (record { kind = b.kind; head = b.head; rows = b.rows; head_fits = head; rows_fit = rows; head_is = refl; rows_are = refl }) in
-    record { head = there.0; rows = there.1; trees = trees_said o (trees known.net known.earlier q b.kind) (meaning.problems q known (head_record q b.kind b.head)) b.trees (trees_due known q b.kind b.head e head) plans }
+    record { head = there.0; rows = there.1; trees = trees_said o (trees known.net known.earlier q b.kind) (meaning.problems q known (head_record q b.kind b.head)) b.trees (trees_due known q b.kind b.head head) plans }
 
-pub formed_are_blocks : OfTrees → (known : Known) (q : Question) (rs : List Record) (p : Parts rs) → PairsFor q known → documents.IsFormed meaning q known rs p
+pub formed_are_blocks : OfTrees → (known : Known) (q : Question) (rs : List Record) (p : Parts rs) → documents.IsFormed meaning q known rs p
     → (b : Block) × FitsBlock known.net known.earlier q b × (rs ≡ records_in known q b) × (p.head ≡ head_record q b.kind b.head) × (p.rows ≡ row_records (table.rows known.net known.earlier q b.kind b.head) b.rows) × (p.nodes ≡ flat_map nodes b.trees)
-formed_are_blocks o known q rs p e f =
+formed_are_blocks o known q rs p f =
     let head_of = f.head in
     let rows_of = f.rows in
     let trees_of = f.trees in
-    let b = records_are_blocks known q p.head p.rows e head_of rows_of in
+    let b = records_are_blocks known q p.head p.rows head_of rows_of in
     let kind = b.kind in
     let head = b.head in
     let rows = b.rows in
     let head_fits = b.head_fits in
     let rows_fit = b.rows_fit in
-    let due = subst (λ (h : Record). AreLike (trees known.net known.earlier q kind) (meaning.problems q known h)) (sym b.head_is) (trees_due known q kind head e head_fits) in
+    let due = subst (λ (h : Record). AreLike (trees known.net known.earlier q kind) (meaning.problems q known h)) (sym b.head_is) (trees_due known q kind head head_fits) in
     let t = trees_given o (trees known.net known.earlier q kind) (meaning.problems q known p.head) p.nodes due trees_of in (
       record { kind = kind; head = head; rows = rows; trees = t.0 },
       record { head = head_fits; rows = rows_fit; trees = t.1 },

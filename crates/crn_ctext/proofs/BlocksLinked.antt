@@ -7,7 +7,6 @@ use Rattle.crn_cert.specs.Blocks.{head_of as kind_of}
 use Rattle.crn_cert.specs.Table as table
 use Rattle.crn_ctext.specs.Documents as documents
 use Rattle.crn_ctext.proofs.Forms.{head_record, row_records, spent_place, rests_place}
-use Rattle.crn_ctext.proofs.BlockLaws.{PairsFor}
 use Rattle.crn_ctext.proofs.Shown.{shown}
 use Rattle.crn_ctext.proofs.KnownBefore.{AreKnown, IsStrong, IsStrongTrue}
 use Rattle.crn_ctext.proofs.Joined.{IsLinked, IsJoinedAt, answer, parts, linked_there, linked_back}
@@ -18,7 +17,7 @@ use Rattle.crn_ctext.proofs.RecordsDerived.{records_as_before}
 use Rattle.crn_ctext.proofs.BlocksFormed.{AreLike, blocks_are_formed, nodes_in, trees_due}
 use Rattle.crn_ctext.proofs.BlocksSaid.{block_said, turn_is}
 use Rattle.crn_ctext.proofs.BlocksShown.{block_shown}
-use Rattle.crn_ctext.proofs.RecordsTold.{ComesAfter, of_trees, pairs_for}
+use Rattle.crn_ctext.proofs.RecordsTold.{ComesAfter, of_trees}
 
 -- ---- no trees
 
@@ -176,21 +175,21 @@ abbrev rows_in : Known → Question → Block → List Record
 rows_in known q b = row_records (table.rows known.net known.earlier q b.kind b.head) b.rows
 
 -- those of the answer are they
-above : (known : Known) (q : Question) (v : Verdict) (p : Proof) → PairsFor q known → IsFormedOf known.net known.earlier q v p → (head_of q v ≡ head_in q (block known v p)) × (records_below (shapes_of known) (answer v p) ≡ rows_in known q (block known v p))
-above known q v p e f =
+above : (known : Known) (q : Question) (v : Verdict) (p : Proof) → IsFormedOf known.net known.earlier q v p → (head_of q v ≡ head_in q (block known v p)) × (records_below (shapes_of known) (answer v p) ≡ rows_in known q (block known v p))
+above known q v p f =
     let head = head_in q (block known v p) in
     let rows = rows_in known q (block known v p) in
     let own = records_below (shapes_of known) (answer v p) in
-    let all : head_of q v ∷ own ≡ head ∷ rows = records_as_before known q v p e f in
+    let all : head_of q v ∷ own ≡ head ∷ rows = records_as_before known q v p f in
     (head_is (head_of q v) head own rows all, tail_is (head_of q v) head own rows all)
 
 -- the records of a formed answer are formed
-pub block_formed : (known : Known) (q : Question) (v : Verdict) (p : Proof) → PairsFor q known → IsFormedOf known.net known.earlier q v p → IsFormed meaning q known (records q (shapes_of known) (answer v p)) (parts q known (answer v p))
-block_formed known q v p e f =
+pub block_formed : (known : Known) (q : Question) (v : Verdict) (p : Proof) → IsFormedOf known.net known.earlier q v p → IsFormed meaning q known (records q (shapes_of known) (answer v p)) (parts q known (answer v p))
+block_formed known q v p f =
     let b : Block = block known v p in
     let own = records_below (shapes_of known) (answer v p) in
-    let a = above known q v p e f in
-    let formed = blocks_are_formed of_trees known q b e f.0 in
+    let a = above known q v p f in
+    let formed = blocks_are_formed of_trees known q b f.0 in
     record {
       head = subst (λ (h : Record). IsOneOf (heads q (sizes_of known)) h) (sym a.0) formed.head;
       rows = subst (λ (h : Record). AllZip Fits (below q (shapes_of known) h) own) (sym a.0) (subst (λ (rs : List Record). AllZip Fits (below q (shapes_of known) (head_in q b)) rs) (sym a.1) formed.rows);
@@ -198,11 +197,11 @@ block_formed known q v p e f =
     }
 
 -- and say its verdict
-pub block_says : (known : Known) (q : Question) (v : Verdict) (p : Proof) → PairsFor q known → IsFormedOf known.net known.earlier q v p → said_verdict q (sizes_of known) (head_of q v) (records_below (shapes_of known) (answer v p)) ≡ tight v
-block_says known q v p e f =
+pub block_says : (known : Known) (q : Question) (v : Verdict) (p : Proof) → IsFormedOf known.net known.earlier q v p → said_verdict q (sizes_of known) (head_of q v) (records_below (shapes_of known) (answer v p)) ≡ tight v
+block_says known q v p f =
     let b : Block = block known v p in
     let fits = f.0 in
-    let a = above known q v p e f in
+    let a = above known q v p f in
     ap₂ (λ (h : Record) (rs : List Record). said_verdict q (sizes_of known) h rs) a.0 a.1 ∙ block_said known q b.kind b.head b.rows fits.head fits.rows ∙ f.1.0
 
 -- problems like no trees are none
@@ -212,21 +211,21 @@ none_like [] (w ∷ ws) e l = absurd l
 none_like (t ∷ ts) ws e l = absurd cc
 
 -- a formed answer to which no trees are due
-pub linked : (known : Known) (q : Question) (v : Verdict) (p : Proof) → trees known.net known.earlier q (block known v p).kind ≡ [] → PairsFor q known → IsFormedOf known.net known.earlier q v p → IsLinked known q (answer v p)
-linked known q v p due e f =
+pub linked : (known : Known) (q : Question) (v : Verdict) (p : Proof) → trees known.net known.earlier q (block known v p).kind ≡ [] → IsFormedOf known.net known.earlier q v p → IsLinked known q (answer v p)
+linked known q v p due f =
     let b : Block = block known v p in
     let fits = f.0 in
     let own = records_below (shapes_of known) (answer v p) in
-    let a = above known q v p e f in
+    let a = above known q v p f in
     let none : trees_of p ≡ [] = none_of (trees_of p) (subst (λ (ts : List TreeRow). AllZip FitsTree ts (trees_of p)) due fits.trees) in
-    let says = block_says known q v p e f in
+    let says = block_says known q v p f in
     let whole : said_proof q (shapes_of known) (head_of q v) own ≡ tight_proof p =
     ap₂ (λ (h : Record) (rs : List Record). said_proof q (shapes_of known) h rs) a.0 a.1 ∙ block_shown known q b.kind b.head b.rows fits.head fits.rows
     ∙ ap (λ (ts : List Plan). proof_of known.net known.earlier q b.kind b.head b.rows ts) (sym none) ∙ f.1.1 in
     record {
-      formed = block_formed known q v p e f;
+      formed = block_formed known q v p f;
       bare = none_like (trees known.net known.earlier q b.kind) (meaning.problems q known (head_of q v)) due
-          (subst (λ (h : Record). AreLike (trees known.net known.earlier q b.kind) (meaning.problems q known h)) (sym a.0) (trees_due known q b.kind b.head e fits.head));
+          (subst (λ (h : Record). AreLike (trees known.net known.earlier q b.kind) (meaning.problems q known h)) (sym a.0) (trees_due known q b.kind b.head fits.head));
       heads = claims_are known q v fits.head;
       rows = ap₂ (λ (w : Verdict) (u : Proof). row_tests known.net known.earlier q w u) says whole ∙ rows_tight known.net known.earlier q v p;
       says = says;
@@ -275,13 +274,13 @@ strong_for : (b : Bool) (known : Known) → b ≡ true → AreKnown b known.earl
 strong_for b known o k = subst (λ (x : Bool). AreKnown x known.earlier) o k
 
 there_by : (b : Bool) (q : Question) → ComesAfter b q → (known : Known) (v : Verdict) (p : Proof) → AreKnown b known.earlier → IsFormedOf known.net known.earlier q v p → (trees known.net known.earlier q (kind_of v).0 ≡ []) ⊎ HaveTrees q v → IsValid known.net known.earlier q (answer v p) → IsThere known q v p
-there_by b q o known v p k f (inl due) valid = linked_there known q (answer v p) (linked known q v p due (pairs_for b q known o k) f) valid
+there_by b q o known v p k f (inl due) valid = linked_there known q (answer v p) (linked known q v p due f) valid
 there_by b q o known v p k f (inr t) valid =
     by_trees (λ (q : Question) (v : Verdict). ComesAfter b q → IsFormedOf known.net known.earlier q v p → IsValid known.net known.earlier q (answer v p) → IsThere known q v p) q v t
     (λ o f valid. signal_there known p (strong_for b known o k) f valid) (λ o f valid. plain_there known p f valid) (λ o f valid. strong_there known p f valid) o f valid
 
 back_by : (b : Bool) (q : Question) → ComesAfter b q → (known : Known) (v : Verdict) (p : Proof) → AreKnown b known.earlier → IsStrongTrue b known → IsFormedOf known.net known.earlier q v p → (trees known.net known.earlier q (kind_of v).0 ≡ []) ⊎ HaveTrees q v → IsThere known q v p → IsValid known.net known.earlier q (answer v p)
-back_by b q o known v p k s f (inl due) valid = linked_back known q (answer v p) (linked known q v p due (pairs_for b q known o k) f) valid
+back_by b q o known v p k s f (inl due) valid = linked_back known q (answer v p) (linked known q v p due f) valid
 back_by b q o known v p k s f (inr t) valid =
     by_trees (λ (q : Question) (v : Verdict). ComesAfter b q → IsFormedOf known.net known.earlier q v p → IsThere known q v p → IsValid known.net known.earlier q (answer v p)) q v t
     (λ o f valid. signal_back known p (strong_for b known o k) (subst (λ (x : Bool). IsStrongTrue x known) o s) f valid) (λ o f valid. plain_back known p f valid) (λ o f valid. strong_back known p f valid) o f valid
@@ -291,9 +290,8 @@ AlikeShown known q v w p r = head_of q v ≡ head_of q w → records_below (shap
 
 bare_shown : (b : Bool) (q : Question) → ComesAfter b q → ((net : Net) (earlier : Earlier) (kind : HeadKind) → trees net earlier q kind ≡ []) → (known : Known) (v w : Verdict) (p r : Proof) → AreKnown b known.earlier → IsFormedOf known.net known.earlier q v p → IsFormedOf known.net known.earlier q w r → AlikeShown known q v w p r
 bare_shown b q o none known v w p r k f g head rows nodes =
-    let e = pairs_for b q known o k in
-    let l = linked known q v p (none known.net known.earlier (kind_of v).0) e f in
-    let m = linked known q w r (none known.net known.earlier (kind_of w).0) e g in
+    let l = linked known q v p (none known.net known.earlier (kind_of v).0) f in
+    let m = linked known q w r (none known.net known.earlier (kind_of w).0) g in
     sym l.shows ∙ ap₂ (λ (x : Record) (xs : List Record). shown (said_proof q (shapes_of known) x xs)) head rows ∙ m.shows
 
 shows_by : (b : Bool) (q : Question) → ComesAfter b q → (known : Known) (v w : Verdict) (p r : Proof) → AreKnown b known.earlier → IsFormedOf known.net known.earlier q v p → IsFormedOf known.net known.earlier q w r → AlikeShown known q v w p r
@@ -304,9 +302,9 @@ shows_by b q o known v w p r k f g head rows nodes = bare_shown b q o (λ net ea
 
 pub joined : (b : Bool) (q : Question) → ComesAfter b q → IsJoinedAt b q
 joined b q o = record {
-  formed = λ known v p k f. block_formed known q v p (pairs_for b q known o k) f;
+  formed = λ known v p k f. block_formed known q v p f;
   there = λ known v p k f valid. there_by b q o known v p k f (bare_or known.net known.earlier q v) valid;
   back = λ known v p k s f valid. back_by b q o known v p k s f (bare_or known.net known.earlier q v) valid;
-  says = λ known v p k f. block_says known q v p (pairs_for b q known o k) f;
+  says = λ known v p k f. block_says known q v p f;
   shows = λ known v w p r k f g head rows nodes. shows_by b q o known v w p r k f g head rows nodes;
 }

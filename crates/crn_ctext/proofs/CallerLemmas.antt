@@ -38,13 +38,13 @@ pub use Rattle.crn_ctext.proofs.TreesAlike.{IsLike, HoldTogether, like_itself, l
 -- What records of given forms are, and what a course gives in two parts.
 pub use Rattle.crn_ctext.proofs.FieldsTyped.{zip_none}
 pub use Rattle.crn_ctext.proofs.AnswersApart.{zip_long}
-pub use Rattle.crn_ctext.proofs.Forms.{spent_place, rests_place}
+-- The forms of heads, as they come.
+pub use Rattle.crn_ctext.proofs.Forms.{head, yes, no, no_by, none_by, open_by, wide, wide_signal, rests, spent, last_forms, spent_place, rests_place, given_back}
 pub use Rattle.crn_ctext.proofs.BlocksSaid.{turn_is}
 pub use Rattle.crn_ctext.proofs.RanksLinked.{record_is}
 pub use Rattle.crn_ctext.proofs.TreesAlike.{gives_parts}
 -- Records that fit the forms of a question, and after which no tree is due, are those of a formed answer.
 pub use Rattle.crn_ctext.proofs.RecordsFormed.{records_formed}
-pub use Rattle.crn_ctext.proofs.BlockLaws.{PairsFor}
 -- ---- for the parts
 
 -- Decided statements.

@@ -1,5 +1,5 @@
 -- Documents of formed answers to the built questions have few lines, and so they are shorter than the bound.
-use Rattle.crn_ctext.proofs.Prelude.{◌≡◌, ◌+◌, ◌-◌, ◌*◌, ◌<◌, ◌≤◌, ◌==◌, ◌++◌, ◌∙◌, ℕ, zero, suc, Bool, true, false, if◌then◌else◌, List, [], ◌∷◌, length, map, refl, sym, ap, ap₂, subst, inl, inr, arith, ℤ, codes, replicate, AllByRecursion, AllZip, range_with_len, append-nil, length-append, length-map, length-replicate, map-append, length-range_with_len, Net, IsNetwork, MAX_BUDGET, MAX_DOCUMENT, Question, Q1, Q2, Q3, Q4, Q5, Q6, Q7, Q8, Q9, Q10, Q11, Q12, Q13, Q14, Q15, built, Sign, Zero, Plus, Minus, plain_table, strong_table, Record, Form, Fits, record_text, record_form, free_form, Sizes, Shapes, heads, rows, opens, rank_forms, class_forms, class_rank, side_form, classes_of, first_number, later_numbers, Problem, sections, below, place_of, ended, title, network_line, section, written, table_records, Share, FitsShare, one_word, IsNamed, IsOneOf, IsTree, AreTrees, leaf_forms, document, document2, Parts, IsFormed, AreFormed, Known, pairs_of, sizes_of, shapes_of, problem_over, table_problem, problems_by, meaning, AreFormedOf}
+use Rattle.crn_ctext.proofs.Prelude.{◌≡◌, ◌+◌, ◌-◌, ◌*◌, ◌<◌, ◌≤◌, ◌==◌, ◌++◌, ◌∙◌, ℕ, zero, suc, Bool, true, false, if◌then◌else◌, List, [], ◌∷◌, length, map, refl, sym, ap, ap₂, subst, inl, inr, arith, ℤ, codes, replicate, AllByRecursion, AllZip, range_with_len, append-nil, length-append, length-map, length-replicate, map-append, length-range_with_len, Net, IsNetwork, MAX_BUDGET, MAX_DOCUMENT, Question, Q1, Q2, Q3, Q4, Q5, Q6, Q7, Q8, Q9, Q10, Q11, Q12, Q13, Q14, Q15, built, Sign, Zero, Plus, Minus, plain_table, strong_table, Record, Form, Fits, record_text, record_form, free_form, Sizes, linkage_count, Shapes, heads, rows, opens, rank_forms, class_forms, class_rank, side_form, first_number, later_numbers, Problem, sections, below, place_of, ended, title, network_line, section, written, table_records, Share, FitsShare, one_word, IsNamed, IsOneOf, IsTree, AreTrees, leaf_forms, document, document2, Parts, IsFormed, AreFormed, Known, pairs_of, sizes_of, shapes_of, problem_over, table_problem, problems_by, meaning, AreFormedOf}
 use Rattle.crn_ctext.proofs.Written.{IsShortLine, first_ended}
 use Rattle.crn_ctext.proofs.AnswersApart.{zip_long}
 use Rattle.crn_ctext.proofs.Shared.{IsWrittenFor, shared_written}
@@ -159,11 +159,11 @@ confluence_few : (known : Known) (place : ℕ) (n : List ℤ) → IsSmall known 
 confluence_few known zero n s = omega arith
 confluence_few known (suc zero) n s =
     let c = s.complexes in
-    omega (arith, c, length-replicate (length known.net.complexes - 1) (free_form (codes "tie") (length known.net.names + classes_of (sizes_of known))))
+    omega (arith, c, length-replicate (length known.net.complexes - 1) (free_form (codes "tie") (length known.net.names + linkage_count known.earlier)))
 confluence_few known (suc (suc zero)) n s = omega arith
 confluence_few known (suc (suc (suc zero))) n s =
     let c = s.complexes in
-    omega (arith, c, length-replicate (length known.net.complexes) (free_form (codes "tie") (length known.net.names + classes_of (sizes_of known))))
+    omega (arith, c, length-replicate (length known.net.complexes) (free_form (codes "tie") (length known.net.names + linkage_count known.earlier)))
 confluence_few known (suc (suc (suc (suc zero)))) n s = omega arith
 confluence_few known (suc (suc (suc (suc (suc k))))) n s = omega arith
 

@@ -1,13 +1,10 @@
 -- Data that fit fields of the table are said as the fields of lines have it, field by field, and so is a block.
-use Rattle.crn_ctext.proofs.Prelude.{◌≡◌, ◌≤◌, ◌+◌, ◌++◌, ◌∙◌, ℕ, zero, suc, Bool, List, [], ◌∷◌, map, refl, sym, ap, subst, inl, inr, append_assoc, arith, ℤ, ◌≤ℤ◌, pos, negsuc, slice_index, Option, Some, None, AllByRecursion, AllZip, flat_map, range_with_len, ints, append-nil, length-map, length-map-range_with_len, get_or-map-range_with_len, IsIn, all_from, in_left, in_right, IsFrom, AreFrom, IsBasisOf, IsShelf, Question, Q1, Q2, Q3, Q4, Q5, Q6, Q7, Q8, Q9, Q10, Q11, Q12, Q13, Q14, Q15, Form, AreOf, AreBetween, Small, Rising, small, just, head_word, IsOneOf, HeadKind, Classes, Strong, Rank, Deficiency, Yes, YesWeak, YesVec, YesSignal, No, NoReaction, NoVec, NoNumber, NoTerminal, NoClass, NoSum, NoDependence, NoCycle, NoPair, NotRegular, OnlyZero, Plane, NotApplicable, WideHead, Rests, Datum, Num, Int, Nums, Ints, Marks, Led, Basis, OneAnd, Walk, FreeSeveral, Shelves, Side, WideOf, fields, FitsFields, FitsHead}
+use Rattle.crn_ctext.proofs.Prelude.{◌≡◌, ◌≤◌, ◌+◌, ◌++◌, ◌∙◌, ℕ, zero, suc, Bool, List, [], ◌∷◌, map, refl, sym, ap, subst, inl, inr, append_assoc, arith, ℤ, ◌≤ℤ◌, pos, negsuc, slice_index, Option, Some, None, AllByRecursion, AllZip, flat_map, range_with_len, ints, append-nil, length-map, length-map-range_with_len, get_or-map-range_with_len, IsIn, all_from, in_left, in_right, IsFrom, AreFrom, IsBasisOf, IsShelf, Question, Q1, Q2, Q3, Q4, Q5, Q6, Q7, Q8, Q9, Q10, Q11, Q12, Q13, Q14, Q15, words, kinds, ways, ways_of, wide_numbers, if_may, forms_at, forms_from, heads, head_word, Form, AreOf, AreBetween, Small, Rising, small, just, IsOneOf, HeadKind, Classes, Strong, Rank, Deficiency, Yes, YesWeak, YesVec, YesSignal, No, NoReaction, NoVec, NoNumber, NoTerminal, NoClass, NoSum, NoDependence, NoCycle, NoPair, NotRegular, OnlyZero, Plane, NotApplicable, WideHead, Rests, Datum, Num, Int, Nums, Ints, Marks, Led, Basis, OneAnd, Walk, FreeSeveral, Shelves, Side, WideOf, Sizes, fields, FitsFields, FitsHead}
 use Rattle.std.specs.Prelude.{◌⊎◌}
 use Rattle.crn_cert.specs.declared.head_kind.HeadKind.TheVariants.{Budget}
 use Rattle.crn_cert.specs.Data.{Two, Field, One, CountAndPart, TwoOf, Several, Members, Free, Turn, Wide, ClassWide, Fits}
-use Rattle.crn_cert.specs.Table.{Sizes}
 use Rattle.crn_ctext.specs.Records as records
 use Rattle.crn_ctext.proofs.Forms.{numbers_of}
-use Rattle.crn_ctext.proofs.Forms.{words, kinds}
-use Rattle.crn_ctext.proofs.Forms.{ways, ways_of, wide_numbers, if_may, forms_at, forms_from, forms}
 use Rattle.crn_ctext.proofs.FieldsTyped.{Holds}
 
 -- some way of the field has these numbers
@@ -219,10 +216,10 @@ in_forms q z kind h fs way place (other ∷ ks) e i (inr j) =
     let more = in_forms q z kind h fs way (suc place) ks e i j in
     (more.0, in_right more.0 (forms_at q other place (fields q z other)) (forms_from q z (suc place) ks) more.1, more.2, more.3)
 
-pub head_said : (q : Question) (z : Sizes) (kind : HeadKind) (h : List Datum) → FitsHead q z kind h → IsOneOf (forms q z) (record { words = head_word q ∷ words kind; numbers = flat_map numbers_of h })
+pub head_said : (q : Question) (z : Sizes) (kind : HeadKind) (h : List Datum) → FitsHead q z kind h → IsOneOf (heads q z) (record { words = head_word q ∷ words kind; numbers = flat_map numbers_of h })
 head_said q z kind h f = by (fields q z kind) refl f
   where
-    by : (o : Option (List Field)) → fields q z kind ≡ o → FitsFields o h → IsOneOf (forms q z) (record { words = head_word q ∷ words kind; numbers = flat_map numbers_of h })
+    by : (o : Option (List Field)) → fields q z kind ≡ o → FitsFields o h → IsOneOf (heads q z) (record { words = head_word q ∷ words kind; numbers = flat_map numbers_of h })
     by None e f = absurd f
     by (Some fs) e f =
         let w = fields_said fs h f in

@@ -1,10 +1,9 @@
 -- Numbers that a line says of the fields of the table are data that fit them, field by field.
-use Rattle.crn_ctext.proofs.Prelude.{◌≡◌, ◌≤◌, ◌<◌, ◌+◌, ◌++◌, ◌∙◌, ℕ, zero, suc, Bool, true, false, List, [], ◌∷◌, length, map, refl, sym, ap, ap₂, subst, inl, inr, append_assoc, arith, ℤ, pos, negsuc, slice_index, AllByRecursion, AllZip, flat_map, range_with_len, ints, append-nil, length-map, length-map-range_with_len, get_or-map-range_with_len, IsIn, IsAscending, all_in, IsFrom, AreFrom, IsShelf, IsBasisOf, Takes, AreNarrow, AreOf, AreBetween, AreRising, Small, Rising, small, just, Datum, Num, Int, Nums, Ints, Marks, Led, Basis, OneAnd, Walk, FreeSeveral, Shelves, Side, WideOf}
+use Rattle.crn_ctext.proofs.Prelude.{◌≡◌, ◌≤◌, ◌<◌, ◌+◌, ◌++◌, ◌∙◌, ℕ, zero, suc, Bool, true, false, List, [], ◌∷◌, length, map, refl, sym, ap, ap₂, subst, inl, inr, append_assoc, arith, ℤ, pos, negsuc, slice_index, AllByRecursion, AllZip, flat_map, range_with_len, ints, append-nil, length-map, length-map-range_with_len, get_or-map-range_with_len, IsIn, IsAscending, all_in, IsFrom, AreFrom, IsShelf, IsBasisOf, ways, ways_of, wide_numbers, if_may, Takes, AreNarrow, AreOf, AreBetween, AreRising, Small, Rising, small, just, Datum, Num, Int, Nums, Ints, Marks, Led, Basis, OneAnd, Walk, FreeSeveral, Shelves, Side, WideOf}
 use Rattle.std.specs.Prelude.{◌⊎◌}
 use Rattle.crn_cert.specs.Data.{Two, Field, One, CountAndPart, TwoOf, Several, Members, Free, Turn, Wide, ClassWide, Fits}
 use Rattle.crn_ctext.specs.Records as records
 use Rattle.crn_ctext.proofs.Forms.{numbers_of}
-use Rattle.crn_ctext.proofs.Forms.{ways, ways_of, wide_numbers, if_may}
 
 -- numbers within bounds are bits, or shelves
 pub between_bits : (marks : List ℤ) → AreBetween (pos 0) (pos 1) marks → AllByRecursion (λ x. (x ≡ pos 0) ⊎ (x ≡ pos 1)) marks

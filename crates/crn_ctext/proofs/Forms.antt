@@ -1,12 +1,6 @@
 -- The forms and the records of documents, from the table of blocks.
-use Rattle.crn_ctext.proofs.Prelude.{ℤ, pos, negsuc, Option, Some, None, codes, flat_map, range_with_len, Question, Datum, Odd, Num, Int, Nums, Ints, Marks, Led, Basis, Row, fields, HeadKind, Classes, Strong, Rank, Deficiency, Yes, YesWeak, YesVec, YesSignal, No, NoReaction, NoVec, NoNumber, NoTerminal, NoClass, NoSum, NoDependence, NoCycle, NoPair, NotRegular, OnlyZero, Plane, NotApplicable, Rests, Record, Form, Small, Members, CountAndPart, TwoOf, Rising, small, just, head_word, decided, open_kinds, wide_signal, spent, rests, open_by, place_of}
-use Rattle.std.specs.Prelude.{◌≡◌, refl, ◌+◌, ℕ, suc, Bool, true, false, List, [], ◌∷◌, ◌++◌, map}
-use Rattle.crn_cert.specs.Data.{Two, Field}
-use Rattle.crn_cert.specs.Table.{Sizes}
-use Rattle.crn_cert.specs.declared.head_kind.HeadKind.TheVariants.{Wide, Budget}
-use Rattle.crn_cert.specs.Data as typed
-use Rattle.crn_ctext.specs.Records as records
-use Rattle.crn_ctext.specs.Questions as questions
+use Rattle.crn_ctext.proofs.Prelude.{◌≡◌, ◌+◌, ◌-◌, ◌++◌, ◌∙◌, ℕ, suc, Bool, true, false, List, [], ◌∷◌, length, map, refl, ap, ap₂, arith, ℤ, pos, codes, slice_index_or, flat_map, range_with_len, MAX_BUDGET, Question, Datum, Odd, Num, Int, Nums, Ints, Marks, Led, Basis, Row, Sizes, HeadKind, Record, Form, Field, small, just, head_word, words, ways, wide_numbers, if_may, place_of}
+use Rattle.crn_cert.specs.Data.{Two}
 
 -- ---- records
 
@@ -22,38 +16,6 @@ numbers_of (Marks n zs) = pos n ∷ zs
 numbers_of (Led n xs) = map pos (n ∷ xs)
 numbers_of (Basis system class index basis) = map pos (system ∷ class ∷ index ∷ basis)
 
--- the words of a head after that of its question
-abbrev pub words : HeadKind → List (List ℕ)
-words Classes = []
-words Strong = []
-words Rank = []
-words Deficiency = []
-words Yes = codes "yes" ∷ []
-words YesWeak = codes "yes" ∷ []
-words YesVec = codes "yes" ∷ []
-words YesSignal = codes "yes" ∷ []
-words No = codes "no" ∷ []
-words NoReaction = codes "no" ∷ []
-words NoVec = codes "no" ∷ []
-words NoNumber = codes "no" ∷ []
-words NoPair = codes "no" ∷ []
-words NoTerminal = codes "no" ∷ codes "terminal" ∷ []
-words NoClass = codes "no" ∷ codes "class" ∷ []
-words NoSum = codes "no" ∷ codes "sum" ∷ []
-words NoDependence = codes "no" ∷ codes "dependence" ∷ []
-words NoCycle = codes "no" ∷ codes "cycle" ∷ []
-words NotRegular = codes "none" ∷ codes "regular" ∷ []
-words OnlyZero = codes "none" ∷ codes "zero" ∷ []
-words Plane = codes "none" ∷ codes "plane" ∷ []
-words NotApplicable = codes "none" ∷ []
-words Wide = codes "open" ∷ codes "wide" ∷ []
-words Budget = codes "open" ∷ codes "budget" ∷ []
-words Rests = codes "open" ∷ codes "rests" ∷ []
-
--- the kinds of its heads, in the order in which they are numbered from 1
-abbrev pub kinds : Question → List HeadKind
-kinds q = decided q ++ open_kinds
-
 -- the record of a head of this kind
 abbrev pub head_record : Question → HeadKind → List Datum → Record
 head_record q kind head =
@@ -68,63 +30,10 @@ abbrev pub row_records : List Row → List Datum → List Record
 row_records (row ∷ rows) (datum ∷ more) = row_record row datum ∷ row_records rows more
 row_records rows given = []
 
--- ---- numbers of a field, in one way or several
-
--- the index and the basis of a vector of a system
-abbrev pub wide_numbers : (system columns rows : ℕ) → List records.Field
-wide_numbers system columns rows =
-    just system ∷ just 0 ∷ small 1 1 (columns + rows) ∷ Rising columns (columns + rows) ∷ []
-
--- the second way, if it may be
-abbrev pub if_may : Bool → List records.Field → List (List records.Field)
-if_may true way = way ∷ []
-if_may false way = []
-
--- the ways in which the numbers of a field are ranged
-abbrev pub ways : Field → List (List records.Field)
-ways (typed.One least greatest) = (small 1 least greatest ∷ []) ∷ []
-ways (typed.CountAndPart greatest) = (CountAndPart greatest ∷ []) ∷ []
-ways (typed.TwoOf greatest) = (TwoOf greatest ∷ []) ∷ []
-ways (typed.Several count least greatest) = (small count least greatest ∷ []) ∷ []
-ways (typed.OneAnd count least greatest) = (small (1 + count) least greatest ∷ []) ∷ []
-ways (typed.Walk greatest) = (records.Several 2 greatest (pos 1) (pos greatest) ∷ []) ∷ []
-ways (typed.Members count members) = (Members count members ∷ []) ∷ []
-ways typed.Free = (records.Free 1 ∷ []) ∷ []
-ways (typed.FreeSeveral count) = (records.Free count ∷ []) ∷ []
-ways typed.Turn = (records.Turn ∷ []) ∷ []
-ways (typed.Shelves count) = (Small count (negsuc 0) (pos 1) ∷ []) ∷ []
-ways (typed.Side reaction count) = (just reaction ∷ small count 0 1 ∷ []) ∷ []
-ways (typed.Wide s columns rows) = wide_numbers s columns rows ∷ []
-ways (typed.WideOf s columns rows may t more_columns more_rows) =
-    wide_numbers s columns rows ∷ if_may may (wide_numbers t more_columns more_rows)
-ways (typed.ClassWide s columns classes rows) =
-    (just s ∷ records.ClassWide columns (map rows (range_with_len 1 classes)) ∷ []) ∷ []
-
--- those of some fields one after another
-abbrev pub ways_of : List Field → List (List records.Field)
-ways_of [] = [] ∷ []
-ways_of (f ∷ fs) = flat_map (λ way. map (λ more. way ++ more) (ways_of fs)) (ways f)
-
 -- ---- forms
 
--- the forms of a head of this kind, at this place
-abbrev pub forms_at : Question → HeadKind → (place : ℕ) → Option (List Field) → List Form
-forms_at q kind place None = []
-forms_at q kind place (Some fs) =
-    map (λ way. record { place = place; words = head_word q ∷ words kind; fields = way }) (ways_of fs)
-
--- the forms of heads of these kinds, numbered from here on
-abbrev pub forms_from : Question → Sizes → (place : ℕ) → List HeadKind → List Form
-forms_from q z place [] = []
-forms_from q z place (kind ∷ kinds) =
-    forms_at q kind place (fields q z kind) ++ forms_from q z (suc place) kinds
-
--- the forms of the heads of a question
-abbrev pub forms : Question → Sizes → List Form
-forms q z = forms_from q z 1 (kinds q)
-
 -- the only way of a field of a record below a head
-abbrev pub way_of : List (List records.Field) → List records.Field
+abbrev pub way_of : List (List Field) → List Field
 way_of [] = []
 way_of (way ∷ more) = way
 
@@ -132,15 +41,61 @@ way_of (way ∷ more) = way
 abbrev pub row_form : Row → Form
 row_form row = record { place = 0; words = row.word ∷ []; fields = way_of (ways row.field) }
 
--- ---- places of the last forms of question 13
+-- ---- the forms of heads, as they come
 
-abbrev pub last_forms : Bool → questions.Sizes → List Form
-last_forms b z = wide_signal b z ++ spent (codes "q13") 5 ∷ rests (codes "q13") 6 12 ∷ []
+abbrev pub head : List ℕ → ℕ → List (List ℕ) → List Field → Form
+head word place words fields = record { place = place; words = word ∷ words; fields = fields }
 
-pub spent_place : (b : Bool) (z : questions.Sizes) → place_of (last_forms b z) (codes "q13" ∷ open_by (codes "budget")) ≡ 5
+abbrev pub yes : List (List ℕ)
+yes = codes "yes" ∷ []
+
+abbrev pub no : List (List ℕ)
+no = codes "no" ∷ []
+
+abbrev pub no_by : List ℕ → List (List ℕ)
+no_by reason = codes "no" ∷ reason ∷ []
+
+abbrev pub none_by : List ℕ → List (List ℕ)
+none_by reason = codes "none" ∷ reason ∷ []
+
+abbrev pub open_by : List ℕ → List (List ℕ)
+open_by reason = codes "open" ∷ reason ∷ []
+
+abbrev pub wide : List ℕ → ℕ → (system columns rows : ℕ) → Form
+wide word place system columns rows = head word place (open_by (codes "wide")) (wide_numbers system columns rows)
+
+abbrev pub spent : List ℕ → ℕ → Form
+spent word place = head word place (open_by (codes "budget")) (small 1 1 MAX_BUDGET ∷ [])
+
+abbrev pub rests : List ℕ → ℕ → ℕ → Form
+rests word place question = head word place (open_by (codes "rests")) (just question ∷ [])
+
+-- ---- the last forms of question 13
+
+-- system 5 may be wide
+abbrev pub wide_signal : Bool → Sizes → List Form
+wide_signal may z = map (λ way. head (codes "q13") 4 (open_by (codes "wide")) way) (flat_map (λ way. map (λ more. way ++ more) ([] ∷ [])) (if_may may (wide_numbers 5 (z.species + 1) (z.complexes + z.pairs))))
+
+abbrev pub last_forms : Bool → Sizes → List Form
+last_forms may z = wide_signal may z ++ spent (codes "q13") 5 ∷ rests (codes "q13") 6 12 ∷ []
+
+pub spent_place : (b : Bool) (z : Sizes) → place_of (last_forms b z) (codes "q13" ∷ open_by (codes "budget")) ≡ 5
 spent_place true z = refl
 spent_place false z = refl
 
-pub rests_place : (b : Bool) (z : questions.Sizes) → place_of (last_forms b z) (codes "q13" ∷ open_by (codes "rests")) ≡ 6
+pub rests_place : (b : Bool) (z : Sizes) → place_of (last_forms b z) (codes "q13" ∷ open_by (codes "rests")) ≡ 6
 rests_place true z = refl
 rests_place false z = refl
+
+-- ---- sizes that are given
+
+-- what a function gives from here on, if it gives the members of a list
+from_at : (f : ℕ → ℕ) (a : ℕ) (xs : List ℕ) → ((i : ℕ) → f (a + i) ≡ slice_index_or xs i 0) → map f (range_with_len a (length xs)) ≡ xs
+from_at f a [] e = refl
+from_at f a (x ∷ xs) e =
+    let here : a ≡ a + 0 = omega arith in
+    ap₂ (λ (y : ℕ) (ys : List ℕ). y ∷ ys) (ap f here ∙ e 0) (from_at f (a + 1) xs (λ i. ap f (let m : a + 1 + i ≡ a + suc i = omega arith in m) ∙ e (suc i)))
+
+-- the numbers of reactions of the classes are the list that is given
+pub given_back : (xs : List ℕ) → map (λ k. slice_index_or xs (k - 1) 0) (range_with_len 1 (length xs)) ≡ xs
+given_back xs = from_at (λ k. slice_index_or xs (k - 1) 0) 1 xs (λ i. ap (λ (j : ℕ). slice_index_or xs j 0) (let m : 1 + i - 1 ≡ i = omega arith in m))

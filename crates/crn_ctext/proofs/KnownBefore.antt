@@ -1,5 +1,5 @@
 -- The strong classes are known after question 2, and so are the linked pairs within terminal classes.
-use Rattle.crn_ctext.proofs.Prelude.{◌≡◌, ◌==◌, ◌++◌, ◌∙◌, ℕ, Bool, true, false, if◌then◌else◌, List, [], ◌∷◌, length, refl, sym, ap, subst, inl, inr, slice_index, AllByRecursion, filter, range_with_len, cases_Bool, Net, Wide, Budget, Verdict, Unknown, Proof, Earlier, Question, Q2, number, on, labels_of, exits_of, IsFormedOf, IsTrueOf, IsTrueOrOpen, of_class, ends_at, is_least_of_pair, pair_places, IsValid, tight, strong_law, is_true_tight, Known, pairs_by, pairs_of}
+use Rattle.crn_ctext.proofs.Prelude.{◌≡◌, ◌==◌, ◌++◌, ◌∙◌, ℕ, Bool, true, false, if◌then◌else◌, List, [], ◌∷◌, length, refl, sym, ap, subst, inl, inr, slice_index, AllByRecursion, filter, range_with_len, cases_Bool, Net, Wide, Budget, Verdict, Unknown, Proof, Earlier, Question, Q2, number, on, labels_of, exits_of, IsFormedOf, IsTrueOf, IsTrueOrOpen, of_class, ends_at, is_least_of_pair, pair_places, IsValid, tight, strong_law, is_true_tight, Known, pairs_of}
 use Rattle.std.specs.Prelude.{◌||◌, ◌&&◌}
 use Rattle.crn_cert.specs.declared.answer.Gap.TheVariants.{Rests}
 use Rattle.crn_cert.specs.declared.answer.Verdict.TheVariants.{Strong}
@@ -110,10 +110,6 @@ true_then false q known v k s t = tt
 
 -- ---- the pairs
 
-pairs_by_strong : (known : Known) (v : Verdict) → IsStrong v → pairs_by known v ≡ pair_places known.net known.earlier
-pairs_by_strong known (Strong count terminal label exit) s = refl
-pairs_by_strong known v s = absurd s
-
 -- two complexes are in one strong class without an exit, by lists
 abbrev is_within_by : (strong_are exits_are : List ℕ) → ℕ × ℕ → Bool
 is_within_by strong_are exits_are r = (slice_index strong_are r.0 == slice_index strong_are r.1) && (of_class strong_are exits_are r.0 == 0)
@@ -122,12 +118,6 @@ is_within_by strong_are exits_are r = (slice_index strong_are r.0 == slice_index
 abbrev pairs_by_lists : Net → (strong_are exits_are : List ℕ) → List ℕ
 pairs_by_lists net strong_are exits_are = filter (λ r. is_within_by strong_are exits_are (ends_at net r) && is_least_of_pair net r) (range_with_len 1 (length net.reactions))
 
--- the pairs that are known are those of the earlier verdicts
-pub pairs_known : (known : Known) → IsStrong (on known.earlier Q2) → pairs_of known ≡ pair_places known.net known.earlier
-pairs_known known s = pairs_by_strong known (on known.earlier Q2) s
-
 -- they stay the same after later questions
 pub pairs_stay : (known : Known) (more : Earlier) → IsStrong (on known.earlier Q2) → pairs_of (record { net = known.net; earlier = known.earlier ++ more }) ≡ pairs_of known
-pairs_stay known more s =
-    let later : Known = record { net = known.net; earlier = known.earlier ++ more } in
-    pairs_known later (strong_stays known.earlier more s) ∙ ap (λ (v : Verdict). pairs_by_lists known.net (labels_of v) (exits_of v)) (on_stays known.earlier more s) ∙ sym (pairs_known known s)
+pairs_stay known more s = ap (λ (v : Verdict). pairs_by_lists known.net (labels_of v) (exits_of v)) (on_stays known.earlier more s)

@@ -83,7 +83,6 @@ mod LineSought
 mod LineRows
 mod PartRuns
 mod BlockLaws
-mod HeadsDerived
 mod RowsDerived
 mod RecordsDerived
 mod FieldsTyped

@@ -1,7 +1,8 @@
 -- The forms of the built questions are bounded.
-use Rattle.crn_ctext.proofs.Prelude.{◌≡◌, ◌==◌, ◌≤◌, ◌+◌, ◌-◌, ◌++◌, ◌∙◌, ℕ, zero, suc, Bool, true, false, cond, if◌then◌else◌, List, [], ◌∷◌, length, map, refl, sym, ap, subst, inl, inr, arith, ℤ, pos, negsuc, nat_abs, codes, replicate, slice_index, slice_index_or, min-le_right, cases_Bool, ints, append-nil, length-append, length-map, length-range_with_len, AllByRecursion, AllZip, filter, range_with_len, Net, IsNetwork, class_members, MAX_SPECIES, MAX_COMPLEXES, MAX_REACTIONS, filter_few, all_range, Gap, Spent, RestsOn, Rests, Verdict, Unknown, Earlier, Question, Q1, Q2, Q3, Q4, Q5, Q6, Q7, Q8, Q9, Q10, Q11, Q12, Q13, Q14, Q15, number, on, count_of, terminal_of, labels_of, linkage, linkage_count, class_places, ends_at, is_within_terminal, is_least_of_pair, Record, Form, CountAndPart, AreBetween, Fits, open_kinds, kind_at, heads, rows, head, yes, no, no_by, none_by, wide, wide_signal, spent, rests, open_by, classes, rank_forms, class_forms, class_rank, side_form, first_number, later_numbers, small, small_form, free_form, place_of, IsOneOf, Known, lists, wide_gap, said_number, is_yes, has_vector, signal_problems, pairs_by, pairs_of, lengths, reactions_by_class, complexes_by_class, shapes_of, sizes_of, verdict_by, verdict_of, problems_by, meaning, built}
+use Rattle.crn_ctext.proofs.Prelude.{◌≡◌, ◌==◌, ◌≤◌, ◌+◌, ◌-◌, ◌++◌, ◌∙◌, ℕ, zero, suc, Bool, true, false, cond, if◌then◌else◌, List, [], ◌∷◌, length, map, refl, sym, ap, subst, inl, inr, arith, ℤ, pos, negsuc, nat_abs, codes, replicate, slice_index, slice_index_or, min-le_right, cases_Bool, ints, append-nil, length-append, length-map, length-range_with_len, length-map-range_with_len, AllByRecursion, AllZip, filter, range_with_len, Net, IsNetwork, class_members, MAX_SPECIES, MAX_COMPLEXES, MAX_REACTIONS, filter_few, all_range, Gap, Spent, RestsOn, Rests, Verdict, Unknown, Earlier, Question, Q1, Q2, Q3, Q4, Q5, Q6, Q7, Q8, Q9, Q10, Q11, Q12, Q13, Q14, Q15, number, on, count_of, terminal_of, labels_of, linkage, linkage_count, class_places, ends_at, is_within_terminal, is_least_of_pair, Record, Form, CountAndPart, AreBetween, Fits, open_kinds, kind_at, heads, rows, rank_forms, class_forms, class_rank, side_form, first_number, later_numbers, small, small_form, free_form, place_of, IsOneOf, Known, lists, wide_gap, said_number, is_yes, has_vector, signal_problems, pairs_of, lengths, reactions_by_class, complexes_by_class, shapes_of, sizes_of, verdict_by, verdict_of, problems_by, meaning, built}
 use Rattle.std.specs.Prelude.{◌&&◌, min}
 use Rattle.crn_cert.specs.declared.answer.Verdict.TheVariants.{NotApplicable, Strong}
+use Rattle.crn_ctext.proofs.Forms.{head, yes, no, no_by, none_by, wide, wide_signal, spent, rests, open_by}
 use Rattle.crn_ctext.proofs.Bounded.{IsSlim, IsBounded, words_fit}
 use Rattle.crn_ctext.proofs.ShortAnswers.{IsShortFor, AreFewProblems}
 
@@ -133,11 +134,7 @@ members_with known s p =
 
 -- and the linked pairs within terminal classes
 pub pairs_few : (known : Known) → IsSmall known → IsMemberList (pairs_of known)
-pairs_few known s = by (on known.earlier Q2)
-  where
-    by : (v : Verdict) → IsMemberList (pairs_by known v)
-    by (Strong count terminal label exit) = members_with known s (λ r. is_within_terminal known.earlier (ends_at known.net r) && is_least_of_pair known.net r)
-    by v = (omega arith, tt)
+pairs_few known s = members_with known s (λ r. is_within_terminal known.earlier (ends_at known.net r) && is_least_of_pair known.net r)
 
 pub lists_small : (known : Known) → IsSmall known → AllByRecursion IsMemberList (class_lists known)
 lists_small known s = all_range IsMemberList (λ k. class_places known.net known.earlier k) 1 (linkage_count known.earlier) (λ k from below. class_members_few known s k)
@@ -150,9 +147,6 @@ sizes_small known s =
 -- there is one of each for each class
 pub sizes_counted : (known : Known) → length (class_sizes known) ≡ linkage_count known.earlier
 sizes_counted known = length-map (complexes_by_class known) (λ (list : List ℕ). length list) ∙ length-map (range_with_len 1 (linkage_count known.earlier)) (λ k. class_members (linkage known.earlier) k) ∙ length-range_with_len 1 (linkage_count known.earlier)
-
-pub lists_counted : (known : Known) → classes (sizes_of known) ≡ linkage_count known.earlier
-lists_counted known = length-map (reactions_by_class known) (λ (list : List ℕ). length list) ∙ length-map (range_with_len 1 (linkage_count known.earlier)) (λ k. class_places known.net known.earlier k) ∙ length-range_with_len 1 (linkage_count known.earlier)
 
 -- ---- forms
 
@@ -276,19 +270,19 @@ regular_rows known (suc (suc (suc (suc zero)))) n s = (let c = s.complexes in re
 regular_rows known (suc (suc (suc (suc (suc k))))) n s = tt
 
 -- a tie has a number for each species and each linkage class
-tie_bounded : (known : Known) → IsSmall known → IsBounded (free_form (codes "tie") (length known.net.names + classes (sizes_of known)))
+tie_bounded : (known : Known) → IsSmall known → IsBounded (free_form (codes "tie") (length known.net.names + linkage_count known.earlier))
 tie_bounded known s =
     let m = s.species in
     let c = s.classes in
-    free_bounded (codes "tie") (length known.net.names + classes (sizes_of known)) refl (omega (arith, m, c, lists_counted known))
+    free_bounded (codes "tie") (length known.net.names + linkage_count known.earlier) refl (omega (arith, m, c))
 
 confluence_rows : (known : Known) (place : ℕ) (n : List ℤ) → IsSmall known → AllByRecursion IsBounded (rows Q12 (shapes_of known) place n)
 confluence_rows known zero n s = tt
 confluence_rows known (suc zero) n s =
     let c = length known.net.complexes in
-    (free_bounded (codes "vec") c refl (complexes_few known s), each_again (c - 1) (free_form (codes "tie") (length known.net.names + classes (sizes_of known))) (tie_bounded known s))
+    (free_bounded (codes "vec") c refl (complexes_few known s), each_again (c - 1) (free_form (codes "tie") (length known.net.names + linkage_count known.earlier)) (tie_bounded known s))
 confluence_rows known (suc (suc zero)) n s = tt
-confluence_rows known (suc (suc (suc zero))) n s = each_again (length known.net.complexes) (free_form (codes "tie") (length known.net.names + classes (sizes_of known))) (tie_bounded known s)
+confluence_rows known (suc (suc (suc zero))) n s = each_again (length known.net.complexes) (free_form (codes "tie") (length known.net.names + linkage_count known.earlier)) (tie_bounded known s)
 confluence_rows known (suc (suc (suc (suc zero)))) n s =
     let one = free_bounded (codes "vec") (length known.net.complexes) refl (complexes_few known s) in
     (one, (one, tt))
@@ -422,18 +416,14 @@ deficiency_heads known s =
     let a = s.species in
     let c = s.classes in
     let m = length known.net.names in
-    let count = lists_counted known in
-    let each = each_length (λ r. IsSlim (pos (m + r))) (class_lists known) (every (class_lists known) (lists_small known s)) in (
-      record { words = refl; few = omega (arith, c, count); fields = ((zero_short, complexes_short known s), tt) },
+    let count = length-map-range_with_len (λ k. length (class_places known.net known.earlier k)) 1 (linkage_count known.earlier) in
+    let each = all_range (λ r. IsSlim (pos (m + r))) (λ k. length (class_places known.net known.earlier k)) 1 (linkage_count known.earlier) (λ k from below. few_short (m + length (class_places known.net known.earlier k)) 1000 (omega (arith, a, (class_members_few known s k).0)) (omega arith)) in (
+      record { words = refl; few = omega (arith, c); fields = ((zero_short, complexes_short known s), tt) },
       (
-        record { words = refl; few = omega (arith, a); fields = ((few_short 3 1000 (omega arith) (omega arith), few_short 3 1000 (omega arith) (omega arith)), ((each, few_short (classes (sizes_of known)) 1000 (omega (arith, c, count)) (omega arith)), tt)) },
+        record { words = refl; few = omega (arith, a); fields = ((few_short 3 1000 (omega arith) (omega arith), few_short 3 1000 (omega arith) (omega arith)), ((each, few_short (length (map (λ k. length (class_places known.net known.earlier k)) (range_with_len 1 (linkage_count known.earlier)))) 1000 (omega (arith, c, count)) (omega arith)), tt)) },
         (record { words = refl; few = omega arith; fields = ((few_short 5 1000 (omega arith) (omega arith), few_short 5 1000 (omega arith) (omega arith)), tt) }, tt),
       ),
     )
-  where
-    every : (lists : List (List ℕ)) → AllByRecursion IsMemberList lists → AllByRecursion (λ list. IsSlim (pos (length known.net.names + length list))) lists
-    every [] b = tt
-    every (list ∷ lists) b = (let a = s.species in few_short (length known.net.names + length list) 1000 (omega (arith, a, b.0.0)) (omega arith), every lists b.1)
 
 deficiency_short : IsShortFor meaning IsSmall Q6
 deficiency_short = record {
@@ -471,10 +461,10 @@ conservation_short = record {
 rests_head : (word : List ℕ) (place question : ℕ) → words_fit (word ∷ open_by (codes "rests")) ≡ true → question ≤ 15 → IsBounded (rests word place question)
 rests_head word place question w a = let q = few_short question 1000 (omega (arith, a)) (omega arith) in record { words = w; few = omega arith; fields = ((q, q), tt) }
 
-class_head : (known : Known) (place : ℕ) (word reason : List ℕ) → IsSmall known → words_fit (word ∷ no_by reason) ≡ true → IsBounded (head word place (no_by reason) (small 1 1 (classes (sizes_of known)) ∷ small 1 2 (length known.net.complexes) ∷ []))
+class_head : (known : Known) (place : ℕ) (word reason : List ℕ) → IsSmall known → words_fit (word ∷ no_by reason) ≡ true → IsBounded (head word place (no_by reason) (small 1 1 (linkage_count known.earlier) ∷ small 1 2 (length known.net.complexes) ∷ []))
 class_head known place word reason s w =
     let c = s.classes in
-    record { words = w; few = omega arith; fields = ((one_short, few_short (classes (sizes_of known)) 1000 (omega (arith, c, lists_counted known)) (omega arith)), ((few_short 2 1000 (omega arith) (omega arith), complexes_short known s), tt)) }
+    record { words = w; few = omega arith; fields = ((one_short, few_short (linkage_count known.earlier) 1000 (omega (arith, c)) (omega arith)), ((few_short 2 1000 (omega arith) (omega arith), complexes_short known s), tt)) }
 
 zero_theorem_short : IsShortFor meaning IsSmall Q9
 zero_theorem_short = record {
@@ -534,7 +524,7 @@ confluence_heads known s =
           (
             record { words = refl; few = omega arith; fields = (complexes_short known s, tt) },
             (
-              wide_head (codes "q12") 5 4 (length known.net.complexes) (length known.net.names + classes (sizes_of known)) refl (omega arith) (omega (arith, c)) (omega (arith, m, k, lists_counted known)),
+              wide_head (codes "q12") 5 4 (length known.net.complexes) (length known.net.names + linkage_count known.earlier) refl (omega arith) (omega (arith, c)) (omega (arith, m, k)),
               (rests_head (codes "q12") 7 11 refl (omega arith), tt),
             ),
           ),

@@ -17,7 +17,7 @@ pub use Rattle.crn_cert.specs.Ranges.{AreBits, AreFree, AreFrom, IsFrom}
 pub use Rattle.crn_cert.specs.RankTests.{IsComb, IsDual, comb_tests, dual_tests, outside, rank_tests, vector_of, vectors_of}
 pub use Rattle.crn_cert.specs.Says.{HasNoReverse, IsReactionNumber, IsShelf, IsTrueOf, IsTurn, RuleOutConservation, RuleOutDependence, WalkLeads, by_turn, from_zero}
 pub use Rattle.crn_cert.specs.Shares.{FitsAnswers, HasAt, Shared, all_cuts, cuts_in, cuts_of, number_in, share_of, share_of_cuts}
-pub use Rattle.crn_cert.specs.Table.{Row, TreeRow, class_rows, fields, one_or_two, others, rank_in, rank_rows, row, rows_by, signal_tree, sizes_of as table_sizes, table_tree, trees}
+pub use Rattle.crn_cert.specs.Table.{Row, Sizes, TreeRow, class_rows, fields, one_or_two, others, rank_in, rank_rows, row, rows_by, signal_tree, sizes_of as table_sizes, table_tree, trees}
 pub use Rattle.crn_cert.specs.Tests.{AllHold, Test as Claim}
 pub use Rattle.crn_cert.specs.TreeSizes.{HasFewNodes, HaveFewNodes}
 pub use Rattle.crn_cert.specs.TreeTests.{tree_tests}
@@ -35,7 +35,7 @@ pub use Rattle.crn_cert.specs.declared.answer.Verdict.TheVariants.{Unknown}
 pub use Rattle.crn_cert.specs.declared.head_kind.HeadKind.{HeadKind}
 pub use Rattle.crn_cert.specs.declared.head_kind.HeadKind.TheVariants.{Classes, Deficiency, No, NoClass, NoCycle, NoDependence, NoNumber, NoPair, NoReaction, NoSum, NoTerminal, NoVec, NotApplicable, NotRegular, OnlyZero, Plane, Rank, Rests, Strong, Wide as WideHead, Yes, YesSignal, YesVec, YesWeak}
 pub use Rattle.crn_cert.specs.declared.tree_node.TreeNode.{TreeNode}
-pub use Rattle.crn_ctext.specs.Answers.{head_of, head_with, head_word, later_records, nodes, proof_nodes, proof_records, rank_records, records, records_below, side_records, small_record, verdict_records}
+pub use Rattle.crn_ctext.specs.Answers.{head_of, head_with, later_records, nodes, proof_nodes, proof_records, rank_records, records, records_below, side_records, small_record, verdict_records}
 unfoldable pub use Rattle.crn_ctext.specs.Answers.{all_records}
 pub use Rattle.crn_ctext.specs.Blocks.{AfterBlocks, CutA, CutB, Flat, IsNetworkOf, IsRecordOf, Meaning, Node, Problem, ReadOf, Split, after_sections, asks, asks_block, asks_leaf, asks_node, asks_table, below, course, either, ended, goes_on, has_tree, if_signed, leaf, lists_of, network_line, node_of, place_of, reads, reads_of, sections, title, word_of}
 unfoldable pub use Rattle.crn_ctext.specs.Blocks.{asks_all, asks_blocks, asks_lines, asks_tree, asks_trees, claims}
@@ -55,12 +55,12 @@ pub use Rattle.crn_ctext.specs.Inner.Written.{block, blocks, counter_seen, head_
 pub use Rattle.crn_ctext.specs.Judged.{AreFormedOf, GoodDocumentsAreOne, IsGood, IsPrefixOf, IsReadOf, LeavesOpen, ReadDocumentsAreGood}
 pub use Rattle.crn_ctext.specs.Kinds.{end_form, free_form, just, known_words, node_forms, record_form, row_words, section_form, small, small_form, table_form, tree_words, vector_form}
 pub use Rattle.crn_ctext.specs.Linked.{AnswersAreOne, AreSound, ReadDocumentsAreTrue, SharedAnswersAreOne, SharedDocumentsAreGood, SharesFit, WrittenDocumentsAreGood, records_of}
-pub use Rattle.crn_ctext.specs.Meaning.{Known, complexes_by_class, has_vector, is_yes, learn_of, lengths, lists, meaning, nums, pairs_by, pairs_of, problem_over, problem_with, problems_by, ranks_of, reactions_by_class, class_proofs as said_classes, number as said_number, proof_of as said_proof, rank_proof as said_rank, sizes_of as said_sizes, verdict_of as said_verdict, shapes_of, signal_problem, signal_problems, sizes_of, table_problem, turn_of, verdict_by, verdict_of, verdicts_said, versions, wide_gap}
+pub use Rattle.crn_ctext.specs.Meaning.{Known, complexes_by_class, has_vector, is_yes, learn_of, lengths, lists, meaning, nums, pairs_of, problem_over, problem_with, problems_by, ranks_of, reactions_by_class, class_proofs as said_classes, number as said_number, proof_of as said_proof, rank_proof as said_rank, sizes_of as said_sizes, verdict_of as said_verdict, shapes_of, signal_problem, signal_problems, sizes_of, table_problem, turn_of, verdict_by, verdict_of, verdicts_said, versions, wide_gap}
 pub use Rattle.crn_ctext.specs.PartBlocks.{HoldsNoSides, learned, verdicts_on}
 pub use Rattle.crn_ctext.specs.PartLines.{AreChoices, IsChoice, IsPartReadAs, IsPartRefusedBy, IsRun, field_of, form_in, forms_in, texts_of}
 pub use Rattle.crn_ctext.specs.Parts.{AreJudged, IsPartDocument, IsPartRead, Meant, Part, asks_part, part_course, part_document, part_ending, part_head, part_opening, part_title}
 unfoldable pub use Rattle.crn_ctext.specs.Parts.{asks_parts}
-pub use Rattle.crn_ctext.specs.Questions.{Shapes, Sizes, class_forms, class_rank, classes, classes as classes_of, decided, first_number, head, heads, kind_at, rows as landed_rows, later_numbers, no, no_by, none_by, open_by, open_kinds, opens, rank_forms, rests, rows, side_form, spent, wide, wide_signal, yes}
+pub use Rattle.crn_ctext.specs.Questions.{Shapes, class_forms, class_rank, first_number, forms_at, forms_from, head_word, heads, if_may, kind_at, kinds, rows as landed_rows, later_numbers, open_kinds, opens, rank_forms, rows, side_form, ways, ways_of, wide_numbers, words}
 pub use Rattle.crn_ctext.specs.Records.{AreBetween, AreNarrow, AreOf, AreRising, BeginsWith, ClassWide, CountAndPart, Field, Fits, Form, Free, IsNarrow, IsNatural, IsShaped, IsSpelled, IsWord, Members, Record, Rising, Says, Several, Small, Takes, Turn, TwoOf, field_most, kind_of, line, most_of, number_text, numbers_text, record_text}
 pub use Rattle.crn_ctext.specs.Same.{AreSame}
 pub use Rattle.crn_ctext.specs.Shares.{as_share}

@@ -1,8 +1,8 @@
 -- The records of a formed answer are those of its block.
-use Rattle.crn_ctext.proofs.Prelude.{◌≡◌, ◌+◌, ◌-◌, ◌++◌, ◌∙◌, ℕ, zero, suc, Bool, true, false, List, [], ◌∷◌, length, map, refl, sym, ap, ap₂, arith, ℤ, pos, replicate, codes, AllZip, flat_map, range_with_len, append-nil, WideGap, Spent, RestsOn, Verdict, Unknown, Proof, Nothing, Forest, StrongTrees, Back, RankRows, Ranks, Sides, Ties, One, Two, RankProof, Question, Q1, Q2, Q3, Q4, Q5, Q6, Q7, Q8, Q9, Q10, Q11, Q12, Q13, Q14, Q15, on, KeptNums, AreClassProofs, class_places, pair_places, Record, one_word, head_word, rank_records, side_records, small_record, Known, is_yes, pairs_of, Datum, Ints, FreeSeveral, Side, Row, TreeRow, row, rank_rows, rank_in, class_rows, one_or_two, IsFormedOf, FitsTree, rank_data, side_data, trees_of, proof_by, tight_proof, rank_long, below_long, duals_long, free_there, rank_formed, classes_formed, sides_formed}
+use Rattle.crn_ctext.proofs.Prelude.{◌≡◌, ◌+◌, ◌-◌, ◌++◌, ◌∙◌, ℕ, zero, suc, Bool, true, false, List, [], ◌∷◌, length, map, refl, sym, ap, ap₂, arith, ℤ, pos, replicate, codes, AllZip, flat_map, range_with_len, append-nil, WideGap, Spent, RestsOn, Verdict, Unknown, Proof, Nothing, Forest, StrongTrees, Back, RankRows, Ranks, Sides, Ties, One, Two, RankProof, Question, Q1, Q2, Q3, Q4, Q5, Q6, Q7, Q8, Q9, Q10, Q11, Q12, Q13, Q14, Q15, on, KeptNums, AreClassProofs, class_places, pair_places, Record, one_word, rank_records, side_records, small_record, head_word, Known, is_yes, pairs_of, Datum, Ints, FreeSeveral, Side, Row, TreeRow, row, rank_rows, rank_in, class_rows, one_or_two, IsFormedOf, FitsTree, rank_data, side_data, trees_of, proof_by, tight_proof, rank_long, below_long, duals_long, free_there, rank_formed, classes_formed, sides_formed}
 use Rattle.crn_cert.specs.declared.answer.Verdict.TheVariants.{Classes, Strong, Rank, Deficiency, Yes, YesWeak, YesVec, YesSignal, No, NoReaction, NoVec, NoNumber, NoTerminal, NoClass, NoSum, NoDependence, NoCycle, NoPair, NotRegular, OnlyZero, Plane, NotApplicable}
 use Rattle.crn_ctext.proofs.Forms.{row_record, row_records}
-use Rattle.crn_ctext.proofs.BlockLaws.{PairsFor, RecordsAsBefore, AreRecordsOf}
+use Rattle.crn_ctext.proofs.BlockLaws.{RecordsAsBefore, AreRecordsOf}
 
 -- if no tree is due, a proof by trees is nothing
 pub bare : (P : Proof → Type 0) (p : Proof) → AllZip FitsTree [] (trees_of p) → proof_by (trees_of p) ≡ tight_proof p → P Nothing → P p
@@ -74,187 +74,187 @@ wide_said q system class index basis = ap (wide_line q) (sym (append-nil (map po
 
 -- ---- question 1
 
-linkage_as_before : (known : Known) (v : Verdict) (p : Proof) → PairsFor Q1 known → IsFormedOf known.net known.earlier Q1 v p → AreRecordsOf known Q1 v p
-linkage_as_before known (Classes count label) (Forest up depth) e f = refl
-linkage_as_before known (Classes count label) p e f = absurd (let s = f.1.1 in cc)
-linkage_as_before known (Unknown (WideGap system class index basis)) p e f = let b = f.0 in absurd b.head
-linkage_as_before known (Unknown (Spent nodes)) p e f = let b = f.0 in absurd b.head
-linkage_as_before known (Unknown (RestsOn question)) p e f = let b = f.0 in absurd b.head
-linkage_as_before known v p e f = let b = f.0 in absurd b.head
+linkage_as_before : (known : Known) (v : Verdict) (p : Proof) → IsFormedOf known.net known.earlier Q1 v p → AreRecordsOf known Q1 v p
+linkage_as_before known (Classes count label) (Forest up depth) f = refl
+linkage_as_before known (Classes count label) p f = absurd (let s = f.1.1 in cc)
+linkage_as_before known (Unknown (WideGap system class index basis)) p f = let b = f.0 in absurd b.head
+linkage_as_before known (Unknown (Spent nodes)) p f = let b = f.0 in absurd b.head
+linkage_as_before known (Unknown (RestsOn question)) p f = let b = f.0 in absurd b.head
+linkage_as_before known v p f = let b = f.0 in absurd b.head
 
 -- ---- question 2
 
-strong_as_before : (known : Known) (v : Verdict) (p : Proof) → PairsFor Q2 known → IsFormedOf known.net known.earlier Q2 v p → AreRecordsOf known Q2 v p
-strong_as_before known (Strong count terminal label exit) (StrongTrees from from_depth to to_depth level) e f = refl
-strong_as_before known (Strong count terminal label exit) p e f = absurd (let s = f.1.1 in cc)
-strong_as_before known (Unknown (WideGap system class index basis)) p e f = let b = f.0 in absurd b.head
-strong_as_before known (Unknown (Spent nodes)) p e f = let b = f.0 in absurd b.head
-strong_as_before known (Unknown (RestsOn question)) p e f = let b = f.0 in absurd b.head
-strong_as_before known v p e f = let b = f.0 in absurd b.head
+strong_as_before : (known : Known) (v : Verdict) (p : Proof) → IsFormedOf known.net known.earlier Q2 v p → AreRecordsOf known Q2 v p
+strong_as_before known (Strong count terminal label exit) (StrongTrees from from_depth to to_depth level) f = refl
+strong_as_before known (Strong count terminal label exit) p f = absurd (let s = f.1.1 in cc)
+strong_as_before known (Unknown (WideGap system class index basis)) p f = let b = f.0 in absurd b.head
+strong_as_before known (Unknown (Spent nodes)) p f = let b = f.0 in absurd b.head
+strong_as_before known (Unknown (RestsOn question)) p f = let b = f.0 in absurd b.head
+strong_as_before known v p f = let b = f.0 in absurd b.head
 
 -- ---- question 3
 
-reversible_as_before : (known : Known) (v : Verdict) (p : Proof) → PairsFor Q3 known → IsFormedOf known.net known.earlier Q3 v p → AreRecordsOf known Q3 v p
-reversible_as_before known Yes (Back back) e f = refl
-reversible_as_before known (NoReaction r) p e f = let whole = f.0 in bare (λ (x : Proof). AreRecordsOf known Q3 (NoReaction r) x) p whole.trees f.1.1 (refl)
-reversible_as_before known Yes p e f = absurd (let s = f.1.1 in cc)
-reversible_as_before known (Unknown (WideGap system class index basis)) p e f = let b = f.0 in absurd b.head
-reversible_as_before known (Unknown (Spent nodes)) p e f = let b = f.0 in absurd b.head
-reversible_as_before known (Unknown (RestsOn question)) p e f = let b = f.0 in absurd b.head
-reversible_as_before known v p e f = let b = f.0 in absurd b.head
+reversible_as_before : (known : Known) (v : Verdict) (p : Proof) → IsFormedOf known.net known.earlier Q3 v p → AreRecordsOf known Q3 v p
+reversible_as_before known Yes (Back back) f = refl
+reversible_as_before known (NoReaction r) p f = let whole = f.0 in bare (λ (x : Proof). AreRecordsOf known Q3 (NoReaction r) x) p whole.trees f.1.1 (refl)
+reversible_as_before known Yes p f = absurd (let s = f.1.1 in cc)
+reversible_as_before known (Unknown (WideGap system class index basis)) p f = let b = f.0 in absurd b.head
+reversible_as_before known (Unknown (Spent nodes)) p f = let b = f.0 in absurd b.head
+reversible_as_before known (Unknown (RestsOn question)) p f = let b = f.0 in absurd b.head
+reversible_as_before known v p f = let b = f.0 in absurd b.head
 
 -- ---- question 4
 
-weak_as_before : (known : Known) (v : Verdict) (p : Proof) → PairsFor Q4 known → IsFormedOf known.net known.earlier Q4 v p → AreRecordsOf known Q4 v p
-weak_as_before known Yes p e f = let whole = f.0 in bare (λ (x : Proof). AreRecordsOf known Q4 Yes x) p whole.trees f.1.1 (refl)
-weak_as_before known (NoReaction r) p e f = let whole = f.0 in bare (λ (x : Proof). AreRecordsOf known Q4 (NoReaction r) x) p whole.trees f.1.1 (refl)
-weak_as_before known (Unknown (WideGap system class index basis)) p e f = let b = f.0 in absurd b.head
-weak_as_before known (Unknown (Spent nodes)) p e f = let b = f.0 in absurd b.head
-weak_as_before known (Unknown (RestsOn question)) p e f = let b = f.0 in absurd b.head
-weak_as_before known v p e f = let b = f.0 in absurd b.head
+weak_as_before : (known : Known) (v : Verdict) (p : Proof) → IsFormedOf known.net known.earlier Q4 v p → AreRecordsOf known Q4 v p
+weak_as_before known Yes p f = let whole = f.0 in bare (λ (x : Proof). AreRecordsOf known Q4 Yes x) p whole.trees f.1.1 (refl)
+weak_as_before known (NoReaction r) p f = let whole = f.0 in bare (λ (x : Proof). AreRecordsOf known Q4 (NoReaction r) x) p whole.trees f.1.1 (refl)
+weak_as_before known (Unknown (WideGap system class index basis)) p f = let b = f.0 in absurd b.head
+weak_as_before known (Unknown (Spent nodes)) p f = let b = f.0 in absurd b.head
+weak_as_before known (Unknown (RestsOn question)) p f = let b = f.0 in absurd b.head
+weak_as_before known v p f = let b = f.0 in absurd b.head
 
 -- ---- question 5
 
-rank_as_before : (known : Known) (v : Verdict) (p : Proof) → PairsFor Q5 known → IsFormedOf known.net known.earlier Q5 v p → AreRecordsOf known Q5 v p
-rank_as_before known (Rank rank base) (RankRows p) e f = (let r = rank_formed known.net known.earlier rank base p f in let d = r.duals in let c = r.combs in ap (λ (t : List Record). small_head Q5 (pos rank ∷ []) ∷ t) (append-nil (rank_records p) ∙ sym (rank_said (length known.net.names) rank (range_with_len 1 (length known.net.reactions)) p d.long c.long)))
-rank_as_before known (Unknown (WideGap system class index basis)) p e f = let whole = f.0 in bare (λ (x : Proof). AreRecordsOf known Q5 (Unknown (WideGap system class index basis)) x) p whole.trees f.1.1 (wide_said Q5 system class index basis)
-rank_as_before known (Rank rank base) p e f = absurd (let s = f.1.1 in cc)
-rank_as_before known (Unknown (Spent nodes)) p e f = let b = f.0 in absurd b.head
-rank_as_before known (Unknown (RestsOn question)) p e f = let b = f.0 in absurd b.head
-rank_as_before known v p e f = let b = f.0 in absurd b.head
+rank_as_before : (known : Known) (v : Verdict) (p : Proof) → IsFormedOf known.net known.earlier Q5 v p → AreRecordsOf known Q5 v p
+rank_as_before known (Rank rank base) (RankRows p) f = (let r = rank_formed known.net known.earlier rank base p f in let d = r.duals in let c = r.combs in ap (λ (t : List Record). small_head Q5 (pos rank ∷ []) ∷ t) (append-nil (rank_records p) ∙ sym (rank_said (length known.net.names) rank (range_with_len 1 (length known.net.reactions)) p d.long c.long)))
+rank_as_before known (Unknown (WideGap system class index basis)) p f = let whole = f.0 in bare (λ (x : Proof). AreRecordsOf known Q5 (Unknown (WideGap system class index basis)) x) p whole.trees f.1.1 (wide_said Q5 system class index basis)
+rank_as_before known (Rank rank base) p f = absurd (let s = f.1.1 in cc)
+rank_as_before known (Unknown (Spent nodes)) p f = let b = f.0 in absurd b.head
+rank_as_before known (Unknown (RestsOn question)) p f = let b = f.0 in absurd b.head
+rank_as_before known v p f = let b = f.0 in absurd b.head
 
 -- ---- question 6
 
-deficiency_as_before : (known : Known) (v : Verdict) (p : Proof) → PairsFor Q6 known → IsFormedOf known.net known.earlier Q6 v p → AreRecordsOf known Q6 v p
-deficiency_as_before known (Deficiency total classes) (Ranks list) e f = (let r = classes_formed known.net known.earlier total classes list f in ap₂ (λ (x : List ℤ) (t : List Record). small_head Q6 x ∷ t) (sym (append-nil (map pos (total ∷ classes.list)))) (append-nil (flat_map rank_records list) ∙ sym (classes_said known 1 classes.list list r)))
-deficiency_as_before known (Unknown (WideGap system class index basis)) p e f = let whole = f.0 in bare (λ (x : Proof). AreRecordsOf known Q6 (Unknown (WideGap system class index basis)) x) p whole.trees f.1.1 (wide_said Q6 system class index basis)
-deficiency_as_before known (Unknown (RestsOn question)) p e f = let whole = f.0 in bare (λ (x : Proof). AreRecordsOf known Q6 (Unknown (RestsOn question)) x) p whole.trees f.1.1 (refl)
-deficiency_as_before known (Deficiency total classes) p e f = absurd (let s = f.1.1 in cc)
-deficiency_as_before known (Unknown (Spent nodes)) p e f = let b = f.0 in absurd b.head
-deficiency_as_before known v p e f = let b = f.0 in absurd b.head
+deficiency_as_before : (known : Known) (v : Verdict) (p : Proof) → IsFormedOf known.net known.earlier Q6 v p → AreRecordsOf known Q6 v p
+deficiency_as_before known (Deficiency total classes) (Ranks list) f = (let r = classes_formed known.net known.earlier total classes list f in ap₂ (λ (x : List ℤ) (t : List Record). small_head Q6 x ∷ t) (sym (append-nil (map pos (total ∷ classes.list)))) (append-nil (flat_map rank_records list) ∙ sym (classes_said known 1 classes.list list r)))
+deficiency_as_before known (Unknown (WideGap system class index basis)) p f = let whole = f.0 in bare (λ (x : Proof). AreRecordsOf known Q6 (Unknown (WideGap system class index basis)) x) p whole.trees f.1.1 (wide_said Q6 system class index basis)
+deficiency_as_before known (Unknown (RestsOn question)) p f = let whole = f.0 in bare (λ (x : Proof). AreRecordsOf known Q6 (Unknown (RestsOn question)) x) p whole.trees f.1.1 (refl)
+deficiency_as_before known (Deficiency total classes) p f = absurd (let s = f.1.1 in cc)
+deficiency_as_before known (Unknown (Spent nodes)) p f = let b = f.0 in absurd b.head
+deficiency_as_before known v p f = let b = f.0 in absurd b.head
 
 -- ---- question 7
 
-dependence_as_before : (known : Known) (v : Verdict) (p : Proof) → PairsFor Q7 known → IsFormedOf known.net known.earlier Q7 v p → AreRecordsOf known Q7 v p
-dependence_as_before known (YesVec vector) p e f = let whole = f.0 in bare (λ (x : Proof). AreRecordsOf known Q7 (YesVec vector) x) p whole.trees f.1.1 (refl)
-dependence_as_before known (NoVec multipliers) p e f = let whole = f.0 in bare (λ (x : Proof). AreRecordsOf known Q7 (NoVec multipliers) x) p whole.trees f.1.1 (refl)
-dependence_as_before known (Unknown (WideGap system class index basis)) p e f = let whole = f.0 in bare (λ (x : Proof). AreRecordsOf known Q7 (Unknown (WideGap system class index basis)) x) p whole.trees f.1.1 (wide_said Q7 system class index basis)
-dependence_as_before known (Unknown (Spent nodes)) p e f = let b = f.0 in absurd b.head
-dependence_as_before known (Unknown (RestsOn question)) p e f = let b = f.0 in absurd b.head
-dependence_as_before known v p e f = let b = f.0 in absurd b.head
+dependence_as_before : (known : Known) (v : Verdict) (p : Proof) → IsFormedOf known.net known.earlier Q7 v p → AreRecordsOf known Q7 v p
+dependence_as_before known (YesVec vector) p f = let whole = f.0 in bare (λ (x : Proof). AreRecordsOf known Q7 (YesVec vector) x) p whole.trees f.1.1 (refl)
+dependence_as_before known (NoVec multipliers) p f = let whole = f.0 in bare (λ (x : Proof). AreRecordsOf known Q7 (NoVec multipliers) x) p whole.trees f.1.1 (refl)
+dependence_as_before known (Unknown (WideGap system class index basis)) p f = let whole = f.0 in bare (λ (x : Proof). AreRecordsOf known Q7 (Unknown (WideGap system class index basis)) x) p whole.trees f.1.1 (wide_said Q7 system class index basis)
+dependence_as_before known (Unknown (Spent nodes)) p f = let b = f.0 in absurd b.head
+dependence_as_before known (Unknown (RestsOn question)) p f = let b = f.0 in absurd b.head
+dependence_as_before known v p f = let b = f.0 in absurd b.head
 
 -- ---- question 8
 
-conservation_as_before : (known : Known) (v : Verdict) (p : Proof) → PairsFor Q8 known → IsFormedOf known.net known.earlier Q8 v p → AreRecordsOf known Q8 v p
-conservation_as_before known (YesVec vector) p e f = let whole = f.0 in bare (λ (x : Proof). AreRecordsOf known Q8 (YesVec vector) x) p whole.trees f.1.1 (refl)
-conservation_as_before known (NoVec multipliers) p e f = let whole = f.0 in bare (λ (x : Proof). AreRecordsOf known Q8 (NoVec multipliers) x) p whole.trees f.1.1 (refl)
-conservation_as_before known (Unknown (WideGap system class index basis)) p e f = let whole = f.0 in bare (λ (x : Proof). AreRecordsOf known Q8 (Unknown (WideGap system class index basis)) x) p whole.trees f.1.1 (wide_said Q8 system class index basis)
-conservation_as_before known (Unknown (Spent nodes)) p e f = let b = f.0 in absurd b.head
-conservation_as_before known (Unknown (RestsOn question)) p e f = let b = f.0 in absurd b.head
-conservation_as_before known v p e f = let b = f.0 in absurd b.head
+conservation_as_before : (known : Known) (v : Verdict) (p : Proof) → IsFormedOf known.net known.earlier Q8 v p → AreRecordsOf known Q8 v p
+conservation_as_before known (YesVec vector) p f = let whole = f.0 in bare (λ (x : Proof). AreRecordsOf known Q8 (YesVec vector) x) p whole.trees f.1.1 (refl)
+conservation_as_before known (NoVec multipliers) p f = let whole = f.0 in bare (λ (x : Proof). AreRecordsOf known Q8 (NoVec multipliers) x) p whole.trees f.1.1 (refl)
+conservation_as_before known (Unknown (WideGap system class index basis)) p f = let whole = f.0 in bare (λ (x : Proof). AreRecordsOf known Q8 (Unknown (WideGap system class index basis)) x) p whole.trees f.1.1 (wide_said Q8 system class index basis)
+conservation_as_before known (Unknown (Spent nodes)) p f = let b = f.0 in absurd b.head
+conservation_as_before known (Unknown (RestsOn question)) p f = let b = f.0 in absurd b.head
+conservation_as_before known v p f = let b = f.0 in absurd b.head
 
 -- ---- question 9
 
-zero_as_before : (known : Known) (v : Verdict) (p : Proof) → PairsFor Q9 known → IsFormedOf known.net known.earlier Q9 v p → AreRecordsOf known Q9 v p
-zero_as_before known (YesWeak weak) p e f = let whole = f.0 in bare (λ (x : Proof). AreRecordsOf known Q9 (YesWeak weak) x) p whole.trees f.1.1 (weak_said known weak)
-zero_as_before known (NoNumber d) p e f = let whole = f.0 in bare (λ (x : Proof). AreRecordsOf known Q9 (NoNumber d) x) p whole.trees f.1.1 (refl)
-zero_as_before known (Unknown (RestsOn question)) p e f = let whole = f.0 in bare (λ (x : Proof). AreRecordsOf known Q9 (Unknown (RestsOn question)) x) p whole.trees f.1.1 (refl)
-zero_as_before known (Unknown (WideGap system class index basis)) p e f = let b = f.0 in absurd b.head
-zero_as_before known (Unknown (Spent nodes)) p e f = let b = f.0 in absurd b.head
-zero_as_before known v p e f = let b = f.0 in absurd b.head
+zero_as_before : (known : Known) (v : Verdict) (p : Proof) → IsFormedOf known.net known.earlier Q9 v p → AreRecordsOf known Q9 v p
+zero_as_before known (YesWeak weak) p f = let whole = f.0 in bare (λ (x : Proof). AreRecordsOf known Q9 (YesWeak weak) x) p whole.trees f.1.1 (weak_said known weak)
+zero_as_before known (NoNumber d) p f = let whole = f.0 in bare (λ (x : Proof). AreRecordsOf known Q9 (NoNumber d) x) p whole.trees f.1.1 (refl)
+zero_as_before known (Unknown (RestsOn question)) p f = let whole = f.0 in bare (λ (x : Proof). AreRecordsOf known Q9 (Unknown (RestsOn question)) x) p whole.trees f.1.1 (refl)
+zero_as_before known (Unknown (WideGap system class index basis)) p f = let b = f.0 in absurd b.head
+zero_as_before known (Unknown (Spent nodes)) p f = let b = f.0 in absurd b.head
+zero_as_before known v p f = let b = f.0 in absurd b.head
 
 -- ---- question 10
 
-one_as_before : (known : Known) (v : Verdict) (p : Proof) → PairsFor Q10 known → IsFormedOf known.net known.earlier Q10 v p → AreRecordsOf known Q10 v p
-one_as_before known Yes p e f = let whole = f.0 in bare (λ (x : Proof). AreRecordsOf known Q10 Yes x) p whole.trees f.1.1 (refl)
-one_as_before known (NoTerminal k count) p e f = let whole = f.0 in bare (λ (x : Proof). AreRecordsOf known Q10 (NoTerminal k count) x) p whole.trees f.1.1 (refl)
-one_as_before known (NoClass k d) p e f = let whole = f.0 in bare (λ (x : Proof). AreRecordsOf known Q10 (NoClass k d) x) p whole.trees f.1.1 (refl)
-one_as_before known (NoSum total) p e f = let whole = f.0 in bare (λ (x : Proof). AreRecordsOf known Q10 (NoSum total) x) p whole.trees f.1.1 (refl)
-one_as_before known (Unknown (RestsOn question)) p e f = let whole = f.0 in bare (λ (x : Proof). AreRecordsOf known Q10 (Unknown (RestsOn question)) x) p whole.trees f.1.1 (refl)
-one_as_before known (Unknown (WideGap system class index basis)) p e f = let b = f.0 in absurd b.head
-one_as_before known (Unknown (Spent nodes)) p e f = let b = f.0 in absurd b.head
-one_as_before known v p e f = let b = f.0 in absurd b.head
+one_as_before : (known : Known) (v : Verdict) (p : Proof) → IsFormedOf known.net known.earlier Q10 v p → AreRecordsOf known Q10 v p
+one_as_before known Yes p f = let whole = f.0 in bare (λ (x : Proof). AreRecordsOf known Q10 Yes x) p whole.trees f.1.1 (refl)
+one_as_before known (NoTerminal k count) p f = let whole = f.0 in bare (λ (x : Proof). AreRecordsOf known Q10 (NoTerminal k count) x) p whole.trees f.1.1 (refl)
+one_as_before known (NoClass k d) p f = let whole = f.0 in bare (λ (x : Proof). AreRecordsOf known Q10 (NoClass k d) x) p whole.trees f.1.1 (refl)
+one_as_before known (NoSum total) p f = let whole = f.0 in bare (λ (x : Proof). AreRecordsOf known Q10 (NoSum total) x) p whole.trees f.1.1 (refl)
+one_as_before known (Unknown (RestsOn question)) p f = let whole = f.0 in bare (λ (x : Proof). AreRecordsOf known Q10 (Unknown (RestsOn question)) x) p whole.trees f.1.1 (refl)
+one_as_before known (Unknown (WideGap system class index basis)) p f = let b = f.0 in absurd b.head
+one_as_before known (Unknown (Spent nodes)) p f = let b = f.0 in absurd b.head
+one_as_before known v p f = let b = f.0 in absurd b.head
 
 -- ---- question 11
 
-regular_as_before : (known : Known) (v : Verdict) (p : Proof) → PairsFor Q11 known → IsFormedOf known.net known.earlier Q11 v p → AreRecordsOf known Q11 v p
-regular_as_before known Yes (Sides sides) e f = (let r = sides_formed known.net known.earlier sides f in ap (λ (t : List Record). yes_head Q11 ∷ t) (append-nil (side_records (pairs_of known) sides) ∙ ap (λ (ps : List ℕ). side_records ps sides) e ∙ sym (sides_said (length known.net.complexes) (pair_places known.net known.earlier) sides r.long)))
-regular_as_before known (NoTerminal k count) p e f = let whole = f.0 in bare (λ (x : Proof). AreRecordsOf known Q11 (NoTerminal k count) x) p whole.trees f.1.1 (refl)
-regular_as_before known NoDependence p e f = let whole = f.0 in bare (λ (x : Proof). AreRecordsOf known Q11 NoDependence x) p whole.trees f.1.1 (refl)
-regular_as_before known (NoCycle r walk) p e f = let whole = f.0 in bare (λ (x : Proof). AreRecordsOf known Q11 (NoCycle r walk) x) p whole.trees f.1.1 (refl)
-regular_as_before known (Unknown (RestsOn question)) p e f = let whole = f.0 in bare (λ (x : Proof). AreRecordsOf known Q11 (Unknown (RestsOn question)) x) p whole.trees f.1.1 (refl)
-regular_as_before known Yes p e f = absurd (let s = f.1.1 in cc)
-regular_as_before known (Unknown (WideGap system class index basis)) p e f = let b = f.0 in absurd b.head
-regular_as_before known (Unknown (Spent nodes)) p e f = let b = f.0 in absurd b.head
-regular_as_before known v p e f = let b = f.0 in absurd b.head
+regular_as_before : (known : Known) (v : Verdict) (p : Proof) → IsFormedOf known.net known.earlier Q11 v p → AreRecordsOf known Q11 v p
+regular_as_before known Yes (Sides sides) f = (let r = sides_formed known.net known.earlier sides f in ap (λ (t : List Record). yes_head Q11 ∷ t) (append-nil (side_records (pairs_of known) sides) ∙ sym (sides_said (length known.net.complexes) (pair_places known.net known.earlier) sides r.long)))
+regular_as_before known (NoTerminal k count) p f = let whole = f.0 in bare (λ (x : Proof). AreRecordsOf known Q11 (NoTerminal k count) x) p whole.trees f.1.1 (refl)
+regular_as_before known NoDependence p f = let whole = f.0 in bare (λ (x : Proof). AreRecordsOf known Q11 NoDependence x) p whole.trees f.1.1 (refl)
+regular_as_before known (NoCycle r walk) p f = let whole = f.0 in bare (λ (x : Proof). AreRecordsOf known Q11 (NoCycle r walk) x) p whole.trees f.1.1 (refl)
+regular_as_before known (Unknown (RestsOn question)) p f = let whole = f.0 in bare (λ (x : Proof). AreRecordsOf known Q11 (Unknown (RestsOn question)) x) p whole.trees f.1.1 (refl)
+regular_as_before known Yes p f = absurd (let s = f.1.1 in cc)
+regular_as_before known (Unknown (WideGap system class index basis)) p f = let b = f.0 in absurd b.head
+regular_as_before known (Unknown (Spent nodes)) p f = let b = f.0 in absurd b.head
+regular_as_before known v p f = let b = f.0 in absurd b.head
 
 -- ---- question 12
 
-confluence_as_before : (known : Known) (v : Verdict) (p : Proof) → PairsFor Q12 known → IsFormedOf known.net known.earlier Q12 v p → AreRecordsOf known Q12 v p
-confluence_as_before known (YesVec vector) (Ties ties) e f = (let b = f.0 in let below = b.rows in let r = free_there (codes "tie") _ _ ties below.1 in ap (λ (t : List Record). yes_head Q12 ∷ one_word (codes "vec") vector.list ∷ t) (append-nil (map (one_word (codes "tie")) ties) ∙ sym (free_records (codes "tie") _ _ ties r.long)))
-confluence_as_before known NotRegular p e f = let whole = f.0 in bare (λ (x : Proof). AreRecordsOf known Q12 NotRegular x) p whole.trees f.1.1 (refl)
-confluence_as_before known OnlyZero (Ties ties) e f = (let b = f.0 in let below = b.rows in let r = free_there (codes "tie") _ _ ties below in ap (λ (t : List Record). zero_head Q12 ∷ t) (append-nil (map (one_word (codes "tie")) ties) ∙ sym (free_records (codes "tie") _ _ ties r.long)))
-confluence_as_before known (Plane first second one two) p e f = let whole = f.0 in bare (λ (x : Proof). AreRecordsOf known Q12 (Plane first second one two) x) p whole.trees f.1.1 (refl)
-confluence_as_before known (Unknown (WideGap system class index basis)) p e f = let whole = f.0 in bare (λ (x : Proof). AreRecordsOf known Q12 (Unknown (WideGap system class index basis)) x) p whole.trees f.1.1 (wide_said Q12 system class index basis)
-confluence_as_before known (Unknown (RestsOn question)) p e f = let whole = f.0 in bare (λ (x : Proof). AreRecordsOf known Q12 (Unknown (RestsOn question)) x) p whole.trees f.1.1 (refl)
-confluence_as_before known (YesVec vector) p e f = absurd (let s = f.1.1 in cc)
-confluence_as_before known OnlyZero p e f = absurd (let s = f.1.1 in cc)
-confluence_as_before known (Unknown (Spent nodes)) p e f = let b = f.0 in absurd b.head
-confluence_as_before known v p e f = let b = f.0 in absurd b.head
+confluence_as_before : (known : Known) (v : Verdict) (p : Proof) → IsFormedOf known.net known.earlier Q12 v p → AreRecordsOf known Q12 v p
+confluence_as_before known (YesVec vector) (Ties ties) f = (let b = f.0 in let below = b.rows in let r = free_there (codes "tie") _ _ ties below.1 in ap (λ (t : List Record). yes_head Q12 ∷ one_word (codes "vec") vector.list ∷ t) (append-nil (map (one_word (codes "tie")) ties) ∙ sym (free_records (codes "tie") _ _ ties r.long)))
+confluence_as_before known NotRegular p f = let whole = f.0 in bare (λ (x : Proof). AreRecordsOf known Q12 NotRegular x) p whole.trees f.1.1 (refl)
+confluence_as_before known OnlyZero (Ties ties) f = (let b = f.0 in let below = b.rows in let r = free_there (codes "tie") _ _ ties below in ap (λ (t : List Record). zero_head Q12 ∷ t) (append-nil (map (one_word (codes "tie")) ties) ∙ sym (free_records (codes "tie") _ _ ties r.long)))
+confluence_as_before known (Plane first second one two) p f = let whole = f.0 in bare (λ (x : Proof). AreRecordsOf known Q12 (Plane first second one two) x) p whole.trees f.1.1 (refl)
+confluence_as_before known (Unknown (WideGap system class index basis)) p f = let whole = f.0 in bare (λ (x : Proof). AreRecordsOf known Q12 (Unknown (WideGap system class index basis)) x) p whole.trees f.1.1 (wide_said Q12 system class index basis)
+confluence_as_before known (Unknown (RestsOn question)) p f = let whole = f.0 in bare (λ (x : Proof). AreRecordsOf known Q12 (Unknown (RestsOn question)) x) p whole.trees f.1.1 (refl)
+confluence_as_before known (YesVec vector) p f = absurd (let s = f.1.1 in cc)
+confluence_as_before known OnlyZero p f = absurd (let s = f.1.1 in cc)
+confluence_as_before known (Unknown (Spent nodes)) p f = let b = f.0 in absurd b.head
+confluence_as_before known v p f = let b = f.0 in absurd b.head
 
 -- ---- question 13
 
-signal_as_before : (known : Known) (v : Verdict) (p : Proof) → PairsFor Q13 known → IsFormedOf known.net known.earlier Q13 v p → AreRecordsOf known Q13 v p
-signal_as_before known (YesSignal turn shelves mu m weights) p e f = let whole = f.0 in bare (λ (x : Proof). AreRecordsOf known Q13 (YesSignal turn shelves mu m weights) x) p whole.trees f.1.1 (refl)
-signal_as_before known No (One tree) e f = refl
-signal_as_before known No (Two tree second) e f = refl
-signal_as_before known NotApplicable p e f = let whole = f.0 in bare (λ (x : Proof). AreRecordsOf known Q13 NotApplicable x) p whole.trees f.1.1 (refl)
-signal_as_before known (Unknown (WideGap system class index basis)) p e f = let whole = f.0 in bare (λ (x : Proof). AreRecordsOf known Q13 (Unknown (WideGap system class index basis)) x) p whole.trees f.1.1 (wide_said Q13 system class index basis)
-signal_as_before known (Unknown (Spent nodes)) p e f = let whole = f.0 in bare (λ (x : Proof). AreRecordsOf known Q13 (Unknown (Spent nodes)) x) p whole.trees f.1.1 (refl)
-signal_as_before known (Unknown (RestsOn question)) p e f = let whole = f.0 in bare (λ (x : Proof). AreRecordsOf known Q13 (Unknown (RestsOn question)) x) p whole.trees f.1.1 (refl)
-signal_as_before known No Nothing e f = let b = f.0 in absurd (none_fit (is_yes (on known.earlier Q4)) _ b.trees)
-signal_as_before known No p e f = absurd (let s = f.1.1 in cc)
-signal_as_before known v p e f = let b = f.0 in absurd b.head
+signal_as_before : (known : Known) (v : Verdict) (p : Proof) → IsFormedOf known.net known.earlier Q13 v p → AreRecordsOf known Q13 v p
+signal_as_before known (YesSignal turn shelves mu m weights) p f = let whole = f.0 in bare (λ (x : Proof). AreRecordsOf known Q13 (YesSignal turn shelves mu m weights) x) p whole.trees f.1.1 (refl)
+signal_as_before known No (One tree) f = refl
+signal_as_before known No (Two tree second) f = refl
+signal_as_before known NotApplicable p f = let whole = f.0 in bare (λ (x : Proof). AreRecordsOf known Q13 NotApplicable x) p whole.trees f.1.1 (refl)
+signal_as_before known (Unknown (WideGap system class index basis)) p f = let whole = f.0 in bare (λ (x : Proof). AreRecordsOf known Q13 (Unknown (WideGap system class index basis)) x) p whole.trees f.1.1 (wide_said Q13 system class index basis)
+signal_as_before known (Unknown (Spent nodes)) p f = let whole = f.0 in bare (λ (x : Proof). AreRecordsOf known Q13 (Unknown (Spent nodes)) x) p whole.trees f.1.1 (refl)
+signal_as_before known (Unknown (RestsOn question)) p f = let whole = f.0 in bare (λ (x : Proof). AreRecordsOf known Q13 (Unknown (RestsOn question)) x) p whole.trees f.1.1 (refl)
+signal_as_before known No Nothing f = let b = f.0 in absurd (none_fit (is_yes (on known.earlier Q4)) _ b.trees)
+signal_as_before known No p f = absurd (let s = f.1.1 in cc)
+signal_as_before known v p f = let b = f.0 in absurd b.head
 
 -- ---- question 14
 
-table_as_before : (known : Known) (v : Verdict) (p : Proof) → PairsFor Q14 known → IsFormedOf known.net known.earlier Q14 v p → AreRecordsOf known Q14 v p
-table_as_before known Yes (One tree) e f = refl
-table_as_before known (NoPair alpha weights) p e f = let whole = f.0 in bare (λ (x : Proof). AreRecordsOf known Q14 (NoPair alpha weights) x) p whole.trees f.1.1 (refl)
-table_as_before known (Unknown (WideGap system class index basis)) p e f = let whole = f.0 in bare (λ (x : Proof). AreRecordsOf known Q14 (Unknown (WideGap system class index basis)) x) p whole.trees f.1.1 (wide_said Q14 system class index basis)
-table_as_before known (Unknown (Spent nodes)) p e f = let whole = f.0 in bare (λ (x : Proof). AreRecordsOf known Q14 (Unknown (Spent nodes)) x) p whole.trees f.1.1 (refl)
-table_as_before known Yes Nothing e f = let b = f.0 in absurd b.trees
-table_as_before known Yes (Two tree second) e f = let b = f.0 in let t = b.trees in absurd t.1
-table_as_before known Yes p e f = absurd (let s = f.1.1 in cc)
-table_as_before known (Unknown (RestsOn question)) p e f = let b = f.0 in absurd b.head
-table_as_before known v p e f = let b = f.0 in absurd b.head
+table_as_before : (known : Known) (v : Verdict) (p : Proof) → IsFormedOf known.net known.earlier Q14 v p → AreRecordsOf known Q14 v p
+table_as_before known Yes (One tree) f = refl
+table_as_before known (NoPair alpha weights) p f = let whole = f.0 in bare (λ (x : Proof). AreRecordsOf known Q14 (NoPair alpha weights) x) p whole.trees f.1.1 (refl)
+table_as_before known (Unknown (WideGap system class index basis)) p f = let whole = f.0 in bare (λ (x : Proof). AreRecordsOf known Q14 (Unknown (WideGap system class index basis)) x) p whole.trees f.1.1 (wide_said Q14 system class index basis)
+table_as_before known (Unknown (Spent nodes)) p f = let whole = f.0 in bare (λ (x : Proof). AreRecordsOf known Q14 (Unknown (Spent nodes)) x) p whole.trees f.1.1 (refl)
+table_as_before known Yes Nothing f = let b = f.0 in absurd b.trees
+table_as_before known Yes (Two tree second) f = let b = f.0 in let t = b.trees in absurd t.1
+table_as_before known Yes p f = absurd (let s = f.1.1 in cc)
+table_as_before known (Unknown (RestsOn question)) p f = let b = f.0 in absurd b.head
+table_as_before known v p f = let b = f.0 in absurd b.head
 
 -- ---- question 15
 
-strong_table_as_before : (known : Known) (v : Verdict) (p : Proof) → PairsFor Q15 known → IsFormedOf known.net known.earlier Q15 v p → AreRecordsOf known Q15 v p
-strong_table_as_before known Yes (One tree) e f = refl
-strong_table_as_before known (NoPair alpha weights) p e f = let whole = f.0 in bare (λ (x : Proof). AreRecordsOf known Q15 (NoPair alpha weights) x) p whole.trees f.1.1 (refl)
-strong_table_as_before known (Unknown (WideGap system class index basis)) p e f = let whole = f.0 in bare (λ (x : Proof). AreRecordsOf known Q15 (Unknown (WideGap system class index basis)) x) p whole.trees f.1.1 (wide_said Q15 system class index basis)
-strong_table_as_before known (Unknown (Spent nodes)) p e f = let whole = f.0 in bare (λ (x : Proof). AreRecordsOf known Q15 (Unknown (Spent nodes)) x) p whole.trees f.1.1 (refl)
-strong_table_as_before known Yes Nothing e f = let b = f.0 in absurd b.trees
-strong_table_as_before known Yes (Two tree second) e f = let b = f.0 in let t = b.trees in absurd t.1
-strong_table_as_before known Yes p e f = absurd (let s = f.1.1 in cc)
-strong_table_as_before known (Unknown (RestsOn question)) p e f = let b = f.0 in absurd b.head
-strong_table_as_before known v p e f = let b = f.0 in absurd b.head
+strong_table_as_before : (known : Known) (v : Verdict) (p : Proof) → IsFormedOf known.net known.earlier Q15 v p → AreRecordsOf known Q15 v p
+strong_table_as_before known Yes (One tree) f = refl
+strong_table_as_before known (NoPair alpha weights) p f = let whole = f.0 in bare (λ (x : Proof). AreRecordsOf known Q15 (NoPair alpha weights) x) p whole.trees f.1.1 (refl)
+strong_table_as_before known (Unknown (WideGap system class index basis)) p f = let whole = f.0 in bare (λ (x : Proof). AreRecordsOf known Q15 (Unknown (WideGap system class index basis)) x) p whole.trees f.1.1 (wide_said Q15 system class index basis)
+strong_table_as_before known (Unknown (Spent nodes)) p f = let whole = f.0 in bare (λ (x : Proof). AreRecordsOf known Q15 (Unknown (Spent nodes)) x) p whole.trees f.1.1 (refl)
+strong_table_as_before known Yes Nothing f = let b = f.0 in absurd b.trees
+strong_table_as_before known Yes (Two tree second) f = let b = f.0 in let t = b.trees in absurd t.1
+strong_table_as_before known Yes p f = absurd (let s = f.1.1 in cc)
+strong_table_as_before known (Unknown (RestsOn question)) p f = let b = f.0 in absurd b.head
+strong_table_as_before known v p f = let b = f.0 in absurd b.head
 
 pub records_as_before : RecordsAsBefore
-records_as_before known Q1 v p e f = linkage_as_before known v p e f
-records_as_before known Q2 v p e f = strong_as_before known v p e f
-records_as_before known Q3 v p e f = reversible_as_before known v p e f
-records_as_before known Q4 v p e f = weak_as_before known v p e f
-records_as_before known Q5 v p e f = rank_as_before known v p e f
-records_as_before known Q6 v p e f = deficiency_as_before known v p e f
-records_as_before known Q7 v p e f = dependence_as_before known v p e f
-records_as_before known Q8 v p e f = conservation_as_before known v p e f
-records_as_before known Q9 v p e f = zero_as_before known v p e f
-records_as_before known Q10 v p e f = one_as_before known v p e f
-records_as_before known Q11 v p e f = regular_as_before known v p e f
-records_as_before known Q12 v p e f = confluence_as_before known v p e f
-records_as_before known Q13 v p e f = signal_as_before known v p e f
-records_as_before known Q14 v p e f = table_as_before known v p e f
-records_as_before known Q15 v p e f = strong_table_as_before known v p e f
+records_as_before known Q1 v p f = linkage_as_before known v p f
+records_as_before known Q2 v p f = strong_as_before known v p f
+records_as_before known Q3 v p f = reversible_as_before known v p f
+records_as_before known Q4 v p f = weak_as_before known v p f
+records_as_before known Q5 v p f = rank_as_before known v p f
+records_as_before known Q6 v p f = deficiency_as_before known v p f
+records_as_before known Q7 v p f = dependence_as_before known v p f
+records_as_before known Q8 v p f = conservation_as_before known v p f
+records_as_before known Q9 v p f = zero_as_before known v p f
+records_as_before known Q10 v p f = one_as_before known v p f
+records_as_before known Q11 v p f = regular_as_before known v p f
+records_as_before known Q12 v p f = confluence_as_before known v p f
+records_as_before known Q13 v p f = signal_as_before known v p f
+records_as_before known Q14 v p f = table_as_before known v p f
+records_as_before known Q15 v p f = strong_table_as_before known v p f

@@ -1,7 +1,6 @@
 -- Records that fit the forms of a question, and after which no tree is due, are those of a formed answer.
 use Rattle.crn_ctext.proofs.Prelude.{◌≡◌, ◌∙◌, List, [], ◌∷◌, sym, ap₂, subst, AllZip, Verdict, Proof, Question, TreeRow, trees, Block, FitsTree, proof_of, IsFormedOf, Record, Fits, heads, Problem, below, IsOneOf, Known, sizes_of, shapes_of, said_verdict, said_proof, meaning}
 use Rattle.crn_cert.specs.Blocks.{verdict_of}
-use Rattle.crn_ctext.proofs.BlockLaws.{PairsFor}
 use Rattle.crn_ctext.proofs.RecordsTyped.{records_are_blocks}
 use Rattle.crn_ctext.proofs.BlocksFormed.{AreLike, answers_formed, trees_due}
 use Rattle.crn_ctext.proofs.BlocksSaid.{block_said}
@@ -13,16 +12,16 @@ none_like [] ws e l = cc
 none_like (t ∷ ts) [] e l = absurd l
 none_like (t ∷ ts) (w ∷ ws) e l = absurd cc
 
-pub records_formed : (known : Known) (q : Question) (h : Record) (rs : List Record) → PairsFor q known → IsOneOf (heads q (sizes_of known)) h → AllZip Fits (below q (shapes_of known) h) rs → meaning.problems q known h ≡ []
+pub records_formed : (known : Known) (q : Question) (h : Record) (rs : List Record) → IsOneOf (heads q (sizes_of known)) h → AllZip Fits (below q (shapes_of known) h) rs → meaning.problems q known h ≡ []
     → IsFormedOf known.net known.earlier q (said_verdict q (sizes_of known) h rs) (said_proof q (shapes_of known) h rs)
-records_formed known q h rs e one fit none =
-    let b = records_are_blocks known q h rs e one fit in
+records_formed known q h rs one fit none =
+    let b = records_are_blocks known q h rs one fit in
     let kind = b.kind in
     let head = b.head in
     let rows = b.rows in
     let head_fits = b.head_fits in
     let rows_fit = b.rows_fit in
-    let like = subst (λ (h : Record). AreLike (trees known.net known.earlier q kind) (meaning.problems q known h)) (sym b.head_is) (trees_due known q kind head e head_fits) in
+    let like = subst (λ (h : Record). AreLike (trees known.net known.earlier q kind) (meaning.problems q known h)) (sym b.head_is) (trees_due known q kind head head_fits) in
     let due : trees known.net known.earlier q kind ≡ [] = none_like (trees known.net known.earlier q kind) (meaning.problems q known h) none like in
     let whole : Block = record { kind = kind; head = head; rows = rows; trees = [] } in
     let formed = answers_formed known q whole (record { head = head_fits; rows = rows_fit; trees = subst (λ (ts : List TreeRow). AllZip FitsTree ts []) (sym due) tt }) in

@@ -7,7 +7,7 @@ use Rattle.crn_ctext.proofs.BlocksLinked.{joined}
 use Rattle.crn_ctext.proofs.AnswersLinked.{built_in_order, earlier_next, known_after, known_next}
 use Rattle.crn_ctext.proofs.PrefixesSaid.{prefix_says}
 use Rattle.crn_ctext.proofs.TreeRecords.{Leaf}
-use Rattle.crn_ctext.proofs.RecordsTold.{AreInOrder, pairs_for, told}
+use Rattle.crn_ctext.proofs.RecordsTold.{AreInOrder, told}
 
 -- ---- all answers
 
@@ -19,7 +19,7 @@ answers_by b (q ∷ qs) r known [] k f = absurd f
 answers_by b (q ∷ qs) r known (rs ∷ more) k f =
     let p = f.0 in
     let formed = f.1 in
-    let one = told known q rs p (pairs_for b q known r.0 k) formed in
+    let one = told known q rs p formed in
     let a : Answer = record { verdict = one.0; proof = one.1 } in
     let here : IsFormedOf known.net known.earlier q one.0 one.1 = one.2 in
     let learned : known_after q known a ≡ meaning.learn q known p.head p.rows = ap₂ (λ (h : Record) (rows : List Record). meaning.learn q known h rows) (sym one.3) (sym one.4) in

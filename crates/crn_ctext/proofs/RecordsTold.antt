@@ -4,8 +4,7 @@ use Rattle.crn_cert.specs.Blocks.{verdict_of}
 use Rattle.crn_cert.specs.Table as table
 use Rattle.crn_ctext.specs.Documents as documents
 use Rattle.crn_ctext.proofs.Forms.{head_record, row_records}
-use Rattle.crn_ctext.proofs.BlockLaws.{PairsFor}
-use Rattle.crn_ctext.proofs.KnownBefore.{AreKnown, after, pairs_known}
+use Rattle.crn_ctext.proofs.KnownBefore.{after}
 use Rattle.crn_ctext.proofs.TreeRecords.{tree_formed, tree_of}
 use Rattle.crn_ctext.proofs.TablesLinked.{at_root}
 use Rattle.crn_ctext.proofs.RecordsDerived.{records_as_before}
@@ -31,11 +30,6 @@ abbrev pub AreInOrder : Bool → List Question → Type 0
 AreInOrder b [] = Unit {0}
 AreInOrder b (q ∷ qs) = ComesAfter b q × AreInOrder (after b q) qs
 
-pub pairs_for : (b : Bool) (q : Question) (known : Known) → ComesAfter b q → AreKnown b known.earlier → PairsFor q known
-pairs_for b Q11 known o k = pairs_known known (subst (λ (x : Bool). AreKnown x known.earlier) o k)
-pairs_for b Q13 known o k = pairs_known known (subst (λ (x : Bool). AreKnown x known.earlier) o k)
-pairs_for b q known o k = tt
-
 -- ---- a block
 
 -- the records of the head of a block and of the rows below it
@@ -43,17 +37,17 @@ abbrev above_trees : Known → Question → Block → List Record
 above_trees known q b = head_record q b.kind b.head ∷ row_records (table.rows known.net known.earlier q b.kind b.head) b.rows
 
 -- an answer, with the parts of its block
-pub told : (known : Known) (q : Question) (rs : List Record) (p : Parts rs) → PairsFor q known → documents.IsFormed meaning q known rs p
+pub told : (known : Known) (q : Question) (rs : List Record) (p : Parts rs) → documents.IsFormed meaning q known rs p
     → (v : Verdict) × (u : Proof) × IsFormedOf known.net known.earlier q v u × (p.head ≡ head_of q v) × (p.rows ≡ records_below (shapes_of known) (answer v u)) × (p.nodes ≡ proof_nodes u) × (said_verdict q (sizes_of known) p.head p.rows ≡ v)
-told known q rs p e f =
-    let found = formed_are_blocks of_trees known q rs p e f in
+told known q rs p f =
+    let found = formed_are_blocks of_trees known q rs p f in
     let b = found.0 in
     let fits = found.1 in
     let v = verdict_of b.kind b.head b.rows in
     let u = proof_of known.net known.earlier q b.kind b.head b.rows b.trees in
     let formed = answers_formed known q b fits in
     let same : block_of known.net known.earlier v u ≡ b = blocks_are_of_answers known.net known.earlier q b fits in
-    let above : head_of q v ∷ records_below (shapes_of known) (answer v u) ≡ above_trees known q b = records_as_before known q v u e formed ∙ ap (λ (c : Block). above_trees known q c) same in
+    let above : head_of q v ∷ records_below (shapes_of known) (answer v u) ≡ above_trees known q b = records_as_before known q v u formed ∙ ap (λ (c : Block). above_trees known q c) same in
     let rows = row_records (table.rows known.net known.earlier q b.kind b.head) b.rows in (
       v,
       u,

@@ -1,16 +1,13 @@
 -- Records that fit the forms of a question are those of a block of the table that fits.
-use Rattle.crn_ctext.proofs.Prelude.{◌≡◌, ◌++◌, ℕ, suc, List, [], ◌∷◌, map, refl, sym, ap₂, subst, inl, inr, ℤ, Option, Some, None, AllZip, flat_map, IsIn, Question, Record, Form, head_word, below, IsOneOf, shapes_of, HeadKind, Datum, OneAnd, Walk, FreeSeveral, Shelves, Side, WideOf, Row, fields, FitsFields, FitsHead, FitsRow}
+use Rattle.crn_ctext.proofs.Prelude.{◌≡◌, ◌++◌, ℕ, suc, List, [], ◌∷◌, map, refl, sym, ap₂, subst, inl, inr, ℤ, Option, Some, None, AllZip, flat_map, IsIn, Question, words, kinds, ways, ways_of, forms_at, forms_from, heads, head_word, Record, Form, below, IsOneOf, shapes_of, HeadKind, Datum, OneAnd, Walk, FreeSeveral, Shelves, Side, WideOf, Row, Sizes, fields, FitsFields, FitsHead, FitsRow}
 use Rattle.crn_cert.specs.Data.{Field, One, CountAndPart, TwoOf, Several, Members, Free, Turn, Wide, ClassWide}
-use Rattle.crn_cert.specs.Table.{Sizes}
 use Rattle.crn_ctext.specs.Records as records
 use Rattle.crn_ctext.proofs.Forms.{numbers_of}
 use Rattle.crn_cert.specs.Table as table
-use Rattle.crn_ctext.proofs.Forms.{words, kinds}
 use Rattle.crn_ctext.proofs.Forms.{row_records}
-use Rattle.crn_ctext.proofs.Forms.{ways, ways_of, way_of, forms_at, forms_from, forms, row_form}
+use Rattle.crn_ctext.proofs.Forms.{way_of, row_form}
 use Rattle.crn_ctext.proofs.BlockLaws.{RecordsAreBlocks}
 use Rattle.crn_ctext.proofs.FieldsTyped.{field_typed, fields_typed}
-use Rattle.crn_ctext.proofs.HeadsDerived.{heads_as_before}
 use Rattle.crn_ctext.proofs.RowsDerived.{rows_as_before}
 
 abbrev pub record_is : (r : Record) (words : List (List ℕ)) (numbers : List ℤ) → r.words ≡ words → r.numbers ≡ numbers → r ≡ record { words = words; numbers = numbers }
@@ -44,7 +41,7 @@ from_kinds : (q : Question) (z : Sizes) (place : ℕ) (ks : List HeadKind) (form
 from_kinds q z place [] form r i f = absurd i
 from_kinds q z place (kind ∷ ks) form r i f = in_both form (forms_at q kind place (fields q z kind)) (forms_from q z (suc place) ks) (IsHead q z r) (λ j. at_kind q z kind place (fields q z kind) form r refl j f) (λ j. from_kinds q z (suc place) ks form r j f) i
 
-pub head_typed : (q : Question) (z : Sizes) (r : Record) → IsOneOf (forms q z) r → IsHead q z r
+pub head_typed : (q : Question) (z : Sizes) (r : Record) → IsOneOf (heads q z) r → IsHead q z r
 head_typed q z r (form, i, f) = from_kinds q z 1 (kinds q) form r i f
 
 -- ---- rows
@@ -78,11 +75,10 @@ rows_typed (row ∷ due) (r ∷ rs) f =
 -- ---- a block
 
 pub records_are_blocks : RecordsAreBlocks
-records_are_blocks known q h rs e one f =
+records_are_blocks known q h rs one f =
     let z = table.sizes_of known.net known.earlier in
-    let forms_are = heads_as_before known q e in
-    let head = head_typed q z h (subst (λ (fs : List Form). IsOneOf fs h) forms_are one) in
+    let head = head_typed q z h one in
     let due = table.rows known.net known.earlier q head.0 head.1 in
     let below_head = subst (λ (h : Record). AllZip records.Fits (below q (shapes_of known) h) rs) head.3 f in
-    let typed = rows_typed due rs (subst (λ (fs : List Form). AllZip records.Fits fs rs) (rows_as_before known q head.0 head.1 e head.2) below_head) in
+    let typed = rows_typed due rs (subst (λ (fs : List Form). AllZip records.Fits fs rs) (rows_as_before known q head.0 head.1 head.2) below_head) in
     record { kind = head.0; head = head.1; rows = typed.0; head_fits = head.2; rows_fit = typed.1; head_is = head.3; rows_are = typed.2 }

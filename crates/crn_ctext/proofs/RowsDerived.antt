@@ -5,8 +5,7 @@ use Rattle.crn_cert.specs.Data.{Members}
 use Rattle.crn_cert.specs.Table.{rows}
 use Rattle.crn_ctext.proofs.Forms.{head_record}
 use Rattle.crn_ctext.proofs.Forms.{row_form}
-use Rattle.crn_ctext.proofs.BlockLaws.{PairsFor, RowsAsBefore}
-use Rattle.crn_ctext.proofs.HeadsDerived.{counts}
+use Rattle.crn_ctext.proofs.BlockLaws.{RowsAsBefore}
 
 abbrev pub HeadOf : Known → Question → HeadKind → Type 0
 HeadOf known q kind = AllOf (fields_in (fields q (table_sizes known.net known.earlier) kind))
@@ -60,8 +59,8 @@ sides_said : (c : ℕ) (pairs : List ℕ) → map (λ r. row_form (row (codes "s
 sides_said c [] = refl
 sides_said c (r ∷ pairs) = ap (λ (t : List Form). row_form (row (codes "side") (Side r c)) ∷ t) (sides_said c pairs)
 
-by_ties : (known : Known) (n : ℕ) → replicate n (free_form (codes "tie") (length known.net.names + length (sizes_of known).class_reactions)) ≡ map row_form (replicate n (row (codes "tie") (FreeSeveral (length known.net.names + linkage_count known.earlier))))
-by_ties known n = ap (λ (k : ℕ). replicate n (free_form (codes "tie") (length known.net.names + k))) (counts known) ∙ sym (times_said (codes "tie") (length known.net.names + linkage_count known.earlier) n)
+by_ties : (known : Known) (n : ℕ) → replicate n (free_form (codes "tie") (length known.net.names + linkage_count known.earlier)) ≡ map row_form (replicate n (row (codes "tie") (FreeSeveral (length known.net.names + linkage_count known.earlier))))
+by_ties known n = sym (times_said (codes "tie") (length known.net.names + linkage_count known.earlier) n)
 
 -- whether system 5 may be wide or not, no record is below an open head
 abbrev open_below : Known → List (List ℕ) → ℕ → Bool → List Form
@@ -75,61 +74,61 @@ rests_said : (known : Known) (n : ℕ) (b : Bool) → open_below known (codes "q
 rests_said known n true = refl
 rests_said known n false = refl
 
-by_kind : (known : Known) (q : Question) (kind : HeadKind) (a : HeadOf known q kind) → PairsFor q known → FitsHead q (table_sizes known.net known.earlier) kind (head_by known q kind a) → AreForms known q kind (head_by known q kind a)
-by_kind known Q1 Classes a e h = refl
-by_kind known Q2 Strong a e h = refl
-by_kind known Q3 Yes a e h = refl
-by_kind known Q3 NoReaction a e h = refl
-by_kind known Q4 Yes a e h = refl
-by_kind known Q4 NoReaction a e h = refl
-by_kind known Q5 Rank a e h = sym (rank_said (length known.net.names) a.0 (range_with_len 1 (length known.net.reactions)))
-by_kind known Q5 Wide a e h = refl
-by_kind known Q6 Deficiency a e h = ap (λ (zs : List ℤ). class_forms (sizes_of known) (shapes_of known).class_complexes (shapes_of known).class_members zs) (append-nil (map pos a.0.1)) ∙ by_classes known a.0.1 (let x = h.0.1 in x.long)
-by_kind known Q6 Wide a e h = refl
-by_kind known Q6 Rests a e h = refl
-by_kind known Q7 YesVec a e h = refl
-by_kind known Q7 NoVec a e h = refl
-by_kind known Q7 Wide a e h = refl
-by_kind known Q8 YesVec a e h = refl
-by_kind known Q8 NoVec a e h = refl
-by_kind known Q8 Wide a e h = refl
-by_kind known Q9 YesWeak a e h = refl
-by_kind known Q9 NoNumber a e h = refl
-by_kind known Q9 Rests a e h = refl
-by_kind known Q10 Yes a e h = refl
-by_kind known Q10 NoTerminal a e h = refl
-by_kind known Q10 NoClass a e h = refl
-by_kind known Q10 NoSum a e h = refl
-by_kind known Q10 Rests a e h = refl
-by_kind known Q11 Yes a e h = sides_said (length known.net.complexes) (pairs_of known) ∙ ap (λ (ps : List ℕ). map row_form (map (λ r. row (codes "side") (Side r (length known.net.complexes))) ps)) e
-by_kind known Q11 NoTerminal a e h = refl
-by_kind known Q11 NoDependence a e h = refl
-by_kind known Q11 NoCycle a e h = refl
-by_kind known Q11 Rests a e h = refl
-by_kind known Q12 YesVec a e h = ap (λ (t : List Form). free_form (codes "vec") (length known.net.complexes) ∷ t) (by_ties known (length known.net.complexes - 1))
-by_kind known Q12 NotRegular a e h = refl
-by_kind known Q12 OnlyZero a e h = by_ties known (length known.net.complexes)
-by_kind known Q12 Plane a e h = refl
-by_kind known Q12 Wide a e h = refl
-by_kind known Q12 Rests a e h = refl
-by_kind known Q13 YesSignal a e h = refl
-by_kind known Q13 No a e h = refl
-by_kind known Q13 NotApplicable a e h = refl
-by_kind known Q13 Wide a e h = refl
-by_kind known Q13 Budget a e h = budget_said known a.0 (has_vector (on known.earlier Q12))
-by_kind known Q13 Rests a e h = rests_said known a.0 (has_vector (on known.earlier Q12))
-by_kind known Q14 Yes a e h = refl
-by_kind known Q14 NoPair a e h = refl
-by_kind known Q14 Wide a e h = refl
-by_kind known Q14 Budget a e h = refl
-by_kind known Q15 Yes a e h = refl
-by_kind known Q15 NoPair a e h = refl
-by_kind known Q15 Wide a e h = refl
-by_kind known Q15 Budget a e h = refl
-by_kind known q kind a e h = absurd h
+by_kind : (known : Known) (q : Question) (kind : HeadKind) (a : HeadOf known q kind) → FitsHead q (table_sizes known.net known.earlier) kind (head_by known q kind a) → AreForms known q kind (head_by known q kind a)
+by_kind known Q1 Classes a h = refl
+by_kind known Q2 Strong a h = refl
+by_kind known Q3 Yes a h = refl
+by_kind known Q3 NoReaction a h = refl
+by_kind known Q4 Yes a h = refl
+by_kind known Q4 NoReaction a h = refl
+by_kind known Q5 Rank a h = sym (rank_said (length known.net.names) a.0 (range_with_len 1 (length known.net.reactions)))
+by_kind known Q5 Wide a h = refl
+by_kind known Q6 Deficiency a h = ap (λ (zs : List ℤ). class_forms (sizes_of known) (shapes_of known).class_complexes (shapes_of known).class_members zs) (append-nil (map pos a.0.1)) ∙ by_classes known a.0.1 (let x = h.0.1 in x.long)
+by_kind known Q6 Wide a h = refl
+by_kind known Q6 Rests a h = refl
+by_kind known Q7 YesVec a h = refl
+by_kind known Q7 NoVec a h = refl
+by_kind known Q7 Wide a h = refl
+by_kind known Q8 YesVec a h = refl
+by_kind known Q8 NoVec a h = refl
+by_kind known Q8 Wide a h = refl
+by_kind known Q9 YesWeak a h = refl
+by_kind known Q9 NoNumber a h = refl
+by_kind known Q9 Rests a h = refl
+by_kind known Q10 Yes a h = refl
+by_kind known Q10 NoTerminal a h = refl
+by_kind known Q10 NoClass a h = refl
+by_kind known Q10 NoSum a h = refl
+by_kind known Q10 Rests a h = refl
+by_kind known Q11 Yes a h = sides_said (length known.net.complexes) (pairs_of known)
+by_kind known Q11 NoTerminal a h = refl
+by_kind known Q11 NoDependence a h = refl
+by_kind known Q11 NoCycle a h = refl
+by_kind known Q11 Rests a h = refl
+by_kind known Q12 YesVec a h = ap (λ (t : List Form). free_form (codes "vec") (length known.net.complexes) ∷ t) (by_ties known (length known.net.complexes - 1))
+by_kind known Q12 NotRegular a h = refl
+by_kind known Q12 OnlyZero a h = by_ties known (length known.net.complexes)
+by_kind known Q12 Plane a h = refl
+by_kind known Q12 Wide a h = refl
+by_kind known Q12 Rests a h = refl
+by_kind known Q13 YesSignal a h = refl
+by_kind known Q13 No a h = refl
+by_kind known Q13 NotApplicable a h = refl
+by_kind known Q13 Wide a h = refl
+by_kind known Q13 Budget a h = budget_said known a.0 (has_vector (on known.earlier Q12))
+by_kind known Q13 Rests a h = rests_said known a.0 (has_vector (on known.earlier Q12))
+by_kind known Q14 Yes a h = refl
+by_kind known Q14 NoPair a h = refl
+by_kind known Q14 Wide a h = refl
+by_kind known Q14 Budget a h = refl
+by_kind known Q15 Yes a h = refl
+by_kind known Q15 NoPair a h = refl
+by_kind known Q15 Wide a h = refl
+by_kind known Q15 Budget a h = refl
+by_kind known q kind a h = absurd h
 
 pub rows_as_before : RowsAsBefore
-rows_as_before known q kind h e f =
+rows_as_before known q kind h f =
     let a = head_back (fields q (table_sizes known.net known.earlier) kind) h f in
     let head = subst (λ (h : List Datum). FitsHead q (table_sizes known.net known.earlier) kind h) a.1 f in
-    subst (λ (h : List Datum). AreForms known q kind h) (sym a.1) (by_kind known q kind a.0 e head)
+    subst (λ (h : List Datum). AreForms known q kind h) (sym a.1) (by_kind known q kind a.0 head)

@@ -1,16 +1,14 @@
 -- Records of a block that fits are those of the forms of its question.
-use Rattle.crn_ctext.proofs.Prelude.{◌≡◌, ◌-◌, ◌++◌, ℕ, zero, suc, List, [], ◌∷◌, length, map, refl, sym, subst, inl, inr, AllByRecursion, AllZip, range_with_len, IsIn, class_places, pair_places, Question, Q1, Q2, Q3, Q5, Q6, Q7, Q8, Q11, Q12, Q13, Q14, Q15, Record, Form, AreOf, below, IsOneOf, Known, shapes_of, HeadKind, Classes, Strong, Rank, Deficiency, Yes, YesVec, YesSignal, NoVec, NoCycle, NoPair, OnlyZero, Plane, Datum, Row, rank_rows, rank_in, class_rows, rows_by, others, FitsRow}
+use Rattle.crn_ctext.proofs.Prelude.{◌≡◌, ◌-◌, ◌++◌, ℕ, zero, suc, List, [], ◌∷◌, length, map, refl, sym, subst, inl, inr, AllByRecursion, AllZip, range_with_len, IsIn, class_places, pair_places, Question, Q1, Q2, Q3, Q5, Q6, Q7, Q8, Q11, Q12, Q13, Q14, Q15, ways, heads, Record, Form, AreOf, below, IsOneOf, Known, shapes_of, HeadKind, Classes, Strong, Rank, Deficiency, Yes, YesVec, YesSignal, NoVec, NoCycle, NoPair, OnlyZero, Plane, Datum, Row, Sizes, rank_rows, rank_in, class_rows, rows_by, others, FitsRow}
 use Rattle.std.proofs.Common.{replicate}
-use Rattle.crn_cert.specs.Table.{Sizes}
 use Rattle.crn_ctext.specs.Records as records
 use Rattle.crn_ctext.proofs.Forms.{numbers_of}
 use Rattle.crn_cert.specs.Table as table
 use Rattle.crn_ctext.proofs.Forms.{row_record, row_records}
-use Rattle.crn_ctext.proofs.Forms.{ways, way_of, forms, row_form}
+use Rattle.crn_ctext.proofs.Forms.{way_of, row_form}
 use Rattle.crn_ctext.proofs.BlockLaws.{BlocksAreRecords}
 use Rattle.crn_ctext.proofs.FieldsTyped.{Holds}
 use Rattle.crn_ctext.proofs.FieldsSaid.{field_said, head_said}
-use Rattle.crn_ctext.proofs.HeadsDerived.{heads_as_before}
 use Rattle.crn_ctext.proofs.RowsDerived.{rows_as_before}
 
 -- the numbers of a row are ranged in one way only
@@ -76,14 +74,13 @@ one_ways q known z kind h = tt
 -- ---- a block
 
 pub blocks_are_records : BlocksAreRecords
-blocks_are_records known q h rs e b =
+blocks_are_records known q h rs b =
     let kind = b.kind in
     let head = b.head in
     let rows = b.rows in
     let fits = b.head_fits in
     let due = table.rows known.net known.earlier q kind head in
-    let forms_are = heads_as_before known q e in
-    let one = subst (λ (fs : List Form). IsOneOf fs h) (sym forms_are) (subst (IsOneOf (forms q (table.sizes_of known.net known.earlier))) (sym b.head_is) (head_said q (table.sizes_of known.net known.earlier) kind head fits)) in
+    let one = subst (IsOneOf (heads q (table.sizes_of known.net known.earlier))) (sym b.head_is) (head_said q (table.sizes_of known.net known.earlier) kind head fits) in
     let said = rows_said due rows (one_ways q known (table.sizes_of known.net known.earlier) kind head) b.rows_fit in
-    let below_is = subst (λ (h : Record). below q (shapes_of known) h ≡ map row_form due) (sym b.head_is) (rows_as_before known q kind head e fits) in
+    let below_is = subst (λ (h : Record). below q (shapes_of known) h ≡ map row_form due) (sym b.head_is) (rows_as_before known q kind head fits) in
     (one, subst (λ (fs : List Form). AllZip records.Fits fs rs) (sym below_is) (subst (AllZip records.Fits (map row_form due)) (sym b.rows_are) said))

@@ -4,7 +4,7 @@ use Rattle.crn_cert.specs.declared.answer.Gap.TheVariants.{Rests}
 use Rattle.crn_cert.specs.declared.answer.Verdict.TheVariants.{Yes, YesVec, YesSignal, No, NotApplicable}
 use Rattle.crn_ctext.specs.Documents as documents
 use Rattle.crn_ctext.proofs.Shown.{shown}
-use Rattle.crn_ctext.proofs.KnownBefore.{IsStrong, pairs_known}
+use Rattle.crn_ctext.proofs.KnownBefore.{IsStrong}
 use Rattle.crn_ctext.proofs.RecordsDerived.{bare}
 use Rattle.crn_ctext.proofs.Joined.{parts, answer}
 use Rattle.crn_ctext.proofs.TreesRead.{valid_tree_is_formed}
@@ -38,11 +38,7 @@ choices_of known = terminal_of (on known.earlier Q2) + length known.net.names
 
 -- a formed tree is formed by what is known
 pub tree_known : (known : Known) (turn : ℤ) (t : Plan) → IsStrong (on known.earlier Q2) → IsSignalTree known.net known.earlier t → FormedAt (signal_problem known turn) [] t
-tree_known known turn t k f =
-    let net = known.net in
-    let n = length net.names in
-    let c = length net.complexes in
-    subst (λ (ps : List ℕ). IsFormedTree (terminal_of (on known.earlier Q2) + n) (c + length ps) n [] t) (sym (pairs_known known k)) f
+tree_known known turn t k f = f
 
 leaf_tests : (known : Known) → (turn : ℤ) → AreLeafTests (signal_problem known turn) (IsNodeOf known.net known.earlier turn)
 leaf_tests known turn = record {

@@ -11,7 +11,7 @@ use Rattle.crn_ctext.proofs.TablesLinked.{concordant_tree, strongly_tree}
 use Rattle.crn_ctext.proofs.SignalLinked.{signal_trees}
 use Rattle.crn_ctext.proofs.CutLists.{one_tree_cuts, signal_cuts}
 use Rattle.crn_cert.specs.declared.answer.Proof.TheVariants as proof
-use Rattle.crn_ctext.proofs.KnownBefore.{IsStrong, formed_right, strong_stays, strong_tight, pairs_known, pairs_stay}
+use Rattle.crn_ctext.proofs.KnownBefore.{IsStrong, formed_right, strong_stays, strong_tight, pairs_stay}
 use Rattle.crn_ctext.proofs.AnswersLinked.{linkage_next, strong_next}
 use Rattle.crn_ctext.proofs.WrittenLines.{lines_append}
 use Rattle.crn_ctext.proofs.WrittenLeaves.{IsPlain, written_none}
@@ -210,7 +210,7 @@ pairs_then net a b f g =
     let both : known.earlier ≡ (Q1, tight a.verdict) ∷ (Q2, tight b.verdict) ∷ [] = second ∙ ap (λ (es : Earlier). es ++ (Q2, tight b.verdict) ∷ []) first in
     let right : IsStrong b.verdict = formed_right net ((Q1, tight a.verdict) ∷ []) Q2 b.verdict b.proof g in
     let strong : IsStrong (on known.earlier Q2) = subst (λ (es : Earlier). IsStrong (on es Q2)) (sym both) (strong_tight b.verdict right) in
-    (strong, pairs_known known strong ∙ ap (λ (es : Earlier). pair_places net es) both ∙ pairs_of_strong net (tight a.verdict) b.verdict right)
+    (strong, ap (λ (es : Earlier). pair_places net es) both ∙ pairs_of_strong net (tight a.verdict) b.verdict right)
 
 -- the records of formed answers are those with the pairs of their verdicts
 all_written : (net : Net) (xs : List Answer) → AreFormed net [] built xs → AreWritten (pairs_in net xs) built (meaning.start net) xs

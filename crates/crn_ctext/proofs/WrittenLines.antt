@@ -1,5 +1,5 @@
 -- The lines of records, as they are written: words, then numbers.
-use Rattle.crn_ctext.proofs.Prelude.{◌≡◌, ℕ, zero, suc, slice_get, add-one, ◌+◌, ◌<◌, ◌≤◌, List, [], ◌∷◌, ◌++◌, length, map, take, drop, get_or, refl, sym, ap, ◌∙◌, append_assoc, arith, ap₂, flat_map, join_with_byte, signed_decimal, digits, append-nil, flat_map-append, SinkSeen, WroteAll, WroteAll-none, flat_map_step, flat_map_whole, Net, canonical, Question, Wide, Budget, Verdict, Unknown, RankProof, Record, record_text, number_text, numbers_text, line, head_of, head_with, head_word, small_record, rank_records, side_records, record_lines, one_word, opening, table_records, part_head, words_text, question_at, head_words, head_numbers, pair_at}
+use Rattle.crn_ctext.proofs.Prelude.{◌≡◌, ℕ, zero, suc, slice_get, add-one, ◌+◌, ◌<◌, ◌≤◌, List, [], ◌∷◌, ◌++◌, length, map, take, drop, get_or, refl, sym, ap, ◌∙◌, append_assoc, arith, ap₂, flat_map, join_with_byte, signed_decimal, digits, append-nil, flat_map-append, SinkSeen, WroteAll, WroteAll-none, flat_map_step, flat_map_whole, Net, canonical, Question, Wide, Budget, Verdict, Unknown, RankProof, Record, record_text, number_text, numbers_text, line, head_of, head_with, small_record, rank_records, side_records, head_word, record_lines, one_word, opening, table_records, part_head, words_text, question_at, head_words, head_numbers, pair_at}
 use Rattle.std.proofs.Common.{Some, ℤ, pos, codes, decimal}
 use Rattle.crn_cert.specs.declared.answer.Gap.TheVariants.{Rests}
 use Rattle.crn_cert.specs.declared.answer.Verdict.TheVariants.{Classes, Strong, Rank, Deficiency, Yes, YesWeak, YesVec, YesSignal, No, NoReaction, NoVec, NoNumber, NoTerminal, NoClass, NoSum, NoDependence, NoCycle, NoPair, NotRegular, OnlyZero, Plane, NotApplicable}

@@ -10,7 +10,8 @@ use Rattle.crn_io.specs.declared.lines.TheConstants.{MAX_NUMBERS}
 use Rattle.crn_cert.specs.Questions.{Question, Q1, questions}
 use Rattle.crn_ctext.specs.Records.{Record, Form, Field, Small, Several, Free, Members}
 use Rattle.crn_ctext.specs.Kinds.{row_words, record_form, end_form, table_form, vector_form, section_form, node_forms}
-use Rattle.crn_ctext.specs.Questions.{Sizes, heads, side_form, opens}
+use Rattle.crn_cert.specs.Table.{Sizes}
+use Rattle.crn_ctext.specs.Questions.{heads, side_form, opens}
 use Rattle.crn_ctext.specs.Course.{Course, Gives, FailsFirst}
 use Rattle.crn_ctext.specs.Blocks.{reads, place_of, word_of}
 use Rattle.crn_ctext.specs.declared.word.Word.{Word}
@@ -94,10 +95,10 @@ sizes_of z = record {
   species = z.species;
   complexes = z.complexes;
   reactions = z.reactions;
-  strong = z.strong;
+  classes = length z.class_reactions.now;
   terminal = z.terminal;
   pairs = z.pairs;
-  class_reactions = z.class_reactions.now;
+  class_reactions = λ k. slice_index_or z.class_reactions.now (k - 1) 0;
   vector = z.vector;
 }
 
@@ -174,13 +175,13 @@ pub record IsRefusedBy (e : Expect) (line : List ℕ) (code : ℕ) : Type 0 wher
 -- ---- what may be due
 
 -- sizes within the limits of networks
-pub record AreSizes (z : Sizes) : Type 0 where
+pub record AreSizes (z : GivenSizes) : Type 0 where
   pub species : z.species ≤ MAX_SPECIES
   pub complexes : z.complexes ≤ MAX_COMPLEXES
   pub reactions : z.reactions ≤ MAX_REACTIONS
   pub pairs : z.pairs ≤ MAX_REACTIONS
-  pub classes : length z.class_reactions ≤ MAX_COMPLEXES
-  pub each : AllByRecursion (λ r. r ≤ MAX_REACTIONS) z.class_reactions
+  pub classes : length z.class_reactions.now ≤ MAX_COMPLEXES
+  pub each : AllByRecursion (λ r. r ≤ MAX_REACTIONS) z.class_reactions.now
 
 -- it may be due in this version, has at most as many numbers as a line, and bounds below those of free numbers
 abbrev pub MayBeDue : Due → (version : ℕ) → Type 0
@@ -203,5 +204,5 @@ MayBeDue (due.Section i) version = (version ≡ 2) × (1 ≤ i) × (i ≤ 6)
 -- a document may have this due
 pub record IsExpectable (e : Expect) : Type 0 where
   pub version : (e.version ≡ 1) ⊎ (e.version ≡ 2)
-  pub sizes : AreSizes (sizes_of e.sizes)
+  pub sizes : AreSizes e.sizes
   pub due : MayBeDue e.due e.version

@@ -20,12 +20,13 @@ use Rattle.crn_cert.specs.declared.answer.Proof.{Proof}
 use Rattle.crn_cert.specs.declared.answer.Proof.TheVariants as proof
 use Rattle.crn_cert.specs.declared.head_kind.HeadKind.{HeadKind}
 use Rattle.crn_cert.specs.declared.head_kind.HeadKind.TheVariants.{Classes, Strong, Rank, Deficiency, Yes, YesWeak, YesVec, YesSignal, No, NoReaction, NoVec, NoNumber, NoTerminal, NoClass, NoSum, NoDependence, NoCycle, NoPair, NotRegular, OnlyZero, Plane, NotApplicable, Wide, Budget, Rests}
-use Rattle.crn_cert.specs.Questions.{Earlier, Question, Q2, Q3, Q4, Q11, Q12, Q13, Q14, Q15, on, count_of, terminal_of}
+use Rattle.crn_cert.specs.Questions.{Earlier, Question, Q2, Q3, Q4, Q11, Q12, Q13, Q14, Q15, on, terminal_of}
 use Rattle.crn_cert.specs.Tests.{Test as Claim}
 use Rattle.crn_cert.specs.Nodes.{Said, Fits, Flats, CutsA, CutsB}
 use Rattle.crn_cert.specs.Valid.{linkage, linkage_count, classes_to, class_places, pair_places, IsNodeOf, head_tests, row_tests}
 use Rattle.crn_ctext.specs.Records.{Record}
-use Rattle.crn_ctext.specs.Questions.{Sizes, Shapes, heads, kind_at, class_rank, later_numbers}
+use Rattle.crn_cert.specs.Table.{Sizes, sizes_of as sizes_in}
+use Rattle.crn_ctext.specs.Questions.{Shapes, heads, kind_at, class_rank, later_numbers}
 use Rattle.crn_ctext.specs.Blocks.{Meaning, Problem, place_of}
 pub use Rattle.crn_cert.specs.Questions.{is_yes, has_vector}
 
@@ -36,14 +37,9 @@ pub record Known : Type 0 where
 
 -- ---- the sizes of forms
 
--- the linked pairs within terminal classes, if the strong classes are known
-abbrev pub pairs_by : Known → Verdict → List ℕ
-pairs_by known (verdict.Strong count terminal label exit) = pair_places known.net known.earlier
-pairs_by known other = []
-
--- these pairs, by the earlier verdict on strong classes
+-- the linked pairs within terminal classes
 abbrev pub pairs_of : Known → List ℕ
-pairs_of known = pairs_by known (on known.earlier Q2)
+pairs_of known = pair_places known.net known.earlier
 
 -- the reactions of each linkage class
 abbrev pub reactions_by_class : Known → List (List ℕ)
@@ -61,16 +57,7 @@ lengths lists = map (λ list. length list) lists
 
 -- the sizes of heads, by what is known
 abbrev pub sizes_of : Known → Sizes
-sizes_of known = record {
-  species = length known.net.names;
-  complexes = length known.net.complexes;
-  reactions = length known.net.reactions;
-  strong = count_of (on known.earlier Q2);
-  terminal = terminal_of (on known.earlier Q2);
-  pairs = length (pairs_of known);
-  class_reactions = lengths (reactions_by_class known);
-  vector = has_vector (on known.earlier Q12);
-}
+sizes_of known = sizes_in known.net known.earlier
 
 -- the sizes and lists of all forms, by what is known
 abbrev pub shapes_of : Known → Shapes

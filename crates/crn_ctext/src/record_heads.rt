@@ -32,7 +32,7 @@ macro_rules! class_and_count {
 }
 
 fn linkage_head<'a>(i: u32, sizes: &Sizes<'a>) -> Option<Form<'a>>
-    requires { AreSizes (sizes_of sizes.now) }
+    requires { AreSizes sizes.now }
     ensures { IsNthHead (heads Q1 (sizes_of sizes.now)) i result }
 {
     forms!(i;
@@ -41,7 +41,7 @@ fn linkage_head<'a>(i: u32, sizes: &Sizes<'a>) -> Option<Form<'a>>
 }
 
 fn strong_head<'a>(i: u32, sizes: &Sizes<'a>) -> Option<Form<'a>>
-    requires { AreSizes (sizes_of sizes.now) }
+    requires { AreSizes sizes.now }
     ensures { IsNthHead (heads Q2 (sizes_of sizes.now)) i result }
 {
     forms!(i;
@@ -50,7 +50,7 @@ fn strong_head<'a>(i: u32, sizes: &Sizes<'a>) -> Option<Form<'a>>
 }
 
 fn reversible_head<'a>(i: u32, sizes: &Sizes<'a>) -> Option<Form<'a>>
-    requires { AreSizes (sizes_of sizes.now) }
+    requires { AreSizes sizes.now }
     ensures { IsNthHead (heads Q3 (sizes_of sizes.now)) i result }
 {
     forms!(i;
@@ -60,7 +60,7 @@ fn reversible_head<'a>(i: u32, sizes: &Sizes<'a>) -> Option<Form<'a>>
 }
 
 fn weak_head<'a>(i: u32, sizes: &Sizes<'a>) -> Option<Form<'a>>
-    requires { AreSizes (sizes_of sizes.now) }
+    requires { AreSizes sizes.now }
     ensures { IsNthHead (heads Q4 (sizes_of sizes.now)) i result }
 {
     forms!(i;
@@ -70,7 +70,7 @@ fn weak_head<'a>(i: u32, sizes: &Sizes<'a>) -> Option<Form<'a>>
 }
 
 fn rank_head<'a>(i: u32, sizes: &Sizes<'a>) -> Option<Form<'a>>
-    requires { AreSizes (sizes_of sizes.now) }
+    requires { AreSizes sizes.now }
     ensures { IsNthHead (heads Q5 (sizes_of sizes.now)) i result }
 {
     forms!(i;
@@ -80,7 +80,7 @@ fn rank_head<'a>(i: u32, sizes: &Sizes<'a>) -> Option<Form<'a>>
 }
 
 fn deficiency_head<'a>(i: u32, sizes: &Sizes<'a>) -> Option<Form<'a>>
-    requires { AreSizes (sizes_of sizes.now) }
+    requires { AreSizes sizes.now }
     ensures { IsNthHead (heads Q6 (sizes_of sizes.now)) i result }
 {
     forms!(i;
@@ -91,7 +91,7 @@ fn deficiency_head<'a>(i: u32, sizes: &Sizes<'a>) -> Option<Form<'a>>
 }
 
 fn dependence_head<'a>(i: u32, sizes: &Sizes<'a>) -> Option<Form<'a>>
-    requires { AreSizes (sizes_of sizes.now) }
+    requires { AreSizes sizes.now }
     ensures { IsNthHead (heads Q7 (sizes_of sizes.now)) i result }
 {
     forms!(i;
@@ -102,7 +102,7 @@ fn dependence_head<'a>(i: u32, sizes: &Sizes<'a>) -> Option<Form<'a>>
 }
 
 fn conservation_head<'a>(i: u32, sizes: &Sizes<'a>) -> Option<Form<'a>>
-    requires { AreSizes (sizes_of sizes.now) }
+    requires { AreSizes sizes.now }
     ensures { IsNthHead (heads Q8 (sizes_of sizes.now)) i result }
 {
     forms!(i;
@@ -113,7 +113,7 @@ fn conservation_head<'a>(i: u32, sizes: &Sizes<'a>) -> Option<Form<'a>>
 }
 
 fn zero_theorem_head<'a>(i: u32, sizes: &Sizes<'a>) -> Option<Form<'a>>
-    requires { AreSizes (sizes_of sizes.now) }
+    requires { AreSizes sizes.now }
     ensures { IsNthHead (heads Q9 (sizes_of sizes.now)) i result }
 {
     forms!(i;
@@ -124,7 +124,7 @@ fn zero_theorem_head<'a>(i: u32, sizes: &Sizes<'a>) -> Option<Form<'a>>
 }
 
 fn one_theorem_head<'a>(i: u32, sizes: &Sizes<'a>) -> Option<Form<'a>>
-    requires { AreSizes (sizes_of sizes.now) }
+    requires { AreSizes sizes.now }
     ensures { IsNthHead (heads Q10 (sizes_of sizes.now)) i result }
 {
     forms!(i;
@@ -137,7 +137,7 @@ fn one_theorem_head<'a>(i: u32, sizes: &Sizes<'a>) -> Option<Form<'a>>
 }
 
 fn regular_head<'a>(i: u32, sizes: &Sizes<'a>) -> Option<Form<'a>>
-    requires { AreSizes (sizes_of sizes.now) }
+    requires { AreSizes sizes.now }
     ensures { IsNthHead (heads Q11 (sizes_of sizes.now)) i result }
 {
     forms!(i;
@@ -150,7 +150,7 @@ fn regular_head<'a>(i: u32, sizes: &Sizes<'a>) -> Option<Form<'a>>
 }
 
 fn confluence_head<'a>(i: u32, sizes: &Sizes<'a>) -> Option<Form<'a>>
-    requires { AreSizes (sizes_of sizes.now) }
+    requires { AreSizes sizes.now }
     ensures { IsNthHead (heads Q12 (sizes_of sizes.now)) i result }
 {
     forms!(i;
@@ -165,7 +165,7 @@ fn confluence_head<'a>(i: u32, sizes: &Sizes<'a>) -> Option<Form<'a>>
 
 // The open heads after the first of them.
 fn signal_open_head<'a>(i: u32, sizes: &Sizes<'a>) -> Option<Form<'a>>
-    requires sizes { AreSizes (sizes_of sizes.now) }
+    requires sizes { AreSizes sizes.now }
     requires open { 3 < i }
     ensures { IsNthHead (heads Q13 (sizes_of sizes.now)) i result }
 {
@@ -183,7 +183,7 @@ fn signal_open_head<'a>(i: u32, sizes: &Sizes<'a>) -> Option<Form<'a>>
 }
 
 fn signal_head<'a>(i: u32, sizes: &Sizes<'a>) -> Option<Form<'a>>
-    requires { AreSizes (sizes_of sizes.now) }
+    requires { AreSizes sizes.now }
     ensures { IsNthHead (heads Q13 (sizes_of sizes.now)) i result }
 {
     if 3 < i {
@@ -198,7 +198,7 @@ fn signal_head<'a>(i: u32, sizes: &Sizes<'a>) -> Option<Form<'a>>
 }
 
 fn concordance_head<'a>(i: u32, sizes: &Sizes<'a>) -> Option<Form<'a>>
-    requires { AreSizes (sizes_of sizes.now) }
+    requires { AreSizes sizes.now }
     ensures { IsNthHead (heads Q14 (sizes_of sizes.now)) i result }
 {
     forms!(i;
@@ -210,7 +210,7 @@ fn concordance_head<'a>(i: u32, sizes: &Sizes<'a>) -> Option<Form<'a>>
 }
 
 fn strong_concordance_head<'a>(i: u32, sizes: &Sizes<'a>) -> Option<Form<'a>>
-    requires { AreSizes (sizes_of sizes.now) }
+    requires { AreSizes sizes.now }
     ensures { IsNthHead (heads Q15 (sizes_of sizes.now)) i result }
 {
     forms!(i;
@@ -223,7 +223,7 @@ fn strong_concordance_head<'a>(i: u32, sizes: &Sizes<'a>) -> Option<Form<'a>>
 
 /// The form of this number, from 0, of the head of a question.
 pub(crate) fn head<'a>(question: u32, i: u32, sizes: &Sizes<'a>) -> Option<Form<'a>>
-    requires sizes { AreSizes (sizes_of sizes.now) }
+    requires sizes { AreSizes sizes.now }
     requires some { 1 ≤ question }
     requires known { question ≤ 15 }
     ensures { IsNthHead (heads (question_of question) (sizes_of sizes.now)) i result }

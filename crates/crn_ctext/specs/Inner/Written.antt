@@ -49,10 +49,10 @@ shapes_with pairs = record {
     species = 0;
     complexes = 0;
     reactions = 0;
-    strong = 0;
+    classes = 0;
     terminal = 0;
     pairs = 0;
-    class_reactions = [];
+    class_reactions = λ k. 0;
     vector = false;
   };
   class_complexes = [];
