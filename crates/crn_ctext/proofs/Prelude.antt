@@ -51,7 +51,7 @@ pub use Rattle.crn_ctext.specs.Inner.Line.{BeginsWithZero, Came, EndsAt, HasDigi
 pub use Rattle.crn_ctext.specs.Inner.Rows.{IsTable, asked_words, words_of}
 pub use Rattle.crn_ctext.specs.Inner.Shapes.{AreMembers, HasBounds, IsBounded, IsJudged, fields_of, has_free}
 pub use Rattle.crn_ctext.specs.Inner.Tries.{AreTried, FitFields, IsFit, IsNotFit, IsNotShaped, IsSomeShaped, IsTried, SaysAfter, worst_of}
-pub use Rattle.crn_ctext.specs.Inner.Written.{block, blocks, counter_seen, head_numbers, head_words, headings, leaves_after, node_record, pair_at, pairs_in, question_at, shapes_with, strong_pairs, words_text}
+pub use Rattle.crn_ctext.specs.Inner.Written.{Gathered, Gathers, block, blocks, counter_seen, head_numbers, head_words, headings, leaves_after, node_record, pair_at, pairs_in, question_at, shapes_with, strong_pairs, words_text}
 pub use Rattle.crn_ctext.specs.Judged.{AreFormedOf, GoodDocumentsAreOne, IsGood, IsPrefixOf, IsReadOf, LeavesOpen, ReadDocumentsAreGood}
 pub use Rattle.crn_ctext.specs.Kinds.{end_form, free_form, just, known_words, node_forms, record_form, row_words, section_form, small, small_form, table_form, tree_words, vector_form}
 pub use Rattle.crn_ctext.specs.Linked.{AnswersAreOne, AreSound, ReadDocumentsAreTrue, SharedAnswersAreOne, SharedDocumentsAreGood, SharesFit, WrittenDocumentsAreGood, records_of}
@@ -120,7 +120,7 @@ pub use Rattle.std.proofs.Math.Nat.{min-le_right}
 pub use Rattle.std.proofs.lemmas.Bool.{cases_Bool, cases_lt, eqb-true, le-ltb, lt-ltb}
 pub use Rattle.std.proofs.lemmas.Bool.Decides.{eqb_tells, nat_tests}
 pub use Rattle.std.proofs.lemmas.Fmt.{decimal_by_steps_wide, decimal_digit, decimal_injective, decimal_is_IsNumeral_wide, decimal_step, decimal_step_wide, length-decimal-le_wide}
-pub use Rattle.std.proofs.lemmas.Int.{ints}
+pub use Rattle.std.proofs.lemmas.Int.{ints, to_z-of_z}
 pub use Rattle.std.proofs.lemmas.Int.Digits.{digits_more, digits_value_more}
 pub use Rattle.std.proofs.lemmas.List.{append-nil, append_cancel_left, append_cancel_right, drop-drop, drop-map, drop_all, drop_at, drop_more, get_or-map, get_or_append_left, length-append, length-map, length-replicate, length-set, length_push, map-append, take-append-drop, take-map, take_at, take_more, take_more_set}
 pub use Rattle.std.proofs.lemmas.List.Concat.{flat_map-append}

@@ -60,6 +60,10 @@ naturals_text (n ∷ ns) = ap (λ (r : List ℕ). number_text (pos n) ++ r) (nat
 pub naturals_step : (ns : List ℕ) (i : ℕ) → i < length ns → numbers_text (map pos (take (i + 1) ns)) ≡ numbers_text (map pos (take i ns)) ++ number_text (pos (get_or ns i 0))
 naturals_step ns i lt = rw (naturals_text (take (i + 1) ns), naturals_text (take i ns)) (flat_map_step (λ n. number_text (pos n)) ns i 0 lt)
 
+-- the numbers before one, and that one
+pub numbers_step : (zs : List ℤ) (i : ℕ) → i < length zs → numbers_text (take (i + 1) zs) ≡ numbers_text (take i zs) ++ number_text (get_or zs i (pos 0))
+numbers_step zs i lt = flat_map_step number_text zs i (pos 0) lt
+
 -- the natural numbers before one, that one, and those after it
 pub naturals_whole : (ns : List ℕ) (i : ℕ) → i < length ns → (rest : List ℕ) × (numbers_text (map pos ns) ≡ (numbers_text (map pos (take i ns)) ++ number_text (pos (get_or ns i 0))) ++ rest)
 naturals_whole ns i lt = (flat_map (λ n. number_text (pos n)) (drop (suc i) ns), rw (naturals_text ns, naturals_text (take i ns)) (flat_map_whole (λ n. number_text (pos n)) ns i 0 lt))

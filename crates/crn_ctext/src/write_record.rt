@@ -3,6 +3,7 @@ ghost use Rattle.std.specs.List.{flat_map};
 ghost use Rattle.crn_io.specs.Write.{Wrote};
 ghost use Rattle.crn_ctext.specs.Records.{number_text, numbers_text, line};
 
+use crate::write_piece::{Piece, begin, end_line, gather_ints, gather_nums};
 use crn_cert::Rows;
 use crn_io::{Sink, WriteFault, put_all, put_parts};
 use itoa::Buffer;
@@ -27,10 +28,9 @@ pub(crate) fn put_num<K: Sink>(sink: &mut K, number: u32) -> Result<(), WriteFau
 pub(crate) fn put_ints<K: Sink>(sink: &mut K, numbers: &[i128]) -> Result<(), WriteFault>
     ensures { Wrote (numbers_text numbers.now) (K.seen sink.old) (K.seen sink.new) result }
 {
-    for number in numbers {
-        put_int(sink, number)?;
-    }
-    Ok(())
+    let mut piece = Piece::new();
+    gather_ints(sink, &mut piece, numbers)?;
+    put_all(sink, piece.as_slice())
 }
 
 /// Natural numbers, each after a space.
@@ -38,10 +38,9 @@ pub fn put_nums<K: Sink>(sink: &mut K, numbers: &[u32]) -> Result<(), WriteFault
     ensures { Wrote (numbers_text (map pos numbers.now))
         (K.seen sink.old) (K.seen sink.new) result }
 {
-    for number in numbers {
-        put_num(sink, *number)?;
-    }
-    Ok(())
+    let mut piece = Piece::new();
+    gather_nums(sink, &mut piece, numbers)?;
+    put_all(sink, piece.as_slice())
 }
 
 // A natural number and then more of them, each after a space.
@@ -57,9 +56,10 @@ pub(crate) fn put_first<K: Sink>(sink: &mut K, first: u32, more: &[u32]) -> Resu
 pub fn put_free<K: Sink>(sink: &mut K, text: &[u8], numbers: &[i128]) -> Result<(), WriteFault>
     ensures { Wrote (line text.now numbers.now) (K.seen sink.old) (K.seen sink.new) result }
 {
-    put_all(sink, text)?;
-    put_ints(sink, numbers)?;
-    put_all(sink, b"\n")
+    let mut piece = Piece::new();
+    begin(sink, &mut piece, text)?;
+    gather_ints(sink, &mut piece, numbers)?;
+    end_line(sink, &mut piece)
 }
 
 // The line of a record with this number.
@@ -76,9 +76,10 @@ pub fn put_small<K: Sink>(sink: &mut K, text: &[u8], numbers: &[u32]) -> Result<
     ensures { Wrote (line text.now (map pos numbers.now))
         (K.seen sink.old) (K.seen sink.new) result }
 {
-    put_all(sink, text)?;
-    put_nums(sink, numbers)?;
-    put_all(sink, b"\n")
+    let mut piece = Piece::new();
+    begin(sink, &mut piece, text)?;
+    gather_nums(sink, &mut piece, numbers)?;
+    end_line(sink, &mut piece)
 }
 
 // A line of this word for each row.

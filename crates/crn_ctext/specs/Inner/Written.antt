@@ -2,9 +2,10 @@
 -- How a document is written piece by piece.
 -- Source: this project's own. Shapes: questions are numbered from 1. `leaf` has for each cut leaf
 -- that is still to be written the number of its list, or 0; beyond its end each is 0.
-use Rattle.std.specs.Prelude.{ℕ, ℤ, ◌-◌, ◌^◌, Some, None, Bool, true, false, if◌then◌else◌, List, [], ◌∷◌, ◌++◌, length, map, take, drop, codes, slice_index_or}
+use Rattle.std.specs.Prelude.{◌≡◌, ℕ, ℤ, ◌-◌, ◌^◌, Some, None, Bool, true, false, if◌then◌else◌, List, [], ◌∷◌, ◌++◌, length, map, take, drop, codes, slice_index_or, Result, OnOk, OnErr}
 use Rattle.std.specs.List.{flat_map}
 use Rattle.crn_io.specs.Device.{SinkSeen}
+use Rattle.crn_io.specs.Write.{WroteAll, WrotePrefix}
 use Rattle.crn_vec.specs.Network.{Net}
 use Rattle.crn_cert.specs.Questions.{Question, Q1, questions}
 use Rattle.crn_cert.specs.declared.answer.Verdict.TheVariants.{Strong}
@@ -120,3 +121,14 @@ counter_seen count faults = record {
   room = Some (2 ^ 64 - 1 - count);
   faults = faults;
 }
+
+-- of this text all was written but for what is held
+pub record Gathered (text held : List ℕ) (old new : SinkSeen) : Type 0 where
+  pub written : List ℕ
+  pub parts : text ≡ written ++ held
+  pub wrote : WroteAll written old new
+
+-- what a call that gathers a text did, by its answer
+pub record Gathers {T E : Type 0} (text held : List ℕ) (old new : SinkSeen) (result : Result T E) : Type 0 where
+  pub all : OnOk result (Gathered text held old new)
+  pub prefix : OnErr result (WrotePrefix text old new)

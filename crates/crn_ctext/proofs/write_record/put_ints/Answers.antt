@@ -1,15 +1,15 @@
-use Rattle.crn_ctext.proofs.Prelude.{arith, take_all, err_from_is_err_and, WroteAll-step, WrotePrefix-step, Wrote-all, Wrote-prefix, flat_map_step, flat_map_whole, number_text}
-use Rattle.std.proofs.Common.{pos}
+use Rattle.crn_ctext.proofs.Prelude.{err_from_is_err_and, sym, ◌∙◌, Wrote-prefix}
+use Rattle.std.proofs.Common.{append-nil}
+use Rattle.crn_ctext.proofs.Pieces.{Gathered-ends}
 use Rattle.crn_ctext.proofs.write_record.put_ints.Goals as goal
 
-pub loop-number-preserved : goal.loop-number-preserved
-loop-number-preserved g c =
-    WroteAll-step (flat_map_step number_text c.args.numbers.now c.loop-number.number-index (pos 0) (omega arith)) c.loop-number.invariant c.in_ok-put_int.ensures.all
-
-pub returns-in_err-put_int : goal.returns-in_err-put_int
-returns-in_err-put_int g c =
+pub returns-in_err-gather_ints : goal.returns-in_err-gather_ints
+returns-in_err-gather_ints g c =
     let p = err_from_is_err_and c.from_residual.result c.from_residual.ensures.1 in
-    Wrote-prefix p.1 (WrotePrefix-step _ (flat_map_whole number_text c.args.numbers.now c.loop-number.number-index (pos 0) (omega arith)) c.loop-number.invariant c.in_err-put_int.ensures.prefix)
+    let gathers = rw c.new-piece.ensures at c.in_err-gather_ints.ensures.gathers in
+    Wrote-prefix p.1 gathers.prefix
 
 pub returns : goal.returns
-returns g c = Wrote-all (rw (take_all c.loop-number.number-index c.args.numbers.now (omega arith)) at c.loop-number.invariant)
+returns g c =
+    let gathers = rw c.new-piece.ensures at c.in_ok-gather_ints.ensures.gathers in
+    Gathered-ends _ (sym (append-nil _)) (c.as_slice.ensures.value ∙ sym (append-nil _)) gathers.all c.put_all.ensures.writes

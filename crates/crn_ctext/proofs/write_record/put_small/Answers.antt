@@ -1,15 +1,16 @@
-use Rattle.crn_ctext.proofs.Prelude.{err_from_is_err_and, WroteAll-then, WrotePrefix-then, WrotePrefix-more, Wrote-prefix, Wrote-then}
+use Rattle.crn_ctext.proofs.Prelude.{err_from_is_err_and, refl, Wrote-prefix, WrotePrefix-more}
+use Rattle.crn_ctext.proofs.Pieces.{Gathered-add, Gathered-then, Gathered-stops, Gathered-ends}
 use Rattle.crn_ctext.proofs.write_record.put_small.Goals as goal
 
-pub returns-in_err-put_all : goal.returns-in_err-put_all
-returns-in_err-put_all g c =
+pub returns-in_err-begin : goal.returns-in_err-begin
+returns-in_err-begin g c =
     let p = err_from_is_err_and c.from_residual.result c.from_residual.ensures.1 in
-    Wrote-prefix p.1 (WrotePrefix-more _ (WrotePrefix-more _ c.in_err-put_all.ensures.writes.prefix))
+    Wrote-prefix p.1 (WrotePrefix-more _ (WrotePrefix-more _ c.in_err-begin.ensures.gathers.prefix))
 
-pub returns-in_err-put_nums : goal.returns-in_err-put_nums
-returns-in_err-put_nums g c =
-    let p = err_from_is_err_and c.from_residual-in_err-put_nums.result c.from_residual-in_err-put_nums.ensures.1 in
-    Wrote-prefix p.1 (WrotePrefix-more _ (WrotePrefix-then c.in_ok-put_all.ensures.writes.all c.in_err-put_nums.ensures.prefix))
+pub returns-in_err-gather_nums : goal.returns-in_err-gather_nums
+returns-in_err-gather_nums g c =
+    let p = err_from_is_err_and c.from_residual-in_err-gather_nums.result c.from_residual-in_err-gather_nums.ensures.1 in
+    Wrote-prefix p.1 (Gathered-stops _ (Gathered-add _ refl refl c.in_ok-begin.ensures.gathers.all) c.in_err-gather_nums.ensures.gathers.prefix)
 
 pub returns : goal.returns
-returns g c = Wrote-then (WroteAll-then c.in_ok-put_all.ensures.writes.all c.in_ok-put_nums.ensures.all) c.put_all-2.ensures.writes
+returns g c = Gathered-ends _ refl refl (Gathered-then (Gathered-add _ refl refl c.in_ok-begin.ensures.gathers.all) c.in_ok-gather_nums.ensures.gathers.all) c.end_line.ensures

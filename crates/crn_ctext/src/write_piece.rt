@@ -1,0 +1,141 @@
+ghost use Rattle.std.specs.Prelude.{◌≡◌, ◌<◌, ◌≤◌, ◌+◌, ◌++◌, ◌∷◌, [], pos, map, length, decimal, unsigned_abs, codes, OnOk};
+ghost use Rattle.arrayvec.specs.ArrayVec.{array_vec_len};
+ghost use Rattle.crn_io.specs.Write.{Wrote};
+ghost use Rattle.crn_ctext.specs.Records.{number_text, numbers_text};
+ghost use Rattle.crn_ctext.specs.Inner.Written.{Gathers};
+
+use arrayvec::ArrayVec;
+use crn_io::{Sink, WriteFault, put_all};
+use itoa::Buffer;
+
+// Bytes of a record that are still to be written: each piece is handed over in one push.
+pub(crate) type Piece = ArrayVec<u8, 256>;
+
+// The most bytes of a number after a space, and of the end of a line.
+const LONGEST: usize = 43;
+
+// Adds bytes for which there is room.
+fn add_bytes(piece: &mut Piece, bytes: &[u8])
+    requires { array_vec_len piece.old + length bytes.now ≤ 256 }
+    ensures text { piece.new.items ≡ piece.old.items ++ bytes.now }
+    ensures len { array_vec_len piece.new ≡ array_vec_len piece.old + length bytes.now }
+{
+    match piece.try_extend_from_slice(bytes) {
+        Ok(()) => {}
+        Err(_) => unreachable!(),
+    }
+}
+
+// Adds the digits of a natural number. Most numbers have one.
+fn add_digits(piece: &mut Piece, number: u128)
+    requires { array_vec_len piece.old + 40 ≤ 256 }
+    ensures text { piece.new.items ≡ piece.old.items ++ decimal number }
+    ensures len { array_vec_len piece.new ≤ array_vec_len piece.old + 40 }
+{
+    if number < 10 {
+        return piece.push(b'0' + number as u8);
+    }
+    let mut buffer = Buffer::new();
+    add_bytes(piece, buffer.format(number).as_bytes())
+}
+
+// A space, and the sign of a negative number.
+fn sign(number: &i128) -> &'static [u8]
+    ensures text { number_text number.now ≡ result.now ++ decimal (unsigned_abs number.now) }
+    ensures short { length result.now ≤ 2 }
+{
+    if *number < 0 { b" -" } else { b" " }
+}
+
+// Adds a number after a space.
+fn add_int(piece: &mut Piece, number: &i128)
+    requires { array_vec_len piece.old + 43 ≤ 256 }
+    ensures text { piece.new.items ≡ piece.old.items ++ number_text number.now }
+    ensures room { array_vec_len piece.new < 256 }
+{
+    add_bytes(piece, sign(number));
+    add_digits(piece, number.unsigned_abs());
+}
+
+// Adds a natural number after a space.
+fn add_num(piece: &mut Piece, number: u32)
+    requires { array_vec_len piece.old + 43 ≤ 256 }
+    ensures text { piece.new.items ≡ piece.old.items ++ number_text (pos number) }
+    ensures room { array_vec_len piece.new < 256 }
+{
+    piece.push(b' ');
+    add_digits(piece, u128::from(number));
+}
+
+// Writes a piece that may have no room for a number.
+fn make_room<K: Sink>(sink: &mut K, piece: &mut Piece) -> Result<(), WriteFault>
+    ensures room { OnOk result (array_vec_len piece.new + 43 ≤ 256) }
+    ensures gathers { Gathers piece.old.items piece.new.items
+        (K.seen sink.old) (K.seen sink.new) result }
+{
+    if piece.remaining_capacity() >= LONGEST {
+        return Ok(());
+    }
+    put_all(sink, piece.as_slice())?;
+    piece.clear();
+    Ok(())
+}
+
+// Adds numbers, each after a space.
+pub(crate) fn gather_ints<K: Sink>(
+    sink: &mut K,
+    piece: &mut Piece,
+    numbers: &[i128],
+) -> Result<(), WriteFault>
+    requires { array_vec_len piece.old < 256 }
+    ensures room { OnOk result (array_vec_len piece.new < 256) }
+    ensures gathers { Gathers (piece.old.items ++ numbers_text numbers.now) piece.new.items
+        (K.seen sink.old) (K.seen sink.new) result }
+{
+    for number in numbers {
+        make_room(sink, piece)?;
+        add_int(piece, number);
+    }
+    Ok(())
+}
+
+// Adds natural numbers, each after a space.
+pub(crate) fn gather_nums<K: Sink>(
+    sink: &mut K,
+    piece: &mut Piece,
+    numbers: &[u32],
+) -> Result<(), WriteFault>
+    requires { array_vec_len piece.old < 256 }
+    ensures room { OnOk result (array_vec_len piece.new < 256) }
+    ensures gathers { Gathers (piece.old.items ++ numbers_text (map pos numbers.now))
+        piece.new.items (K.seen sink.old) (K.seen sink.new) result }
+{
+    for number in numbers {
+        make_room(sink, piece)?;
+        add_num(piece, *number);
+    }
+    Ok(())
+}
+
+// Begins with this text, which is written at once if it is long.
+pub(crate) fn begin<K: Sink>(sink: &mut K, piece: &mut Piece, text: &[u8]) -> Result<(), WriteFault>
+    requires { piece.old.items ≡ [] }
+    ensures room { OnOk result (array_vec_len piece.new < 256) }
+    ensures gathers { Gathers text.now piece.new.items (K.seen sink.old) (K.seen sink.new) result }
+{
+    if text.len() < 256 {
+        add_bytes(piece, text);
+        return Ok(());
+    }
+    put_all(sink, text)?;
+    Ok(())
+}
+
+// Ends the line and writes what is held of it.
+pub(crate) fn end_line<K: Sink>(sink: &mut K, piece: &mut Piece) -> Result<(), WriteFault>
+    requires { array_vec_len piece.old < 256 }
+    ensures { Wrote (piece.old.items ++ codes "\n") (K.seen sink.old) (K.seen sink.new) result }
+{
+    piece.push(b'\n');
+    put_all(sink, piece.as_slice())
+}
