@@ -1,15 +1,15 @@
 -- What callers need beside the contracts: verdicts that are true or open, answers that rest on the rank, and right classes.
-use Rattle.crn_defi.proofs.Prelude.{◌≡◌, ℕ, [], length, refl, arith, Net, IsNetwork, AreRightLabels, Rests, Verdict, Strong, Unknown, Nothing, StrongTrees, Answer, Earlier, Question, Q2, Q5, Q6, Q9, on, IsOpen, IsFrom, AreFrom, AreLinkageClasses, AreStrongClasses, AreNumbered, AreFromTrees, AreToTrees, DoLevelsFall, AreAllExits, zeros_in, IsFormed, IsForest, IsValid, IsTrueOrLicensed, IsTrueOrOpen, valid_answers_are_true, LinkageData, StrongData, IsAnswer}
+use Rattle.crn_defi.proofs.Prelude.{◌≡◌, ℕ, [], length, refl, arith, Net, IsNetwork, AreRightLabels, Rests, Verdict, Strong, Unknown, StrongTrees, Answer, Earlier, Question, Q2, Q5, Q6, Q9, on, IsOpen, IsFrom, AreFrom, AreLinkageClasses, AreStrongClasses, AreNumbered, AreFromTrees, AreToTrees, DoLevelsFall, AreAllExits, zeros_in, IsFormed, IsForest, IsValid, IsTrueOrLicensed, IsTrueOrOpen, valid_answers_are_true, LinkageData, StrongData, IsAnswer, plain}
 
 pub true_or_open : (net : Net) (budget : ℕ) (earlier : Earlier) (q : Question) (v : Verdict) → IsTrueOrLicensed net budget earlier q v → IsTrueOrOpen net q v
 true_or_open net budget earlier q (Unknown gap) h = tt
 true_or_open net budget earlier q v h = h
 
 -- the answer to a question that rests on the rank, if the rank is open
-pub deficiencies_rest : (net : Net) (budget : ℕ) (earlier : Earlier) → IsOpen (on earlier Q5) → IsAnswer net budget earlier Q6 (record { verdict = Unknown (Rests 5); proof = Nothing })
+pub deficiencies_rest : (net : Net) (budget : ℕ) (earlier : Earlier) → IsOpen (on earlier Q5) → IsAnswer net budget earlier Q6 (plain (Unknown (Rests 5)))
 deficiencies_rest net budget earlier h = record { formed = (record { head = ((omega arith, omega arith), tt); rows = tt; trees = tt }, (refl, refl)); valid = tt; answered = (refl, h, tt) }
 
-pub zero_rests : (net : Net) (budget : ℕ) (earlier : Earlier) → IsOpen (on earlier Q5) → IsAnswer net budget earlier Q9 (record { verdict = Unknown (Rests 5); proof = Nothing })
+pub zero_rests : (net : Net) (budget : ℕ) (earlier : Earlier) → IsOpen (on earlier Q5) → IsAnswer net budget earlier Q9 (plain (Unknown (Rests 5)))
 zero_rests net budget earlier h = record { formed = (record { head = ((omega arith, omega arith), tt); rows = tt; trees = tt }, (refl, refl)); valid = tt; answered = (refl, h, tt) }
 
 -- right labels that are numbered, with their count

@@ -1,5 +1,5 @@
 -- The answer on deficiencies that ranks of the linkage classes or a stop give.
-use Rattle.crn_defi.proofs.Prelude.{◌≡◌, ℕ, ◌+◌, ◌<◌, ◌≤◌, List, length, get_or, refl, sym, subst, ◌∙◌, arith, Option, Some, IsSome, length-map, KeptNums, Net, IsNetwork, reaction_vector, NamesWide, IsLabelCount, IsRank, vectors, class_reactions, AreDeficiencies, IsClassDeficiency, class_system, RankProof, Answer, Wide, Deficiency, Unknown, Nothing, Ranks, Earlier, Q5, Q6, on, rank_of, IsFrom, AreLinkageClasses, IsBasisOf, IsFormed, IsWideGap, linkage, linkage_count, IsValid, IsLeft, IsClassWide, IsAnswer, GiveRank, wide_basis, classes_are_formed, reactions_of, IsClass, AreClassRanks}
+use Rattle.crn_defi.proofs.Prelude.{◌≡◌, ℕ, ◌+◌, ◌<◌, ◌≤◌, List, length, get_or, refl, sym, subst, ◌∙◌, arith, Option, Some, IsSome, length-map, KeptNums, Net, IsNetwork, reaction_vector, NamesWide, IsLabelCount, IsRank, vectors, class_reactions, AreDeficiencies, IsClassDeficiency, class_system, RankProof, Answer, Wide, Deficiency, Unknown, Ranks, Earlier, Q5, Q6, on, rank_of, IsFrom, AreLinkageClasses, IsBasisOf, IsFormed, IsWideGap, linkage, linkage_count, IsValid, IsLeft, IsClassWide, IsAnswer, GiveRank, wide_basis, classes_are_formed, reactions_of, IsClass, AreClassRanks, plain}
 use Rattle.crn_defi.proofs.Places.{reactions_count}
 use Rattle.crn_defi.proofs.Counted.{number_of_classes}
 use Rattle.crn_defi.proofs.ClassRanks.{class_proofs, class_numbers, class_tests, class_each, class_bounds}
@@ -49,7 +49,7 @@ deficiencies_given net budget earlier count total rank labels ds proofs n g r h 
 -- ---- open
 
 wide_by : (net : Net) (budget : ℕ) (earlier : Earlier) (rank class index : ℕ) (basis : KeptNums) → rank_of (on earlier Q5) ≡ Some rank → AreLinkageClasses net (linkage_count earlier) (linkage earlier) → IsFrom 1 (linkage_count earlier) class
-    → NamesWide (class_system net (linkage earlier) class) index basis.list → IsAnswer net budget earlier Q6 (record { verdict = Unknown (Wide 3 class index basis); proof = Nothing })
+    → NamesWide (class_system net (linkage earlier) class) index basis.list → IsAnswer net budget earlier Q6 (plain (Unknown (Wide 3 class index basis)))
 wide_by net budget earlier rank class index basis known h from wide =
     let labels = linkage earlier in
     let a = class_system net labels class in
@@ -60,7 +60,7 @@ wide_by net budget earlier rank class index basis known h from wide =
     record { formed = (record { head = gap; rows = tt; trees = tt }, (refl, refl)); valid = tt; answered = (gap, (rank_known earlier rank known, of_class)) }
 
 pub deficiencies_wide : (net : Net) (budget : ℕ) (earlier : Earlier) (count rank class index : ℕ) (labels : List ℕ) (basis : KeptNums) → GiveRank earlier labels count rank → AreLinkageClasses net count labels → IsFrom 1 count class
-    → NamesWide (class_system net labels class) index basis.list → IsAnswer net budget earlier Q6 (record { verdict = Unknown (Wide 3 class index basis); proof = Nothing })
+    → NamesWide (class_system net labels class) index basis.list → IsAnswer net budget earlier Q6 (plain (Unknown (Wide 3 class index basis)))
 deficiencies_wide net budget earlier count rank class index labels basis g h from wide =
     let e = sym g.count_is in
     let f = sym g.labels_are in

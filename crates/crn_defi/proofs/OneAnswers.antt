@@ -1,5 +1,5 @@
 -- The answer on the Deficiency One Theorem that terminal strong classes and deficiencies give.
-use Rattle.crn_defi.proofs.Prelude.{◌≡◌, ◌≢◌, ℕ, zero, suc, ◌+◌, ◌-◌, ◌<◌, ◌≤◌, List, [], ◌∷◌, length, get_or, refl, sym, ap, subst, ◌∙◌, arith, sum, range_with_len, count_by-le-length, sum_by-cons, length-range_with_len, KeptNums, Net, IsLabelCount, AreDeficiencies, AreAtMostOne, one_labels, one_count, Verdict, Classes, Strong, Deficiency, Yes, NoTerminal, NoClass, NoSum, Unknown, Rests, Nothing, Answer, tight, Earlier, Q1, Q2, Q6, Q10, on, count_of, deficiencies_of, IsOpen, IsFormed, linkage, exits, terminals_in, HaveOneBefore, HaveOneEach, IsFirstLarge, WithDeficiencies, IsValid, IsTrueOrLicensed, DoLevelsFall, IsTrueOrOpen, valid_answers_are_true, IsAnswer, GiveClasses, is_terminal_in, terminals_of, HaveOneUpTo, IsFirstWithMore, IsVerdictOn, IsFewOrOpen, IsVerdictAfter, labels_few}
+use Rattle.crn_defi.proofs.Prelude.{◌≡◌, ◌≢◌, ℕ, zero, suc, ◌+◌, ◌-◌, ◌<◌, ◌≤◌, List, [], ◌∷◌, length, get_or, refl, sym, ap, subst, ◌∙◌, arith, sum, range_with_len, count_by-le-length, sum_by-cons, length-range_with_len, KeptNums, Net, IsLabelCount, AreDeficiencies, AreAtMostOne, one_labels, one_count, Verdict, Classes, Strong, Deficiency, Yes, NoTerminal, NoClass, NoSum, Unknown, Rests, Answer, tight, Earlier, Q1, Q2, Q6, Q10, on, count_of, deficiencies_of, IsOpen, IsFormed, linkage, exits, terminals_in, HaveOneBefore, HaveOneEach, IsFirstLarge, WithDeficiencies, IsValid, IsTrueOrLicensed, DoLevelsFall, IsTrueOrOpen, valid_answers_are_true, IsAnswer, GiveClasses, is_terminal_in, terminals_of, HaveOneUpTo, IsFirstWithMore, IsVerdictOn, IsFewOrOpen, IsVerdictAfter, labels_few, plain}
 use Rattle.crn_defi.proofs.ClassRanks.{class_short}
 use Rattle.crn_defi.proofs.TerminalCounts.{Known, terminals_some, one_terminal_each}
 
@@ -41,11 +41,8 @@ two_or zero h ne = absurd (omega (arith, h))
 two_or (suc zero) h ne = absurd (ne refl)
 two_or (suc (suc n)) h ne = omega arith
 
-abbrev split_answer : ℕ → ℕ → Answer
-split_answer k n = record { verdict = NoTerminal k n; proof = Nothing }
-
 split_ready : (net : Net) (earlier : Earlier) (count : ℕ) (links : List ℕ) (strong_count terminal : ℕ) (labels exit_list levels : List ℕ) (k n : ℕ) → Known net count links strong_count terminal labels exit_list → DoLevelsFall net labels levels
-    → GiveClasses earlier links count labels exit_list → IsFirstWithMore labels exit_list links (length exit_list) count k n → IsFormed net earlier Q10 (split_answer k n) × IsValid net earlier Q10 (split_answer k n)
+    → GiveClasses earlier links count labels exit_list → IsFirstWithMore labels exit_list links (length exit_list) count k n → IsFormed net earlier Q10 (plain (NoTerminal k n)) × IsValid net earlier Q10 (plain (NoTerminal k n))
 split_ready net earlier count links strong_count terminal labels exit_list levels k n known falls g h =
     let s = known.strong_is in
     let some : 1 ≤ n = omega (arith, terminals_some net count links strong_count terminal labels exit_list levels known falls k h.from.0 h.from.1, h.is) in
@@ -59,12 +56,12 @@ split_ready net earlier count links strong_count terminal labels exit_list level
     )
 
 pub split_given : (net : Net) (budget : ℕ) (earlier : Earlier) (count : ℕ) (links : List ℕ) (strong_count terminal : ℕ) (labels exit_list levels : List ℕ) (q6 : Verdict) (k n : ℕ) → Known net count links strong_count terminal labels exit_list
-    → DoLevelsFall net labels levels → IsTrueOrOpen net Q6 q6 → GiveClasses earlier links count labels exit_list → IsFirstWithMore labels exit_list links (length exit_list) count k n → IsAnswer net budget earlier Q10 (split_answer k n)
+    → DoLevelsFall net labels levels → IsTrueOrOpen net Q6 q6 → GiveClasses earlier links count labels exit_list → IsFirstWithMore labels exit_list links (length exit_list) count k n → IsAnswer net budget earlier Q10 (plain (NoTerminal k n))
 split_given net budget earlier count links strong_count terminal labels exit_list levels q6 k n known falls six g h =
     let ready = split_ready net earlier count links strong_count terminal labels exit_list levels k n known falls g h in
     let own = earlier_of count links strong_count terminal labels exit_list q6 in
     let again = split_ready net own count links strong_count terminal labels exit_list levels k n known falls (earlier_gives net count links strong_count terminal labels exit_list q6 known) h in
-    record { formed = ready.0; valid = ready.1; answered = earlier_true net count links strong_count terminal labels exit_list q6 (split_answer k n) known six again.0 again.1 }
+    record { formed = ready.0; valid = ready.1; answered = earlier_true net count links strong_count terminal labels exit_list q6 (plain (NoTerminal k n)) known six again.0 again.1 }
 
 -- ---- deficiencies
 
@@ -83,9 +80,6 @@ deficiency_few net total ds i h lt =
 sum_few : (ds : List ℕ) → AreAtMostOne ds → sum ds ≤ length ds
 sum_few [] h = omega arith
 sum_few (d ∷ ds) h = omega (arith, sum_by-cons (λ (x : ℕ). x) d ds, h.0, sum_few ds h.1)
-
-abbrev plain : Verdict → Answer
-plain v = record { verdict = v; proof = Nothing }
 
 with_known : (earlier : Earlier) (total : ℕ) (ds : KeptNums) (Has : ℕ → List ℕ → Type 0) → on earlier Q6 ≡ tight (Deficiency total ds) → Has total ds.list → WithDeficiencies Has (deficiencies_of (on earlier Q6))
 with_known earlier total ds Has e h = subst (λ (v : Verdict). WithDeficiencies Has (deficiencies_of v)) (sym e) h

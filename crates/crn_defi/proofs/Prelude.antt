@@ -1,6 +1,7 @@
 -- What this crate's proofs use of other crates and of its specs.
 pub use Rattle.crn_cert.proofs.CallerLemmas.{all_vectors, class_vectors_are, classes_are_formed, fails_by_complexes, fails_by_exit, hold_append, passes_at, terminals_few, terminals_no, terminals_yes, valid_answers_are_true, wide_basis}
 pub use Rattle.crn_cert.specs.Answered.{IsAnswer}
+pub use Rattle.crn_cert.specs.Answers.{plain}
 pub use Rattle.crn_cert.specs.ClassTests.{AreAllExits, AreFromTrees, AreNumbered, AreToTrees, DoLevelsFall, of_class, zeros_in}
 pub use Rattle.crn_cert.specs.Data.{IsBasisOf}
 pub use Rattle.crn_cert.specs.Formed.{IsFormed, IsFormedOf, IsWideGap}

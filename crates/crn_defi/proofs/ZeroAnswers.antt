@@ -1,5 +1,5 @@
 -- The answer on the Deficiency Zero Theorem that the deficiency gives.
-use Rattle.crn_defi.proofs.Prelude.{◌≡◌, ◌≢◌, ℕ, zero, suc, ◌+◌, ◌≤◌, Bool, true, false, length, refl, sym, subst, arith, ◌↔◌, IsTrue, Net, IsWeaklyReversible, IsRank, vectors, IsDeficiency, YesWeak, NoNumber, Nothing, Earlier, Q4, Q5, Q9, on, rank_of, IsYes, AreLinkageClasses, IsLeft, IsAnswer, IsFormedOf, GiveRank}
+use Rattle.crn_defi.proofs.Prelude.{◌≡◌, ◌≢◌, ℕ, zero, suc, ◌+◌, ◌≤◌, Bool, true, false, length, refl, sym, subst, arith, ◌↔◌, IsTrue, Net, IsWeaklyReversible, IsRank, vectors, IsDeficiency, YesWeak, NoNumber, Nothing, Earlier, Q4, Q5, Q9, on, rank_of, IsYes, AreLinkageClasses, IsLeft, IsAnswer, IsFormedOf, GiveRank, plain}
 use Rattle.std.specs.Prelude.{List}
 use Rattle.crn_defi.proofs.Counted.{number_of_classes}
 use Rattle.crn_defi.proofs.DeficiencyAnswers.{left_is, rank_known}
@@ -16,7 +16,7 @@ weak_formed net earlier true = (record { head = ((omega arith, omega arith), tt)
 weak_formed net earlier false = (record { head = ((omega arith, omega arith), tt); rows = tt; trees = tt }, (refl, refl))
 
 pub zero_holds : (net : Net) (budget : ℕ) (earlier : Earlier) (count total rank : ℕ) (labels : List ℕ) (weak : Bool) → GiveRank earlier labels count rank → IsRank (vectors net) rank → AreLinkageClasses net count labels
-    → (IsTrue weak ↔ IsWeaklyReversible net.reactions) → (IsTrue weak ↔ IsYes (on earlier Q4)) → total + count + rank ≡ length net.complexes → total ≡ 0 → IsAnswer net budget earlier Q9 (record { verdict = YesWeak weak; proof = Nothing })
+    → (IsTrue weak ↔ IsWeaklyReversible net.reactions) → (IsTrue weak ↔ IsYes (on earlier Q4)) → total + count + rank ≡ length net.complexes → total ≡ 0 → IsAnswer net budget earlier Q9 (plain (YesWeak weak))
 zero_holds net budget earlier count total rank labels weak g r h is known left none =
     let whole : 0 + count + rank ≡ length net.complexes = omega (arith, left, none) in
     record {
@@ -26,7 +26,7 @@ zero_holds net budget earlier count total rank labels weak g r h is known left n
     }
 
 pub zero_fails : (net : Net) (budget : ℕ) (earlier : Earlier) (count total rank : ℕ) (labels : List ℕ) → GiveRank earlier labels count rank → IsRank (vectors net) rank → AreLinkageClasses net count labels
-    → total + count + rank ≡ length net.complexes → total ≢ 0 → IsAnswer net budget earlier Q9 (record { verdict = NoNumber total; proof = Nothing })
+    → total + count + rank ≡ length net.complexes → total ≢ 0 → IsAnswer net budget earlier Q9 (plain (NoNumber total))
 zero_fails net budget earlier count total rank labels g r h left some =
     let from : 1 ≤ total = positive total some in
     let most : total ≤ length net.complexes = omega (arith, left) in

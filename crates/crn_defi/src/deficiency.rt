@@ -5,7 +5,7 @@ ghost use Rattle.crn_cert.specs.Questions.{Earlier, Q6};
 ghost use Rattle.crn_cert.specs.Says.{AreLinkageClasses};
 ghost use Rattle.crn_cert.specs.Answered.{IsAnswer};
 ghost use Rattle.crn_cert.specs.Given.{GiveRank};
-ghost use Rattle.crn_defi.specs.Inner.ClassRanks.{AreClassRanks, IsStop, wide_answer};
+ghost use Rattle.crn_defi.specs.Inner.ClassRanks.{AreClassRanks, IsStop};
 
 use crate::class_rank::{ClassStop, class_rank};
 use crn_cert::{Answer, Gap, Proof, RankList, Verdict};
@@ -53,21 +53,6 @@ pub(crate) fn deficiency(net: &Network, linkage: &LinkageData, rank: u32) -> u32
     net.complexes() as u32 - linkage.count - rank
 }
 
-// The open answer that names a wide vector of the system of a linkage class.
-fn wide_answer(class: u32, index: u32, basis: Nums) -> Answer
-    ensures { result ≡ wide_answer class index basis }
-{
-    Answer {
-        verdict: Verdict::Unknown(Gap::Wide {
-            system: 3,
-            class,
-            index,
-            basis,
-        }),
-        proof: Proof::Nothing,
-    }
-}
-
 /// Question 6: the deficiency of the network and those of its linkage classes, with the proof of the rank of each class.
 ///
 /// It is open only if the system of a linkage class has a wide vector, which the answer names with its class.
@@ -99,7 +84,12 @@ pub fn deficiencies(
                 index,
                 basis,
             },
-        ) => Ok(wide_answer(class, index, basis)),
+        ) => Ok(Answer::plain(Verdict::Unknown(Gap::Wide {
+            system: 3,
+            class,
+            index,
+            basis,
+        }))),
         Err(ClassStop::NoMemory) => Err(NoMemory),
     }
 }

@@ -11,7 +11,7 @@ ghost use Rattle.crn_cert.specs.Given.{GiveClasses};
 ghost use Rattle.crn_defi.specs.Inner.Terminals.{IsFewOrOpen, IsLarge, IsVerdictAfter, IsVerdictOn};
 
 use crate::terminals::first_with_more;
-use crn_cert::{Answer, Gap, Proof, Verdict};
+use crn_cert::{Answer, Gap, Verdict};
 use crn_graph::{LinkageData, StrongData};
 use crn_net::Network;
 
@@ -101,8 +101,5 @@ pub fn one_hypotheses(
         Some((class, count)) => Verdict::NoTerminal { class, count },
         None => after_terminals(q6),
     };
-    Answer {
-        verdict,
-        proof: Proof::Nothing,
-    }
+    Answer::plain(verdict)
 }

@@ -8,7 +8,7 @@ ghost use Rattle.crn_cert.specs.Answered.{IsAnswer};
 ghost use Rattle.crn_cert.specs.Given.{GiveRank};
 
 use crate::deficiency::deficiency;
-use crn_cert::{Answer, Proof, Verdict};
+use crn_cert::{Answer, Verdict};
 use crn_graph::LinkageData;
 use crn_net::Network;
 
@@ -30,8 +30,5 @@ pub fn zero_hypotheses(net: &Network, linkage: &LinkageData, weak: bool, rank: u
     } else {
         Verdict::NoNumber { number }
     };
-    Answer {
-        verdict,
-        proof: Proof::Nothing,
-    }
+    Answer::plain(verdict)
 }

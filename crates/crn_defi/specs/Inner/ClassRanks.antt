@@ -7,11 +7,6 @@ use Rattle.crn_vec.specs.Network.{Net}
 use Rattle.crn_vec.specs.Elementary.{NamesWide}
 use Rattle.crn_vec.specs.Deficiency.{class_members}
 use Rattle.crn_vec.specs.NetSystems.{class_system}
-use Rattle.crn_vec.specs.Kept.{KeptNums}
-use Rattle.crn_cert.specs.declared.answer.Gap.TheVariants.{Wide as WideGap}
-use Rattle.crn_cert.specs.declared.answer.Verdict.TheVariants.{Unknown}
-use Rattle.crn_cert.specs.declared.answer.Proof.TheVariants.{Nothing}
-use Rattle.crn_cert.specs.declared.answer.Answer.{Answer}
 use Rattle.crn_cert.specs.declared.answer.RankProof.{RankProof}
 use Rattle.crn_cert.specs.Ranges.{IsFrom}
 use Rattle.crn_rank.specs.Rank.{ProvesRank}
@@ -51,10 +46,3 @@ abbrev pub IsStop : Net → List ℕ → ℕ → ClassStop → Type 0
 IsStop net labels count (Wide class index basis) = IsFrom 1 count class
     × NamesWide (class_system net labels class) index basis.list
 IsStop net labels count NoMemory = Unit {0}
-
--- open by a wide vector of the system of class k
-abbrev pub wide_answer : ℕ → ℕ → KeptNums → Answer
-wide_answer k index basis = record {
-  verdict = Unknown (WideGap 3 k index basis);
-  proof = Nothing;
-}

@@ -16,4 +16,4 @@ returns-in-Err-Wide c budget earlier g =
     let l = c.args.linkage.now in
     let w = c.in-Err-Wide in
     let named : IsStop net l.label.list l.count (Wide w.class w.index w.basis) = subst (IsStop net l.label.list l.count) w.field-0-is w.ensures.stop in
-    rw c.wide_answer.ensures (deficiencies_wide net budget earlier l.count c.args.rank w.class w.index l.label.list w.basis g c.requires.classes named.0 named.1)
+    rw c.plain.ensures (deficiencies_wide net budget earlier l.count c.args.rank w.class w.index l.label.list w.basis g c.requires.classes named.0 named.1)

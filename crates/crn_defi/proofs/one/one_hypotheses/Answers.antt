@@ -49,10 +49,10 @@ returns c budget earlier g e =
           let P : List ℕ → List ℕ → List ℕ → Type 0 = λ labels exits links. IsFirstWithMore labels exits links (length exits) l.count w.in-Some.class w.in-Some.count in
           let split : P s.label.list s.exit.list l.label.list =
           subst (λ (ks : List ℕ). P s.label.list s.exit.list ks) three (subst (λ (es : List ℕ). P s.label.list es L) two (subst (λ (ls : List ℕ). P ls E L) one w.in-Some.ensures)) in
-          rw w.verdict-is (split_given net budget earlier l.count l.label.list s.count s.terminal s.label.list s.exit.list s.level.list c.args.q6.now w.in-Some.class w.in-Some.count known c.requires.levels c.requires.q6 g split)
+          rw (c.plain.ensures, w.verdict-is) (split_given net budget earlier l.count l.label.list s.count s.terminal s.label.list s.exit.list s.level.list c.args.q6.now w.in-Some.class w.in-Some.count known c.requires.levels c.requires.q6 g split)
       | in-None w ↦
           let P : List ℕ → List ℕ → List ℕ → Type 0 = λ labels exits links. HaveOneUpTo labels exits links (length exits) l.count in
           let each : P s.label.list s.exit.list l.label.list =
           subst (λ (ks : List ℕ). P s.label.list s.exit.list ks) three (subst (λ (es : List ℕ). P s.label.list es L) two (subst (λ (ls : List ℕ). P ls E L) one w.in-None.ensures)) in
-          rw w.verdict-is (after_given net budget earlier l.count l.label.list s.count s.terminal s.label.list s.exit.list c.args.q6.now w.after_terminals-verdict.result known each c.requires.q6 g e w.after_terminals-verdict.ensures)
+          rw (c.plain.ensures, w.verdict-is) (after_given net budget earlier l.count l.label.list s.count s.terminal s.label.list s.exit.list c.args.q6.now w.after_terminals-verdict.result known each c.requires.q6 g e w.after_terminals-verdict.ensures)
     ]

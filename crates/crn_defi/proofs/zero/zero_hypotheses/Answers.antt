@@ -9,7 +9,7 @@ returns c budget earlier g known =
     let total = c.deficiency-number.result in
     elim c.if-number-eq0.branch [
       | then-number-eq0 w ↦
-          rw w.verdict-is (zero_holds net budget earlier l.count total c.args.rank l.label.list c.args.weak g c.requires.rank c.requires.classes c.requires.weak known c.deficiency-number.ensures w.if-number-eq0.true)
+          rw (c.plain.ensures, w.verdict-is) (zero_holds net budget earlier l.count total c.args.rank l.label.list c.args.weak g c.requires.rank c.requires.classes c.requires.weak known c.deficiency-number.ensures w.if-number-eq0.true)
       | else-number-eq0 w ↦
-          rw w.verdict-is (zero_fails net budget earlier l.count total c.args.rank l.label.list g c.requires.rank c.requires.classes c.deficiency-number.ensures w.if-number-eq0.false)
+          rw (c.plain.ensures, w.verdict-is) (zero_fails net budget earlier l.count total c.args.rank l.label.list g c.requires.rank c.requires.classes c.deficiency-number.ensures w.if-number-eq0.false)
     ]
