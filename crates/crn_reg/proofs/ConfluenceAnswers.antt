@@ -1,5 +1,5 @@
 -- The answer on confluence vectors that the solutions of the confluence system give.
-use Rattle.crn_reg.proofs.Prelude.{◌≡◌, ℕ, zero, suc, ◌+◌, ◌-◌, ◌<◌, ◌≤◌, ◌++◌, inl, inr, Bool, false, List, [], ◌∷◌, length, refl, sym, ap, subst, ◌∙◌, arith, ℤ, pos, negsuc, ◌*ℤ◌, ◌↔◌, IsTrue, unsigned_abs, AllZip, AllByRecursion, range_with_len, ints, length-append, length-range_with_len, KeptInts, KeptNums, Net, IsNetwork, entry, NamesWide, IsWeaklyReversible, confluence_system, IsRegular, IsNonzero, HasConfluenceLine, LeadsPositive, eq_or, in_at, all_from, zip_long, no_zero, range_more, YesVec, OnlyZero, Plane, Nothing, Ties, Earlier, Q4, Q11, Q12, on, IsYes, IsNarrow, AreFree, AreFreeRows, AreLinkageClasses, AreStrongClasses, AllHold, IsInSpace, DoTerminalsGather, least_from, others_than, tie_tests, IsBasisOf, linkage, linkage_count, strong, exits, IsAnswer, GiveClasses, wide_basis, vector_is_formed, zero_is_formed, AreSmall, IsSolution, IsFirstPlace, IsTieOf, AreTies, numbers_but, IsLine, ArePlane, IsOnlyZero, IsSameOrNegative, GathersFirst, wide_answer}
+use Rattle.crn_reg.proofs.Prelude.{◌≡◌, ℕ, zero, suc, ◌+◌, ◌-◌, ◌<◌, ◌≤◌, ◌++◌, inl, inr, Bool, false, List, [], ◌∷◌, length, refl, sym, ap, subst, ◌∙◌, arith, ℤ, pos, negsuc, ◌*ℤ◌, ◌↔◌, IsTrue, unsigned_abs, AllZip, AllByRecursion, range_with_len, ints, length-append, length-range_with_len, KeptInts, KeptNums, Net, IsNetwork, entry, NamesWide, IsWeaklyReversible, confluence_system, IsRegular, IsNonzero, HasConfluenceLine, LeadsPositive, eq_or, in_at, all_from, zip_long, no_zero, range_more, YesVec, OnlyZero, Plane, Ties, Earlier, Q4, Q11, Q12, on, IsYes, IsNarrow, AreFree, AreFreeRows, AreLinkageClasses, AreStrongClasses, AllHold, IsInSpace, DoTerminalsGather, least_from, others_than, tie_tests, IsBasisOf, linkage, linkage_count, strong, exits, IsAnswer, GiveClasses, wide_basis, vector_is_formed, zero_is_formed, AreSmall, IsSolution, IsFirstPlace, IsTieOf, AreTies, numbers_but, IsLine, ArePlane, IsOnlyZero, IsSameOrNegative, GathersFirst, plain, Wide, Unknown}
 use lib.IntN.{zero-*ℤ}
 use Rattle.crn_reg.proofs.Named.{but_yes, but_no}
 use Rattle.crn_reg.proofs.Solutions.{row_count, tests_by_solution, space_by_solution, solution_by_space, gathers, vector_by}
@@ -173,7 +173,7 @@ zero_answer net budget earlier links count strong_count terminal labels exit_lis
 
 pub plane_answer : (net : Net) (budget : ℕ) (earlier : Earlier) (links : List ℕ) (count strong_count terminal : ℕ) (labels exit_list : List ℕ) (weak : Bool) (first second : ℕ) (one two : KeptInts)
     → Known net links count strong_count terminal labels exit_list weak → Given earlier links count labels exit_list weak → ArePlane (confluence_system net links count) first second one.list two.list
-    → IsAnswer net budget earlier Q12 (record { verdict = Plane first second one two; proof = Nothing })
+    → IsAnswer net budget earlier Q12 (plain (Plane first second one two))
 plane_answer net budget earlier links count strong_count terminal labels exit_list weak first second one two k e plane =
     let n = length net.complexes in
     let g = one.list in
@@ -215,7 +215,7 @@ plane_answer net budget earlier links count strong_count terminal labels exit_li
 -- ---- a wide vector
 
 pub open_answer : (net : Net) (budget : ℕ) (earlier : Earlier) (links : List ℕ) (count strong_count terminal : ℕ) (labels exit_list : List ℕ) (weak : Bool) (index : ℕ) (basis : KeptNums)
-    → Known net links count strong_count terminal labels exit_list weak → Given earlier links count labels exit_list weak → NamesWide (confluence_system net links count) index basis.list → IsAnswer net budget earlier Q12 (wide_answer index basis)
+    → Known net links count strong_count terminal labels exit_list weak → Given earlier links count labels exit_list weak → NamesWide (confluence_system net links count) index basis.list → IsAnswer net budget earlier Q12 (plain (Unknown (Wide 4 0 index basis)))
 open_answer net budget earlier links count strong_count terminal labels exit_list weak index basis k e wide =
     let a = confluence_system net links count in
     let rows : length a.rows ≡ length net.names + linkage_count earlier = row_count net links count ∙ ap (λ (m : ℕ). length net.names + m) (sym e.gives.count_is) in

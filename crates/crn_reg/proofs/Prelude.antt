@@ -1,6 +1,7 @@
 -- What this crate's proofs use of other crates and of its specs.
 pub use Rattle.crn_cert.proofs.CallerLemmas.{pair_places_are_pairs, range_bounds, sides_are_formed, vector_is_formed, wide_basis, zero_is_formed}
 pub use Rattle.crn_cert.specs.Answered.{IsAnswer}
+pub use Rattle.crn_cert.specs.Answers.{plain}
 pub use Rattle.crn_cert.specs.ClassTests.{AreSideMarks}
 pub use Rattle.crn_cert.specs.ConfluenceTests.{DoTerminalsGather, IsInSpace, least_from, others_than, tie_tests}
 pub use Rattle.crn_cert.specs.Data.{IsBasisOf}
@@ -15,8 +16,8 @@ pub use Rattle.crn_cert.specs.Tests.{AllHold}
 pub use Rattle.crn_cert.specs.Valid.{HaveOneEach, IsFirstSplit, ends_at, exits, is_least_of_pair, is_within_terminal, linkage, linkage_count, pair_places, side_tests, strong}
 pub use Rattle.crn_cert.specs.Verdicts.{tight}
 pub use Rattle.crn_cert.specs.declared.answer.Gap.{Gap}
-pub use Rattle.crn_cert.specs.declared.answer.Gap.TheVariants.{Rests}
-pub use Rattle.crn_cert.specs.declared.answer.Proof.TheVariants.{Nothing, Sides, Ties}
+pub use Rattle.crn_cert.specs.declared.answer.Gap.TheVariants.{Rests, Wide}
+pub use Rattle.crn_cert.specs.declared.answer.Proof.TheVariants.{Sides, Ties}
 pub use Rattle.crn_cert.specs.declared.answer.Verdict.{Verdict}
 pub use Rattle.crn_cert.specs.declared.answer.Verdict.TheVariants.{NoCycle, NoDependence, NoTerminal, NoVec, OnlyZero, Plane, Strong, Unknown, Yes, YesVec}
 pub use Rattle.crn_farkas.proofs.CallerLemmas.{as_column, column_some, own_some}
@@ -26,7 +27,7 @@ pub use Rattle.crn_rank.specs.Rank.{IsWideStop}
 pub use Rattle.crn_reg.specs.Inner.Normal.{AreZeroBefore, GathersFirst, IsFirstEntry, IsFirstSum, IsSameOrNegative, class_sum}
 pub use Rattle.crn_reg.specs.Inner.Pairs.{GivesSides}
 pub use Rattle.crn_reg.specs.Inner.Spaces.{ArePlane, AreTies, GivesSpace, HasNoColumn, HasNoOther, IsColumnPart, IsFirstColumn, IsFirstPlace, IsKeptSolution, IsLine, IsOnlyZero, IsSolution, IsTieOf, numbers_but}
-pub use Rattle.crn_reg.specs.Inner.Verdicts.{by_dependence, plain, wide_answer}
+pub use Rattle.crn_reg.specs.Inner.Verdicts.{by_dependence}
 pub use Rattle.crn_reg.specs.declared.sides.Sides.TheVariants.{All, Cycle}
 pub use Rattle.crn_reg.specs.declared.space.Space.TheVariants.{Line, Zero}
 pub use Rattle.crn_shape.proofs.CallerLemmas.{pairs_no, pairs_yes}

@@ -7,7 +7,6 @@ ghost use Rattle.crn_cert.specs.Says.{AreLinkageClasses, AreStrongClasses};
 ghost use Rattle.crn_cert.specs.Answered.{IsAnswer};
 ghost use Rattle.crn_cert.specs.Given.{GiveClasses};
 ghost use Rattle.crn_reg.specs.Inner.Spaces.{GivesSpace};
-ghost use Rattle.crn_reg.specs.Inner.Verdicts.{wide_answer};
 
 use crate::matrix::confluence_matrix;
 use crate::normal::normal_vector;
@@ -16,23 +15,8 @@ use crn_cert::{Answer, Gap, Proof, Verdict};
 use crn_farkas::Stop;
 use crn_graph::{LinkageData, StrongData};
 use crn_net::Network;
-use crn_vec::{NoMemory, Nums};
+use crn_vec::NoMemory;
 use std::alloc::Global;
-
-// The open answer that names a wide vector of the confluence system.
-fn wide_answer(index: u32, basis: Nums) -> Answer
-    ensures { result ≡ wide_answer index basis }
-{
-    Answer {
-        verdict: Verdict::Unknown(Gap::Wide {
-            system: 4,
-            class: 0,
-            index,
-            basis,
-        }),
-        proof: Proof::Nothing,
-    }
-}
 
 // The answer that the solutions of the confluence system give.
 fn answer_of(
@@ -78,15 +62,12 @@ fn answer_of(
             second,
             one,
             two,
-        } => Answer {
-            verdict: Verdict::Plane {
-                first,
-                second,
-                one,
-                two,
-            },
-            proof: Proof::Nothing,
-        },
+        } => Answer::plain(Verdict::Plane {
+            first,
+            second,
+            one,
+            two,
+        }),
     }
 }
 
@@ -116,7 +97,12 @@ pub fn confluence(
     let matrix = confluence_matrix(alloc, net, linkage.label.as_slice(), linkage.count)?;
     match find_space(alloc, &matrix) {
         Ok(space) => Ok(answer_of(net, linkage, strong, weak, space)),
-        Err(Stop::Wide { index, basis }) => Ok(wide_answer(index, basis)),
+        Err(Stop::Wide { index, basis }) => Ok(Answer::plain(Verdict::Unknown(Gap::Wide {
+            system: 4,
+            class: 0,
+            index,
+            basis,
+        }))),
         Err(Stop::NoMemory) => Err(NoMemory),
     }
 }

@@ -6,7 +6,7 @@ ghost use Rattle.crn_cert.specs.ClassTests.{DoLevelsFall};
 ghost use Rattle.crn_cert.specs.Law.{IsTrueOrOpen};
 ghost use Rattle.crn_cert.specs.Answered.{IsAnswer};
 ghost use Rattle.crn_cert.specs.Given.{GiveClasses};
-ghost use Rattle.crn_reg.specs.Inner.Verdicts.{plain, by_dependence};
+ghost use Rattle.crn_reg.specs.Inner.Verdicts.{by_dependence};
 
 use crate::pairs::pairs;
 use crate::sides::{Sides, find_sides};
@@ -17,16 +17,6 @@ use crn_net::Network;
 use crn_vec::NoMemory;
 use std::alloc::Global;
 
-// An answer without a proof.
-fn plain(verdict: Verdict) -> Answer
-    ensures { result ≡ plain verdict }
-{
-    Answer {
-        verdict,
-        proof: Proof::Nothing,
-    }
-}
-
 // The answer if each linkage class has one terminal strong class and all pairs have sides: a yes, or open.
 fn by_dependence(q7: &Verdict, sides: Rows) -> Answer
     ensures { result ≡ by_dependence q7.now sides }
@@ -36,7 +26,7 @@ fn by_dependence(q7: &Verdict, sides: Rows) -> Answer
             verdict: Verdict::Yes,
             proof: Proof::Sides(sides),
         },
-        _ => plain(Verdict::Unknown(Gap::Rests { question: 7 })),
+        _ => Answer::plain(Verdict::Unknown(Gap::Rests { question: 7 })),
     }
 }
 
@@ -65,14 +55,14 @@ pub fn regular(
 {
     net.meets_definition();
     if let Some((class, count)) = first_split(net, linkage, strong) {
-        return Ok(plain(Verdict::NoTerminal { class, count }));
+        return Ok(Answer::plain(Verdict::NoTerminal { class, count }));
     }
     if let Verdict::NoVec { .. } = q7 {
-        return Ok(plain(Verdict::NoDependence));
+        return Ok(Answer::plain(Verdict::NoDependence));
     }
     let pairs = pairs(alloc, net, strong)?;
     match find_sides(alloc, net, &pairs)? {
-        Sides::Cycle { reaction, walk } => Ok(plain(Verdict::NoCycle { reaction, walk })),
+        Sides::Cycle { reaction, walk } => Ok(Answer::plain(Verdict::NoCycle { reaction, walk })),
         Sides::All(sides) => Ok(by_dependence(q7, sides)),
     }
 }

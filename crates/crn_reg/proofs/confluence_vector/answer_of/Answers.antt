@@ -43,4 +43,4 @@ returns-in-Plane c budget earlier g yes' four =
     let known : Known net l.label.list l.count s.count s.terminal s.label.list s.exit.list c.args.weak = record { network = c.meets_definition.ensures; regular = c.requires.regular; linkage_is = c.requires.classes; strong_is = c.requires.strong_classes; weak_is = c.requires.weak } in
     let given : Given earlier l.label.list l.count s.label.list s.exit.list c.args.weak = record { gives = g; yes' = yes'; four = four } in
     let space : GivesSpace (confluence_system net l.label.list l.count) (Plane c.in-Plane.first c.in-Plane.second c.in-Plane.one c.in-Plane.two) = subst (GivesSpace (confluence_system net l.label.list l.count)) c.in-Plane.is c.requires.space in
-    plane_answer net budget earlier l.label.list l.count s.count s.terminal s.label.list s.exit.list c.args.weak c.in-Plane.first c.in-Plane.second c.in-Plane.one c.in-Plane.two known given space
+    rw c.plain.ensures (plane_answer net budget earlier l.label.list l.count s.count s.terminal s.label.list s.exit.list c.args.weak c.in-Plane.first c.in-Plane.second c.in-Plane.one c.in-Plane.two known given space)

@@ -19,4 +19,4 @@ returns-in-Err-Wide c budget earlier g yes' four =
     let given : Given earlier l.label.list l.count s.label.list s.exit.list c.args.weak = record { gives = g; yes' = yes'; four = four } in
     let made : NamesWide c.in_ok-matrix.matrix index basis.list = subst (IsWideStop c.in_ok-matrix.matrix) c.in-Err-Wide.field-0-is c.in-Err-Wide.ensures.stop in
     let wide : NamesWide (confluence_system net l.label.list l.count) index basis.list = subst (λ (a : Mat). NamesWide a index basis.list) (c.in_ok-matrix.ensures ∙ ap (λ (ls : List ℕ). confluence_system net ls l.count) c.as_slice.ensures) made in
-    rw c.wide_answer.ensures (open_answer net budget earlier l.label.list l.count s.count s.terminal s.label.list s.exit.list c.args.weak index basis known given wide)
+    rw c.plain.ensures (open_answer net budget earlier l.label.list l.count s.count s.terminal s.label.list s.exit.list c.args.weak index basis known given wide)
