@@ -1,5 +1,5 @@
 -- The answers that the end of a search over a table, or its stop, gives.
-use Rattle.crn_conc.proofs.Prelude.{◌≡◌, ℕ, zero, suc, ◌+◌, ◌<◌, ◌≤◌, ◌⊎◌, inl, inr, List, [], ◌∷◌, ◌++◌, true, false, length, take, refl, sym, subst, arith, length-take-le, ℤ, unsigned_abs, Option, Some, None, IfSome, AllByRecursion, MAX_BUDGET, WIDE_SOLUTION, Sign, Kind, KeptInts, KeptNums, Net, IsNetwork, reaction_system, Mat, entry, NamesWide, IsTable, IsDiscordant, concordance, plain_table, strong_table, PassesBudget, root, all_in, longer_by, networks_have_tables, tables_feasible, rows_count, some_species, Answer, Earlier, IsOpen, Question, Q14, Q15, AreFree, IsNarrow, AllHold, Plan, places, IsFormedTree, Fits, tree_tests, IsBasisOf, IsFormed, IsValid, IsAnswer, valid_answers_are_true, tests_decide_valid_trees, wide_basis, count_places, formed_tree, IsSmallSolution, SearchEnd, Found, Refuted, Spent, SearchStop, WideA, WideB, NoMemory, IsSearchEnd, IsSearchStop, HasFewNodes, WideName, IsNameOf, IsNamed, IsStopAnswer, end_answer, wide_answer, AreWide, ListsTableVisits}
+use Rattle.crn_conc.proofs.Prelude.{◌≡◌, ℕ, zero, suc, ◌+◌, ◌<◌, ◌≤◌, ◌⊎◌, inl, inr, List, [], ◌∷◌, ◌++◌, true, false, length, take, refl, sym, subst, arith, length-take-le, ℤ, unsigned_abs, Option, Some, None, IfSome, AllByRecursion, MAX_BUDGET, WIDE_SOLUTION, Sign, Kind, KeptInts, KeptNums, Net, IsNetwork, reaction_system, Mat, entry, NamesWide, IsTable, IsDiscordant, concordance, plain_table, strong_table, PassesBudget, root, all_in, longer_by, networks_have_tables, tables_feasible, rows_count, some_species, Answer, Earlier, IsOpen, Question, Q14, Q15, AreFree, IsNarrow, AllHold, Plan, places, IsFormedTree, Fits, tree_tests, IsBasisOf, IsFormed, IsValid, IsAnswer, valid_answers_are_true, tests_decide_valid_trees, wide_basis, count_places, formed_tree, IsSmallSolution, SearchEnd, Found, Refuted, Spent, SearchStop, WideA, WideB, NoMemory, IsSearchEnd, IsSearchStop, HasFewNodes, WideName, IsNameOf, IsNamed, IsStopAnswer, end_answer, AreWide, ListsTableVisits, plain_answer, Wide, Unknown}
 use Rattle.crn_conc.proofs.Starts.{start_passes}
 
 -- the question that a table of the network answers
@@ -57,7 +57,7 @@ spent_answer : {net : Net} {table : List (List Sign)} {q : Question} → Asks ne
 spent_answer plain budget earlier low high p = record { formed = (record { head = ((low, high), tt); rows = tt; trees = tt }, (refl, refl)); valid = tt; answered = (refl, p) }
 spent_answer strong budget earlier low high p = record { formed = (record { head = ((low, high), tt); rows = tt; trees = tt }, (refl, refl)); valid = tt; answered = (refl, p) }
 
-open_answer : {net : Net} {table : List (List Sign)} {q : Question} → Asks net table q → (budget : ℕ) (earlier : Earlier) (index : ℕ) (basis : KeptNums) → IsBasisOf (length net.reactions) (length net.names) index basis.list → NamesWide (reaction_system net) index basis.list → IsAnswer net budget earlier q (wide_answer index basis)
+open_answer : {net : Net} {table : List (List Sign)} {q : Question} → Asks net table q → (budget : ℕ) (earlier : Earlier) (index : ℕ) (basis : KeptNums) → IsBasisOf (length net.reactions) (length net.names) index basis.list → NamesWide (reaction_system net) index basis.list → IsAnswer net budget earlier q (plain_answer (Unknown (Wide 2 0 index basis)))
 open_answer plain budget earlier index basis b w = record { formed = (record { head = ((refl, refl, b), tt); rows = tt; trees = tt }, (refl, refl)); valid = tt; answered = (((refl, refl, b), tt), w) }
 open_answer strong budget earlier index basis b w = record { formed = (record { head = ((refl, refl, b), tt); rows = tt; trees = tt }, (refl, refl)); valid = tt; answered = (((refl, refl, b), tt), w) }
 
@@ -121,7 +121,7 @@ stop_names net m table s None e h n = tt
 stop_names net m table s (Some name) e h n = subst (λ (a : Mat). NamesWide a name.index name.basis.list) e (name_wide m table s name h n)
 
 -- the answer that names a wide vector
-pub named_by : {net : Net} {asked : List (List Sign)} {q : Question} → Asks net asked q → (budget index : ℕ) (basis : KeptNums) (answer : Answer) → NamesWide (reaction_system net) index basis.list → answer ≡ wide_answer index basis
+pub named_by : {net : Net} {asked : List (List Sign)} {q : Question} → Asks net asked q → (budget index : ℕ) (basis : KeptNums) (answer : Answer) → NamesWide (reaction_system net) index basis.list → answer ≡ plain_answer (Unknown (Wide 2 0 index basis))
     → (earlier : Earlier) → IsAnswer net budget earlier q answer
 named_by asks budget index basis answer h e earlier = stopped asks budget earlier (WideB index basis true) answer h e
 

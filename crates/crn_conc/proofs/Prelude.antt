@@ -1,6 +1,7 @@
 -- What this crate's proofs use of other crates and of its specs.
 pub use Rattle.crn_cert.proofs.CallerLemmas.{count_places, formed_tree, tests_decide_valid_trees, valid_answers_are_true, wide_basis}
 pub use Rattle.crn_cert.specs.Answered.{IsAnswer}
+pub use Rattle.crn_cert.specs.Answers.{plain as plain_answer}
 pub use Rattle.crn_cert.specs.Data.{IsBasisOf}
 pub use Rattle.crn_cert.specs.Formed.{IsFormed}
 pub use Rattle.crn_cert.specs.Nodes.{Fits}
@@ -12,8 +13,10 @@ pub use Rattle.crn_cert.specs.TreeTests.{tree_tests}
 pub use Rattle.crn_cert.specs.Trees.{IsFormedTree, Plan, places}
 pub use Rattle.crn_cert.specs.Valid.{IsValid}
 pub use Rattle.crn_cert.specs.declared.answer.Answer.{Answer}
+pub use Rattle.crn_cert.specs.declared.answer.Gap.TheVariants.{Wide}
 pub use Rattle.crn_cert.specs.declared.answer.Verdict.{Verdict}
-pub use Rattle.crn_conc.specs.Inner.Answers.{IsNameOf, IsNamed, IsStopAnswer, end_answer, wide_answer}
+pub use Rattle.crn_cert.specs.declared.answer.Verdict.TheVariants.{Unknown}
+pub use Rattle.crn_conc.specs.Inner.Answers.{IsNameOf, IsNamed, IsStopAnswer, end_answer}
 pub use Rattle.crn_conc.specs.Inner.Columns.{AreMade, AreSettled, AreSignsOf, AreSums, IsAskedOf, IsChosen, IsExtended, signs_at}
 pub use Rattle.crn_conc.specs.Inner.Rows.{AreWide, IsLast}
 pub use Rattle.crn_conc.specs.Visits.{ListsTableVisits}

@@ -9,9 +9,10 @@ ghost use Rattle.crn_cert.specs.Questions.{Earlier, IsOpen, Q14, Q15};
 ghost use Rattle.crn_cert.specs.TreeSizes.{HasFewNodes};
 ghost use Rattle.crn_sign.specs.Search.{outcome_of};
 ghost use Rattle.crn_sign.specs.declared.end.SearchEnd.{SearchEnd as GivenEnd};
+ghost use Rattle.crn_sign.specs.declared.fault.SearchStop.{SearchStop as GivenStop};
 ghost use Rattle.crn_conc.specs.Answers.{HasAnswer};
 ghost use Rattle.crn_conc.specs.Visits.{ListsTableVisits};
-ghost use Rattle.crn_conc.specs.Inner.Answers.{IsNameOf, IsNamed, IsStopAnswer, end_answer, wide_answer};
+ghost use Rattle.crn_conc.specs.Inner.Answers.{IsNameOf, IsNamed, IsStopAnswer, end_answer};
 
 use crate::chosen::columns_by_choice;
 use crate::influence::Influence;
@@ -54,36 +55,15 @@ pub(crate) fn end_answer(end: SearchEnd, budget: u32) -> Answer
     ensures { result ≡ end_answer budget end }
 {
     match end {
-        SearchEnd::Found { a, b, .. } => Answer {
-            verdict: Verdict::NoPair {
-                alpha: a,
-                weights: b,
-            },
-            proof: Proof::Nothing,
-        },
+        SearchEnd::Found { a, b, .. } => Answer::plain(Verdict::NoPair {
+            alpha: a,
+            weights: b,
+        }),
         SearchEnd::Refuted(tree) => Answer {
             verdict: Verdict::Yes,
             proof: Proof::One(tree),
         },
-        SearchEnd::Spent => Answer {
-            verdict: Verdict::Unknown(Gap::Budget { nodes: budget }),
-            proof: Proof::Nothing,
-        },
-    }
-}
-
-// The open answer that names a wide vector of system 2.
-pub(crate) fn wide_answer(index: u32, basis: Nums) -> Answer
-    ensures { result ≡ wide_answer index basis }
-{
-    Answer {
-        verdict: Verdict::Unknown(Gap::Wide {
-            system: 2,
-            class: 0,
-            index,
-            basis,
-        }),
-        proof: Proof::Nothing,
+        SearchEnd::Spent => Answer::plain(Verdict::Unknown(Gap::Budget { nodes: budget })),
     }
 }
 
@@ -99,27 +79,35 @@ fn shared_name(index: u32, basis: &Nums, is_first: bool) -> Result<Option<WideNa
     Ok(Some(WideName { index, basis }))
 }
 
+// The answer of a search that a wide vector of system 2 stops.
+fn stopped_at(index: u32, basis: Nums, is_first: bool) -> Result<Searched, NoMemory>
+    ensures answer { IfOk result
+        (λ made. IsStopAnswer (GivenStop.WideB index basis is_first) made.answer) }
+    ensures shared { IfOk result
+        (λ made. IfSome made.shared (IsNameOf (GivenStop.WideB index basis is_first))) }
+{
+    let shared = shared_name(index, &basis, is_first)?;
+    let answer = Answer::plain(Verdict::Unknown(Gap::Wide {
+        system: 2,
+        class: 0,
+        index,
+        basis,
+    }));
+    Ok(Searched { answer, shared })
+}
+
 // The answer that the stop of a search gives.
 fn stop_answer(stop: SearchStop) -> Result<Searched, NoMemory>
     ensures answer { IfOk result (λ made. IsStopAnswer stop made.answer) }
     ensures shared { IfOk result (λ made. IfSome made.shared (IsNameOf stop)) }
 {
     match stop {
-        SearchStop::WideA { index, basis } => Ok(Searched {
-            answer: wide_answer(index, basis),
-            shared: None,
-        }),
+        SearchStop::WideA { index, basis } => stopped_at(index, basis, false),
         SearchStop::WideB {
             index,
             basis,
             is_first,
-        } => {
-            let shared = shared_name(index, &basis, is_first)?;
-            Ok(Searched {
-                answer: wide_answer(index, basis),
-                shared,
-            })
-        }
+        } => stopped_at(index, basis, is_first),
         SearchStop::NoMemory => Err(NoMemory),
     }
 }

@@ -11,9 +11,9 @@ ghost use Rattle.crn_conc.specs.Answers.{HasAnswer};
 ghost use Rattle.crn_conc.specs.Visits.{ListsTableVisits};
 ghost use Rattle.crn_conc.specs.Inner.Answers.{IsNamed};
 
-use crate::answer::{WideName, answer_by, end_answer, outcome_verdict, verdict_by, wide_answer};
+use crate::answer::{WideName, answer_by, end_answer, outcome_verdict, verdict_by};
 use crate::influence::{concordance_table, strong_table};
-use crn_cert::{Answer, Verdict};
+use crn_cert::{Answer, Gap, Verdict};
 use crn_farkas::Solver;
 use crn_net::Network;
 use crn_sign::{SearchEnd, SearchOutcome};
@@ -75,7 +75,12 @@ fn strong_answer(
         → IsOpen answer.verdict) }
 {
     if let Some(name) = shared {
-        return Ok(wide_answer(name.index, name.basis));
+        return Ok(Answer::plain(Verdict::Unknown(Gap::Wide {
+            system: 2,
+            class: 0,
+            index: name.index,
+            basis: name.basis,
+        })));
     }
     let table = strong_table(alloc, net)?;
     let solver = Solver::new(alloc, matrix)?;
@@ -101,8 +106,12 @@ fn strong_verdict(
         → IsOpen verdict) }
 {
     if let Some(name) = shared {
-        let answer = wide_answer(name.index, name.basis);
-        return Ok(answer.verdict);
+        return Ok(Verdict::Unknown(Gap::Wide {
+            system: 2,
+            class: 0,
+            index: name.index,
+            basis: name.basis,
+        }));
     }
     let strong = strong_table(alloc, net)?;
     let solver = Solver::new(alloc, matrix)?;

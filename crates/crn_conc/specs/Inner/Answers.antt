@@ -3,13 +3,13 @@
 -- Source: this project's own.
 use Rattle.std.specs.Prelude.{◌≡◌, ℕ, Option, None, Some}
 use Rattle.crn_vec.specs.Elementary.{NamesWide}
-use Rattle.crn_vec.specs.Kept.{KeptNums}
 use Rattle.crn_vec.specs.Network.{Net}
 use Rattle.crn_vec.specs.NetSystems.{reaction_system}
 use Rattle.crn_cert.specs.declared.answer.Gap.TheVariants.{Wide, Budget}
 use Rattle.crn_cert.specs.declared.answer.Verdict.TheVariants.{Yes, NoPair, Unknown}
-use Rattle.crn_cert.specs.declared.answer.Proof.TheVariants.{Nothing, One}
+use Rattle.crn_cert.specs.declared.answer.Proof.TheVariants.{One}
 use Rattle.crn_cert.specs.declared.answer.Answer.{Answer}
+use Rattle.crn_cert.specs.Answers.{plain}
 use Rattle.crn_sign.specs.declared.end.SearchEnd.{SearchEnd}
 use Rattle.crn_sign.specs.declared.end.SearchEnd.TheVariants.{Found, Refuted, Spent}
 use Rattle.crn_sign.specs.declared.fault.SearchStop.{SearchStop}
@@ -18,18 +18,14 @@ use Rattle.crn_conc.specs.declared.answer.WideName.{WideName}
 
 -- no with the solutions that were found, yes with the tree, or open by the budget
 abbrev pub end_answer : ℕ → SearchEnd → Answer
-end_answer budget (Found q a b) = record { verdict = NoPair a b; proof = Nothing }
+end_answer budget (Found q a b) = plain (NoPair a b)
 end_answer budget (Refuted tree) = record { verdict = Yes; proof = One tree }
-end_answer budget Spent = record { verdict = Unknown (Budget budget); proof = Nothing }
+end_answer budget Spent = plain (Unknown (Budget budget))
 
--- open by a wide vector of system 2
-abbrev pub wide_answer : ℕ → KeptNums → Answer
-wide_answer index basis = record { verdict = Unknown (Wide 2 0 index basis); proof = Nothing }
-
--- open by the wide vector that stopped the search
+-- open by the wide vector of system 2 that stopped the search
 abbrev pub IsStopAnswer : SearchStop → Answer → Type 0
-IsStopAnswer (WideA index basis) answer = answer ≡ wide_answer index basis
-IsStopAnswer (WideB index basis is_first) answer = answer ≡ wide_answer index basis
+IsStopAnswer (WideA index basis) answer = answer ≡ plain (Unknown (Wide 2 0 index basis))
+IsStopAnswer (WideB index basis is_first) answer = answer ≡ plain (Unknown (Wide 2 0 index basis))
 IsStopAnswer NoMemory answer = ⊥
 
 -- this is the name of the wide vector that stopped the search
