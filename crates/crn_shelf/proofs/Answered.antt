@@ -1,5 +1,5 @@
 -- The answers that the ends of the searches for signals, or their stops, give.
-use Rattle.crn_shelf.proofs.Prelude.{◌≡◌, ◌⊎◌, ℕ, zero, suc, ◌+◌, ◌≤◌, Bool, true, inl, inr, List, [], ◌∷◌, ◌++◌, length, map, take, refl, sym, ap, ap₂, subst, ◌∙◌, arith, length-take-le, ℤ, pos, negsuc, Option, IsTrue, IsSome, IsSomeAnd, AllByRecursion, length-append, length-map, MAX_BUDGET, Sign, Zero, Plus, Minus, KeptInts, KeptNums, Net, IsNetwork, Mat, entry, NamesWide, SameStrong, IsTerminal, IsWeaklyReversible, IsComplex, IsRegular, HasConfluenceLine, IsConfluenceVector, IsNormalVector, negative, reaction_system, Signed, sign, Pair, Shape, complex_row, pair_row, shelf_matrix, signals, IsSignalOf, HasNoSignal, IsShapeOf, opposite_pair, opposite_shape, all_at, length-scale, number_is_one, strong_back, strong_then, confluence_vectors_are_one, signals_are_steady, shapes_are_one, signals_feasible, signals_are_of_shape, negatives_have_opposite_shapes, rows_count, Answer, YesSignal, Nothing, Earlier, Q2, Q12, Q13, on, vector_given, terminal_of, AreFree, IsNarrow, IsTrueOf, AreStrongClasses, IsTurn, IsShelf, by_turn, AllHold, Plan, Both, Three, RulesA, RulesB, Level, node_count, IsFormedTree, Said, Fits, tree_tests, IsWideGap, IsSignalTree, AreSignalRows, IsSignalNode, IsNodeOf, HasVector, pair_places, IsSignalWide, PassForSignals, IsAnswer, tests_decide_valid_trees, leaves_nothing, shapes_exist, tops_are_counted, hold_append, hold_parts, count_places, formed_tree, signal_trees_fit, vector_is_given, wide_basis, none_at_all, Found, Refuted, SearchStop, WideA, WideB, NoMemory, HasFewNodes, IsSearchStop, AreClassesBy, GiveVector, ListSignalVisits, ListsVisitsFor, EndsFor, StopsFor, shelf_number, IsFoundAnswer, spent_answer, wide_answer, one_answer, two_answer, IsStopAnswer, solution_free}
+use Rattle.crn_shelf.proofs.Prelude.{◌≡◌, ◌⊎◌, ℕ, zero, suc, ◌+◌, ◌≤◌, Bool, true, inl, inr, List, [], ◌∷◌, ◌++◌, length, map, take, refl, sym, ap, ap₂, subst, ◌∙◌, arith, length-take-le, ℤ, pos, negsuc, Option, IsTrue, IsSome, IsSomeAnd, AllByRecursion, length-append, length-map, MAX_BUDGET, Sign, Zero, Plus, Minus, KeptInts, KeptNums, Net, IsNetwork, Mat, entry, NamesWide, SameStrong, IsTerminal, IsWeaklyReversible, IsComplex, IsRegular, HasConfluenceLine, IsConfluenceVector, IsNormalVector, negative, reaction_system, Signed, sign, Pair, Shape, complex_row, pair_row, shelf_matrix, signals, IsSignalOf, HasNoSignal, IsShapeOf, opposite_pair, opposite_shape, all_at, length-scale, number_is_one, strong_back, strong_then, confluence_vectors_are_one, signals_are_steady, shapes_are_one, signals_feasible, signals_are_of_shape, negatives_have_opposite_shapes, rows_count, Answer, YesSignal, Earlier, Q2, Q12, Q13, on, vector_given, terminal_of, AreFree, IsNarrow, IsTrueOf, AreStrongClasses, IsTurn, IsShelf, by_turn, AllHold, Plan, Both, Three, RulesA, RulesB, Level, node_count, IsFormedTree, Said, Fits, tree_tests, IsWideGap, IsSignalTree, AreSignalRows, IsSignalNode, IsNodeOf, HasVector, pair_places, IsSignalWide, PassForSignals, IsAnswer, tests_decide_valid_trees, leaves_nothing, shapes_exist, tops_are_counted, hold_append, hold_parts, count_places, formed_tree, signal_trees_fit, vector_is_given, wide_basis, none_at_all, Found, Refuted, SearchStop, WideA, WideB, NoMemory, HasFewNodes, IsSearchStop, AreClassesBy, GiveVector, ListSignalVisits, ListsVisitsFor, EndsFor, StopsFor, shelf_number, IsFoundAnswer, one_answer, two_answer, IsStopAnswer, solution_free, plain, Budget, Wide, Unknown}
 
 -- ---- tests of trees
 
@@ -121,7 +121,7 @@ two_is net earlier g budget tree second n regular line normal v e f =
 
 pub spent_is : (net : Net) (earlier : Earlier) (g : List ℤ) (weak : Bool) (budget : ℕ) → 1 ≤ budget → budget ≤ MAX_BUDGET → GiveVector net earlier g weak
     → PassForSignals net g budget ⊎ (IsWeaklyReversible net.reactions × HasNoSignal net g × PassForSignals net (negative g) budget)
-    → IsAnswer net budget earlier Q13 (spent_answer budget)
+    → IsAnswer net budget earlier Q13 (plain (Unknown (Budget budget)))
 spent_is net earlier g weak budget low high v p = record {
   formed = (record { head = ((low, high), tt); rows = tt; trees = tt }, (refl, refl));
   valid = tt;
@@ -137,7 +137,7 @@ same_system : (s : Shape) → shelf_matrix (opposite_shape s) ≡ shelf_matrix s
 same_system s = ap (λ (rows : List (List ℤ)). let a : Mat = record { cols = s.species + 1; rows = map complex_row s.complexes ++ rows } in a) (same_rows s s.pairs)
 
 wide_five : (net : Net) (earlier : Earlier) (g : List ℤ) (weak : Bool) (budget index : ℕ) (basis : KeptNums) (s : Shape) → IsNetwork net → length g ≡ length net.complexes → GiveVector net earlier g weak → IsShapeOf net g s → NamesWide (shelf_matrix s) index basis.list
-    → IsAnswer net budget earlier Q13 (wide_answer 5 index basis)
+    → IsAnswer net budget earlier Q13 (plain (Unknown (Wide 5 0 index basis)))
 wide_five net earlier g weak budget index basis s n even v sh h =
     let z = sizes net earlier g s n v.strong_is even sh in
     let b = wide_basis (shelf_matrix s) (length net.names + 1) (length net.complexes + length (pair_places net earlier)) index basis.list (ap (λ (k : ℕ). k + 1) sh.shape.species) z.rows h in
@@ -148,7 +148,7 @@ wide_five net earlier g weak budget index basis s n even v sh h =
       answered = (gap, given net earlier g weak (λ x. IsSignalWide net x 5 basis.list index) v (inr (refl, (s, sh, h))));
     }
 
-wide_two : (net : Net) (earlier : Earlier) (g : List ℤ) (weak : Bool) (budget index : ℕ) (basis : KeptNums) → GiveVector net earlier g weak → NamesWide (reaction_system net) index basis.list → IsAnswer net budget earlier Q13 (wide_answer 2 index basis)
+wide_two : (net : Net) (earlier : Earlier) (g : List ℤ) (weak : Bool) (budget index : ℕ) (basis : KeptNums) → GiveVector net earlier g weak → NamesWide (reaction_system net) index basis.list → IsAnswer net budget earlier Q13 (plain (Unknown (Wide 2 0 index basis)))
 wide_two net earlier g weak budget index basis v h =
     let b = wide_basis (reaction_system net) (length net.reactions) (length net.names) index basis.list refl (rows_count net) h in
     let gap : IsWideGap net earlier Q13 2 0 index basis.list = (inl (refl, refl, b), tt) in
@@ -232,7 +232,7 @@ found_is net earlier g weak turn budget count terminal labels exits q pattern a 
       level_is = all_at IsNarrow a.list (length net.names) (pos 0) free_a.each (omega (arith, free_a.long, species));
       weights_are = subst (AreFree (length net.reactions)) (sym f.weights_are) free_b;
     } in
-    let made : Answer = record { verdict = YesSignal turn f.shelves f.mu (entry a.list (length net.names)) f.weights; proof = Nothing } in
+    let made : Answer = plain (YesSignal turn f.shelves f.mu (entry a.list (length net.names)) f.weights) in
     let done : IsAnswer net budget earlier Q13 made = record {
       formed = (record { head = (is_turn, tt); rows = (rows.shelves_are, (rows.mu_is, (rows.level_is, (rows.weights_are, tt)))); trees = tt }, (refl, refl));
       valid = ((has_vector net earlier g weak v, λ t. v.weak_is.1 (by_weak t)), (given net earlier g weak (λ x. IsSignalOf net (by_turn turn x) (map sign f.shelves.list) f.mu.list (entry a.list (length net.names)) f.weights.list) v signal, tt));

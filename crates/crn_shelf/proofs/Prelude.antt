@@ -1,6 +1,7 @@
 -- What this crate's proofs use of other crates and of its specs.
 pub use Rattle.crn_cert.proofs.CallerLemmas.{count_places, formed_tree, hold_append, hold_parts, leaves_nothing, none_at_all, shapes_exist, signal_trees_fit, tests_decide_valid_trees, tops_are_counted, vector_is_given, wide_basis}
 pub use Rattle.crn_cert.specs.Answered.{IsAnswer}
+pub use Rattle.crn_cert.specs.Answers.{plain}
 pub use Rattle.crn_cert.specs.Formed.{IsWideGap}
 pub use Rattle.crn_cert.specs.Licensed.{IsSignalWide, PassForSignals}
 pub use Rattle.crn_cert.specs.Nodes.{Fits, Said}
@@ -14,13 +15,13 @@ pub use Rattle.crn_cert.specs.TreeTests.{tree_tests}
 pub use Rattle.crn_cert.specs.Trees.{Both, IsFormedTree, Level, Plan, RulesA, RulesB, Three, node_count, places}
 pub use Rattle.crn_cert.specs.Valid.{HasVector, IsNodeOf, IsSignalNode, pair_places}
 pub use Rattle.crn_cert.specs.declared.answer.Answer.{Answer}
-pub use Rattle.crn_cert.specs.declared.answer.Proof.TheVariants.{Nothing}
+pub use Rattle.crn_cert.specs.declared.answer.Gap.TheVariants.{Budget, Wide}
 pub use Rattle.crn_cert.specs.declared.answer.Verdict.{Verdict}
 pub use Rattle.crn_cert.specs.declared.answer.Verdict.TheVariants.{Unknown, YesSignal}
 pub use Rattle.crn_conc.proofs.CallerLemmas.{all_settle, coordinate_at, coordinates_long, rows_settle, solution_free}
 pub use Rattle.crn_shape.specs.Sides.{AreClassesBy}
 pub use Rattle.crn_shelf.specs.Given.{GiveVector}
-pub use Rattle.crn_shelf.specs.Inner.Answers.{IsFoundAnswer, IsStopAnswer, one_answer, shelf_number, spent_answer, two_answer, wide_answer}
+pub use Rattle.crn_shelf.specs.Inner.Answers.{IsFoundAnswer, IsStopAnswer, one_answer, shelf_number, two_answer}
 pub use Rattle.crn_shelf.specs.Inner.Choices.{AreChoices, AreJoined, IsAdded, IsChoice, IsWith, added_by, added_kind, joined, kinds_after}
 pub use Rattle.crn_shelf.specs.Inner.Shapes.{EndsFor, StopsFor}
 pub use Rattle.crn_shelf.specs.Order.{IsForNegative}

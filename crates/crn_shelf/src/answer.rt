@@ -16,7 +16,7 @@ ghost use Rattle.crn_shelf.specs.Order.{IsForNegative};
 ghost use Rattle.crn_shelf.specs.Visits.{ListSignalVisits};
 ghost use Rattle.crn_shelf.specs.Inner.Shapes.{EndsFor};
 ghost use Rattle.crn_sign.specs.declared.end.SearchEnd.{SearchEnd};
-ghost use Rattle.crn_shelf.specs.Inner.Answers.{IsFoundAnswer, IsStopAnswer, one_answer, shelf_number, spent_answer, two_answer, wide_answer};
+ghost use Rattle.crn_shelf.specs.Inner.Answers.{IsFoundAnswer, IsStopAnswer, one_answer, shelf_number, two_answer};
 
 use crate::problem::search_over;
 use crn_cert::{Answer, Gap, Proof, Rows, Tree, Verdict};
@@ -24,7 +24,7 @@ use crn_graph::StrongData;
 use crn_net::Network;
 use crn_shape::{Shape, shelves};
 use crn_sign::{SearchEnd, SearchStop};
-use crn_vec::{Ints, NoMemory, Nums, Sign};
+use crn_vec::{Ints, NoMemory, Sign};
 use std::alloc::Global;
 
 // A shelf as a number: 1 is upper, 0 middle, -1 lower.
@@ -65,41 +65,13 @@ fn found_answer(
 {
     let shelves = shelf_numbers(alloc, shelves(pattern, strong.terminal as usize))?;
     let (mu, _) = a.as_slice().split_at(net.species());
-    Ok(Answer {
-        verdict: Verdict::YesSignal {
-            turn,
-            shelves,
-            mu: Ints::from_slice(alloc, mu)?,
-            m: a.as_slice()[net.species()],
-            weights: b,
-        },
-        proof: Proof::Nothing,
-    })
-}
-
-// The open answer of a spent budget.
-fn spent_answer(budget: u32) -> Answer
-    ensures { result ≡ spent_answer budget }
-{
-    Answer {
-        verdict: Verdict::Unknown(Gap::Budget { nodes: budget }),
-        proof: Proof::Nothing,
-    }
-}
-
-// The open answer that names a wide vector of a system.
-fn wide_answer(system: u32, index: u32, basis: Nums) -> Answer
-    ensures { result ≡ wide_answer system index basis }
-{
-    Answer {
-        verdict: Verdict::Unknown(Gap::Wide {
-            system,
-            class: 0,
-            index,
-            basis,
-        }),
-        proof: Proof::Nothing,
-    }
+    Ok(Answer::plain(Verdict::YesSignal {
+        turn,
+        shelves,
+        mu: Ints::from_slice(alloc, mu)?,
+        m: a.as_slice()[net.species()],
+        weights: b,
+    }))
 }
 
 // The answer that the stop of a search gives.
@@ -107,8 +79,18 @@ fn stop_answer(stop: SearchStop) -> Result<Answer, NoMemory>
     ensures { IfOk result (λ answer. IsStopAnswer stop answer) }
 {
     match stop {
-        SearchStop::WideA { index, basis } => Ok(wide_answer(5, index, basis)),
-        SearchStop::WideB { index, basis, .. } => Ok(wide_answer(2, index, basis)),
+        SearchStop::WideA { index, basis } => Ok(Answer::plain(Verdict::Unknown(Gap::Wide {
+            system: 5,
+            class: 0,
+            index,
+            basis,
+        }))),
+        SearchStop::WideB { index, basis, .. } => Ok(Answer::plain(Verdict::Unknown(Gap::Wide {
+            system: 2,
+            class: 0,
+            index,
+            basis,
+        }))),
         SearchStop::NoMemory => Err(NoMemory),
     }
 }
@@ -168,7 +150,7 @@ fn by_negative(
             found_answer(alloc, net, strong, -1, pattern.as_slice(), &a, b)
         }
         Ok(SearchEnd::Refuted(second)) => Ok(two_answer(tree, second)),
-        Ok(SearchEnd::Spent) => Ok(spent_answer(budget)),
+        Ok(SearchEnd::Spent) => Ok(Answer::plain(Verdict::Unknown(Gap::Budget { nodes: budget }))),
         Err(stop) => stop_answer(stop),
     }
 }
@@ -225,7 +207,7 @@ pub fn signal(
                 Ok(one_answer(tree))
             }
         }
-        Ok(SearchEnd::Spent) => Ok(spent_answer(budget)),
+        Ok(SearchEnd::Spent) => Ok(Answer::plain(Verdict::Unknown(Gap::Budget { nodes: budget }))),
         Err(stop) => stop_answer(stop),
     }
 }

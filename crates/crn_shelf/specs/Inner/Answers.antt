@@ -4,12 +4,13 @@
 use Rattle.std.specs.Prelude.{◌≡◌, ℕ, ℤ, pos, negsuc, List, map, take}
 use Rattle.crn_vec.specs.declared.signs.Sign.{Sign}
 use Rattle.crn_vec.specs.declared.signs.Sign.TheVariants.{Zero, Plus, Minus}
-use Rattle.crn_vec.specs.Kept.{KeptInts, KeptNums}
+use Rattle.crn_vec.specs.Kept.{KeptInts}
 use Rattle.crn_vec.specs.Vectors.{entry}
-use Rattle.crn_cert.specs.declared.answer.Gap.TheVariants.{Wide, Budget}
+use Rattle.crn_cert.specs.declared.answer.Gap.TheVariants.{Wide}
 use Rattle.crn_cert.specs.declared.answer.Verdict.TheVariants.{YesSignal, No, Unknown}
-use Rattle.crn_cert.specs.declared.answer.Proof.TheVariants.{Nothing, One, Two}
+use Rattle.crn_cert.specs.declared.answer.Proof.TheVariants.{One, Two}
 use Rattle.crn_cert.specs.declared.answer.Answer.{Answer}
+use Rattle.crn_cert.specs.Answers.{plain}
 use Rattle.crn_cert.specs.Trees.{Plan}
 use Rattle.crn_sign.specs.declared.fault.SearchStop.{SearchStop}
 use Rattle.crn_sign.specs.declared.fault.SearchStop.TheVariants.{WideA, WideB, NoMemory}
@@ -26,20 +27,10 @@ pub record IsFoundAnswer (turn : ℤ) (count species : ℕ) (q : List Sign) (a b
   pub shelves : KeptInts
   pub mu : KeptInts
   pub weights : KeptInts
-  pub is : answer
-      ≡ (record { verdict = YesSignal turn shelves mu (entry a species) weights; proof = Nothing })
+  pub is : answer ≡ plain (YesSignal turn shelves mu (entry a species) weights)
   pub shelves_are : shelves.list ≡ map shelf_number (take count q)
   pub mu_is : mu.list ≡ take species a
   pub weights_are : weights.list ≡ b
-
--- open by the budget
-abbrev pub spent_answer : ℕ → Answer
-spent_answer budget = record { verdict = Unknown (Budget budget); proof = Nothing }
-
--- open by a wide vector of a system
-abbrev pub wide_answer : ℕ → ℕ → KeptNums → Answer
-wide_answer system index basis =
-    record { verdict = Unknown (Wide system 0 index basis); proof = Nothing }
 
 -- no, with the tree for the vector alone
 abbrev pub one_answer : Plan → Answer
@@ -51,6 +42,6 @@ two_answer tree second = record { verdict = No; proof = Two tree second }
 
 -- open by the wide vector that stopped the search
 abbrev pub IsStopAnswer : SearchStop → Answer → Type 0
-IsStopAnswer (WideA index basis) answer = answer ≡ wide_answer 5 index basis
-IsStopAnswer (WideB index basis is_first) answer = answer ≡ wide_answer 2 index basis
+IsStopAnswer (WideA index basis) answer = answer ≡ plain (Unknown (Wide 5 0 index basis))
+IsStopAnswer (WideB index basis is_first) answer = answer ≡ plain (Unknown (Wide 2 0 index basis))
 IsStopAnswer NoMemory answer = ⊥

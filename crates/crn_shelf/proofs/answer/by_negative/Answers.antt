@@ -62,7 +62,7 @@ returns-in-Ok-Found-clause-visits c =
     (λ answer h. found_visits net g (negsuc 0) c.args.strong.now.terminal (length net.names) c.as_slice.result.now f.a.list f.b.list answer h) c.found_answer.ensures
 
 pub returns-in-Ok-Spent-clause-visits : goal.returns-in-Ok-Spent-clause-visits
-returns-in-Ok-Spent-clause-visits c = subst (λ (a : Answer). ListSignalVisits c.args.net.now c.args.g.now a.proof) (sym c.spent_answer.ensures) tt
+returns-in-Ok-Spent-clause-visits c = subst (λ (a : Answer). ListSignalVisits c.args.net.now c.args.g.now a.proof) (sym c.plain.ensures) tt
 
 pub returns-clause-visits : goal.returns-clause-visits
 returns-clause-visits c =
@@ -75,7 +75,7 @@ returns-in-Ok-Spent-clause-answer c =
     let g = c.args.g.now in
     let u : Shape = c.negate.new.self in
     let e : EndsFor net (negative g) c.args.budget Spent = (u, subst (IsShapeOf net (negative g)) (sym c.negate.ensures) (negatives_have_opposite_shapes net g c.args.shape c.requires.shape), subst (IsSearchEnd (signals u (reaction_system net)) c.args.budget) c.in-Ok-Spent.field-0-is c.in-Ok-Spent.ensures) in
-    λ earlier v. subst (IsAnswer net c.args.budget earlier Q13) (sym c.spent_answer.ensures)
+    λ earlier v. subst (IsAnswer net c.args.budget earlier Q13) (sym c.plain.ensures)
     (spent_is net earlier g true c.args.budget c.requires.low c.requires.high v (inr (c.requires.weak, no_signal net g c.args.budget c.args.tree c.species.ensures.network c.requires.regular c.requires.tree, e)))
 
 pub returns-clause-answer : goal.returns-clause-answer
@@ -110,7 +110,7 @@ returns-in-Ok-Refuted-clause-spent c =
     λ pass. absurd (refuted_within net (negative g) c.args.budget r.second e pass)
 
 pub returns-in-Ok-Spent-clause-spent : goal.returns-in-Ok-Spent-clause-spent
-returns-in-Ok-Spent-clause-spent c = λ pass. subst (λ (a : Answer). IsOpen a.verdict) (sym c.spent_answer.ensures) tt
+returns-in-Ok-Spent-clause-spent c = λ pass. subst (λ (a : Answer). IsOpen a.verdict) (sym c.plain.ensures) tt
 
 pub returns-clause-spent : goal.returns-clause-spent
 returns-clause-spent c =

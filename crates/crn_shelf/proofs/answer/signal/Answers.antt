@@ -66,7 +66,7 @@ returns-in-Ok-Found-clause-visits c =
     (λ answer h. found_visits net g (pos 1) c.args.strong.now.terminal (length net.names) c.as_slice.result.now f.a.list f.b.list answer h) c.found_answer.ensures
 
 pub returns-in-Ok-Spent-clause-visits : goal.returns-in-Ok-Spent-clause-visits
-returns-in-Ok-Spent-clause-visits c = subst (λ (a : Answer). ListSignalVisits c.args.net.now c.args.g.now a.proof) (sym c.spent_answer.ensures) tt
+returns-in-Ok-Spent-clause-visits c = subst (λ (a : Answer). ListSignalVisits c.args.net.now c.args.g.now a.proof) (sym c.plain.ensures) tt
 
 pub returns-in-Err-clause-visits : goal.returns-in-Err-clause-visits
 returns-in-Err-clause-visits c =
@@ -87,7 +87,7 @@ returns-in-Ok-Spent-clause-answer c =
     let g = c.args.g.now in
     let u : Shape = c.in_ok-shape.shape in
     let e : EndsFor net g c.args.budget Spent = (u, c.in_ok-shape.ensures, subst (IsSearchEnd (signals u (reaction_system net)) c.args.budget) c.in-Ok-Spent.field-0-is c.in-Ok-Spent.ensures) in
-    λ earlier v. subst (IsAnswer net c.args.budget earlier Q13) (sym c.spent_answer.ensures)
+    λ earlier v. subst (IsAnswer net c.args.budget earlier Q13) (sym c.plain.ensures)
     (spent_is net earlier g c.args.weak c.args.budget c.requires.low c.requires.high v (inl e))
 
 pub returns-in-Ok-Found-clause-spent : goal.returns-in-Ok-Found-clause-spent
@@ -115,7 +115,7 @@ returns-else-weak-clause-spent c =
     λ pass. absurd (refuted_within net c.args.g.now c.args.budget c.in-Ok-Refuted.tree (c.in_ok-shape.shape, c.in_ok-shape.ensures, subst (IsSearchEnd (signals c.in_ok-shape.shape (reaction_system net)) c.args.budget) c.in-Ok-Refuted.field-0-is c.in-Ok-Refuted.ensures) pass)
 
 pub returns-in-Ok-Spent-clause-spent : goal.returns-in-Ok-Spent-clause-spent
-returns-in-Ok-Spent-clause-spent c = λ pass. subst (λ (a : Answer). IsOpen a.verdict) (sym c.spent_answer.ensures) tt
+returns-in-Ok-Spent-clause-spent c = λ pass. subst (λ (a : Answer). IsOpen a.verdict) (sym c.plain.ensures) tt
 
 pub returns-in-Err-clause-spent : goal.returns-in-Err-clause-spent
 returns-in-Err-clause-spent c =
@@ -145,7 +145,7 @@ pub returns-else-weak-clause-first : goal.returns-else-weak-clause-first
 returns-else-weak-clause-first c = λ yes. absurd (subst (λ (a : Answer). IsForNegative a.verdict) c.one_answer.ensures yes)
 
 pub returns-in-Ok-Spent-clause-first : goal.returns-in-Ok-Spent-clause-first
-returns-in-Ok-Spent-clause-first c = λ yes. absurd (subst (λ (a : Answer). IsForNegative a.verdict) c.spent_answer.ensures yes)
+returns-in-Ok-Spent-clause-first c = λ yes. absurd (subst (λ (a : Answer). IsForNegative a.verdict) c.plain.ensures yes)
 
 pub returns-in-Err-clause-first : goal.returns-in-Err-clause-first
 returns-in-Err-clause-first c =
@@ -174,7 +174,7 @@ pub returns-else-weak-clause-second : goal.returns-else-weak-clause-second
 returns-else-weak-clause-second c = λ weak none pass. absurd (false≢true (sym c.if-weak.false ∙ weak))
 
 pub returns-in-Ok-Spent-clause-second : goal.returns-in-Ok-Spent-clause-second
-returns-in-Ok-Spent-clause-second c = λ weak none pass. subst (λ (a : Answer). IsOpen a.verdict) (sym c.spent_answer.ensures) tt
+returns-in-Ok-Spent-clause-second c = λ weak none pass. subst (λ (a : Answer). IsOpen a.verdict) (sym c.plain.ensures) tt
 
 pub returns-in-Err-clause-second : goal.returns-in-Err-clause-second
 returns-in-Err-clause-second c =
