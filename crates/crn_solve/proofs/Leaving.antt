@@ -1,5 +1,5 @@
 -- The first reaction that joins two complexes of different labels decides weak reversibility.
-use Rattle.crn_solve.proofs.Prelude.{◌≡◌, ℕ, ◌+◌, ◌-◌, ◌<◌, List, length, get_or, refl, sym, ap, subst, ◌∙◌, inl, inr, arith, ◌==◌, cases_Bool, eq-eqb, eqb-true, false≢true, Net, IsNetwork, place_of, Answer, Yes, NoReaction, Nothing, Earlier, Q2, Q4, on, IsTrueOf, AreEven, IsFormed, strong, IsValid, valid_answers_are_true, IsDecidedAnswer, JoinsTwoLabels, IsFirstLeaving}
+use Rattle.crn_solve.proofs.Prelude.{◌≡◌, ℕ, ◌+◌, ◌-◌, ◌<◌, List, length, get_or, refl, sym, ap, subst, ◌∙◌, inl, inr, arith, ◌==◌, cases_Bool, eq-eqb, eqb-true, false≢true, Net, IsNetwork, place_of, Answer, Yes, NoReaction, Earlier, Q2, Q4, on, IsTrueOf, AreEven, IsFormed, strong, IsValid, valid_answers_are_true, IsDecidedAnswer, JoinsTwoLabels, IsFirstLeaving, plain}
 
 -- a reaction whose complexes have equal labels does not join two of different labels
 pub joins_one : (net : Net) (labels : List ℕ) (r y z : ℕ) → y ≡ (get_or net.reactions r (0, 0)).0 → z ≡ (get_or net.reactions r (0, 0)).1 → get_or labels y 0 ≡ get_or labels z 0 → JoinsTwoLabels net labels (r + 1) → ⊥
@@ -29,16 +29,16 @@ even_if_none net labels none y z i =
 
 -- ---- the two answers
 
-pub weak_yes : (net : Net) (labels : List ℕ) (earlier : Earlier) → IsNetwork net → strong earlier ≡ labels → IsTrueOf net Q2 (on earlier Q2) → AreEven net labels → IsDecidedAnswer net earlier Q4 (record { verdict = Yes; proof = Nothing })
+pub weak_yes : (net : Net) (labels : List ℕ) (earlier : Earlier) → IsNetwork net → strong earlier ≡ labels → IsTrueOf net Q2 (on earlier Q2) → AreEven net labels → IsDecidedAnswer net earlier Q4 (plain Yes)
 weak_yes net labels earlier n same known even =
-    let answer : Answer = record { verdict = Yes; proof = Nothing } in
+    let answer : Answer = plain Yes in
     let formed : IsFormed net earlier Q4 answer = (record { head = tt; rows = tt; trees = tt }, (refl, refl)) in
     let valid : IsValid net earlier Q4 answer = (subst (AreEven net) (sym same) even, tt) in
     record { formed = formed; valid = valid; true_of = valid_answers_are_true Q4 net earlier answer n (known, tt) tt formed valid; decided = λ o. o }
 
-pub weak_no : (net : Net) (labels : List ℕ) (r : ℕ) (earlier : Earlier) → IsNetwork net → strong earlier ≡ labels → IsTrueOf net Q2 (on earlier Q2) → IsFirstLeaving net labels r → IsDecidedAnswer net earlier Q4 (record { verdict = NoReaction r; proof = Nothing })
+pub weak_no : (net : Net) (labels : List ℕ) (r : ℕ) (earlier : Earlier) → IsNetwork net → strong earlier ≡ labels → IsTrueOf net Q2 (on earlier Q2) → IsFirstLeaving net labels r → IsDecidedAnswer net earlier Q4 (plain (NoReaction r))
 weak_no net labels r earlier n same known h =
-    let answer : Answer = record { verdict = NoReaction r; proof = Nothing } in
+    let answer : Answer = plain (NoReaction r) in
     let formed : IsFormed net earlier Q4 answer = (record { head = (h.from, tt); rows = tt; trees = tt }, (refl, refl)) in
     let valid : IsValid net earlier Q4 answer = (subst (λ (ls : List ℕ). JoinsTwoLabels net ls r) (sym same) h.leaves, tt) in
     record { formed = formed; valid = valid; true_of = valid_answers_are_true Q4 net earlier answer n (known, tt) tt formed valid; decided = λ o. o }

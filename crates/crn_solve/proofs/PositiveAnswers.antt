@@ -1,5 +1,5 @@
 -- The answers on positive dependence and conservation that decisions and stops give.
-use Rattle.crn_solve.proofs.Prelude.{◌≡◌, ℕ, ◌<◌, inl, inr, List, [], length, get_or, refl, sym, ap, subst, ◌∙◌, arith, ℤ, pos, negsuc, ◌≤ℤ◌, ints, KeptNums, Net, IsNetwork, dot, column, combination_at, vectors, IsPositiveDependence, IsConservationLaw, species_system, reaction_system, positive_kinds, at_in, dot-comm, lt_or, all_given, Answer, Earlier, Q7, Q8, AreFree, RuleOutDependence, RuleOutConservation, IsFormed, IsWideGap, IsValid, valid_answers_are_true, Decision, Feasible, Infeasible, Result, Ok, Err, MatchResult, Mat, Kind, IsLawDecision, IsLawStop, Stop, Wide, NoMemory, IsDecision, IsStop, IsAnswer, wide_answer, vector_answer, vectors_count, row_is, rows_count, column_is, combined_past, wide_basis}
+use Rattle.crn_solve.proofs.Prelude.{◌≡◌, ℕ, ◌<◌, inl, inr, List, [], length, get_or, refl, sym, ap, subst, ◌∙◌, arith, ℤ, pos, negsuc, ◌≤ℤ◌, ints, KeptNums, Net, IsNetwork, dot, column, combination_at, vectors, IsPositiveDependence, IsConservationLaw, species_system, reaction_system, positive_kinds, at_in, dot-comm, lt_or, all_given, Answer, Earlier, Q7, Q8, AreFree, RuleOutDependence, RuleOutConservation, IsFormed, IsWideGap, IsValid, valid_answers_are_true, Decision, Feasible, Infeasible, Result, Ok, Err, MatchResult, Mat, Kind, IsLawDecision, IsLawStop, Stop, Wide, NoMemory, IsDecision, IsStop, IsAnswer, vector_answer, vectors_count, row_is, rows_count, column_is, combined_past, wide_basis, plain, WideGap, Unknown}
 use Rattle.crn_solve.proofs.PositiveKinds.{IsPositiveSolution, positive_solution, IsPositiveCut, positive_cut}
 
 -- ---- positive dependence
@@ -37,7 +37,7 @@ dependence_decided net budget earlier (Infeasible u) n h =
     let valid : IsValid net earlier Q7 answer = (no_dependence net u.list n c, tt) in
     record { formed = formed; valid = valid; answered = valid_answers_are_true Q7 net earlier answer n tt tt formed valid }
 
-pub dependence_wide : (net : Net) (budget : ℕ) (earlier : Earlier) (index : ℕ) (basis : KeptNums) → IsStop (reaction_system net) (positive_kinds (reaction_system net)) (Wide index basis) → IsAnswer net budget earlier Q7 (wide_answer 2 index basis)
+pub dependence_wide : (net : Net) (budget : ℕ) (earlier : Earlier) (index : ℕ) (basis : KeptNums) → IsStop (reaction_system net) (positive_kinds (reaction_system net)) (Wide index basis) → IsAnswer net budget earlier Q7 (plain (Unknown (WideGap 2 0 index basis)))
 dependence_wide net budget earlier index basis h =
     let gap : IsWideGap net earlier Q7 2 0 index basis.list = ((refl, refl, wide_basis (reaction_system net) (length net.reactions) (length net.names) index basis.list refl (rows_count net) h.0), tt) in
     record { formed = (record { head = gap; rows = tt; trees = tt }, (refl, refl)); valid = tt; answered = (gap, (h.2, h.0)) }
@@ -75,7 +75,7 @@ law_decided net budget earlier (Infeasible u) n h =
     let valid : IsValid net earlier Q8 answer = (no_law net u.list n c, tt) in
     record { formed = formed; valid = valid; answered = valid_answers_are_true Q8 net earlier answer n tt tt formed valid }
 
-pub law_wide : (net : Net) (budget : ℕ) (earlier : Earlier) (index : ℕ) (basis : KeptNums) → IsStop (species_system net) (positive_kinds (species_system net)) (Wide index basis) → IsAnswer net budget earlier Q8 (wide_answer 1 index basis)
+pub law_wide : (net : Net) (budget : ℕ) (earlier : Earlier) (index : ℕ) (basis : KeptNums) → IsStop (species_system net) (positive_kinds (species_system net)) (Wide index basis) → IsAnswer net budget earlier Q8 (plain (Unknown (WideGap 1 0 index basis)))
 law_wide net budget earlier index basis h =
     let gap : IsWideGap net earlier Q8 1 0 index basis.list = ((refl, refl, wide_basis (species_system net) (length net.names) (length net.reactions) index basis.list refl (vectors_count net) h.0), tt) in
     record { formed = (record { head = gap; rows = tt; trees = tt }, (refl, refl)); valid = tt; answered = (gap, (h.2, h.0)) }

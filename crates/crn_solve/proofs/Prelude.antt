@@ -1,7 +1,7 @@
 -- What this crate's proofs use of other crates and of its specs.
 pub use Rattle.crn_cert.proofs.CallerLemmas.{all_vectors, count_tight, exits_tight, is_true_tight, labels_tight, no_tight, open_tight, rank_is_formed, rank_tight, sides_formed, treeless, treeless_few, valid_answers_are_true, vector_tight, weak_no, weak_yes, yes_tight}
 pub use Rattle.crn_cert.specs.Answered.{IsAnswer}
-pub use Rattle.crn_cert.specs.Answers.{verdicts_of}
+pub use Rattle.crn_cert.specs.Answers.{plain, verdicts_of}
 pub use Rattle.crn_cert.specs.Built.{built}
 pub use Rattle.crn_cert.specs.ClassTests.{AreEven}
 pub use Rattle.crn_cert.specs.Formed.{AreFormed, IsFormed, IsFormedOf, IsWideGap}
@@ -16,11 +16,12 @@ pub use Rattle.crn_cert.specs.TreeSizes.{HasFewNodes, HaveFewNodes}
 pub use Rattle.crn_cert.specs.Valid.{AreValid, IsValid, linkage, linkage_count, strong}
 pub use Rattle.crn_cert.specs.Verdicts.{tight}
 pub use Rattle.crn_cert.specs.declared.answer.Answer.{Answer}
+pub use Rattle.crn_cert.specs.declared.answer.Gap.TheVariants.{Rests, Wide as WideGap}
 pub use Rattle.crn_cert.specs.declared.answer.Proof.{Proof}
 pub use Rattle.crn_cert.specs.declared.answer.Proof.TheVariants.{Forest, Nothing, Rank as RankRows, Sides, Strong as StrongTrees, Ties}
 pub use Rattle.crn_cert.specs.declared.answer.RankProof.{RankProof}
 pub use Rattle.crn_cert.specs.declared.answer.Verdict.{Verdict}
-pub use Rattle.crn_cert.specs.declared.answer.Verdict.TheVariants.{Classes, NoCycle, NoDependence, NoReaction, NoTerminal, Rank, Strong, Unknown, Yes, YesVec}
+pub use Rattle.crn_cert.specs.declared.answer.Verdict.TheVariants.{Classes, NoCycle, NoDependence, NoReaction, NoTerminal, NotApplicable, NotRegular, Rank, Strong, Unknown, Yes, YesVec}
 pub use Rattle.crn_cert.specs.declared.head_kind.HeadKind.{HeadKind}
 pub use Rattle.crn_conc.proofs.CallerLemmas.{column_is, combined_past, if_ok, length-rows_after, reaction_long, row_is, rows_after, rows_count, some_species, vector_at, vector_width, vectors_count, wide_basis, within_append}
 pub use Rattle.crn_conc.specs.Visits.{ListsTableVisits}
@@ -41,7 +42,7 @@ pub use Rattle.crn_shelf.specs.Order.{IsForNegative}
 pub use Rattle.crn_shelf.specs.Visits.{ListSignalVisits}
 pub use Rattle.crn_solve.specs.Inner.Answered.{IsDecidedAnswer, IsFirstLeaving, IsRankOrOpen, JoinsTwoLabels}
 pub use Rattle.crn_solve.specs.Inner.ClassData.{AreLinkageData, AreStrongData}
-pub use Rattle.crn_solve.specs.Inner.Given.{IsRankAnswer, inapplicable_answer, irregular_answer, rests_answer, vector_answer, wide_answer}
+pub use Rattle.crn_solve.specs.Inner.Given.{IsRankAnswer, vector_answer}
 pub use Rattle.crn_solve.specs.Inner.Sides.{GiveSides}
 pub use Rattle.crn_solve.specs.Inner.Solved.{AreAnswers, AreFirstAnswers, FirstAreDecided, IsVectorFirst, first_questions}
 pub use Rattle.crn_solve.specs.Laws.{IsLawDecision, IsLawStop}

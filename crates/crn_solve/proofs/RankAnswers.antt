@@ -1,5 +1,5 @@
 -- The answer on the rank that a proof or a stop gives.
-use Rattle.crn_solve.proofs.Prelude.{◌≡◌, ℕ, ◌≤◌, List, length, refl, sym, ap, subst, arith, ℤ, KeptNums, Net, IsNetwork, Mat, NamesWide, species_system, MAX_REACTIONS, Answer, RankProof, Verdict, Rank, Proof, RankRows, Earlier, Q5, IsFormed, IsWideGap, IsValid, valid_answers_are_true, all_vectors, rank_is_formed, ProvesRank, member_matrix, IsAnswer, IsRankAnswer, wide_answer, vectors_count, all_places, rank_is, wide_basis}
+use Rattle.crn_solve.proofs.Prelude.{◌≡◌, ℕ, ◌≤◌, List, length, refl, sym, ap, subst, arith, ℤ, KeptNums, Net, IsNetwork, Mat, NamesWide, species_system, MAX_REACTIONS, Answer, RankProof, Verdict, Rank, Proof, RankRows, Earlier, Q5, IsFormed, IsWideGap, IsValid, valid_answers_are_true, all_vectors, rank_is_formed, ProvesRank, member_matrix, IsAnswer, IsRankAnswer, vectors_count, all_places, rank_is, wide_basis, plain, WideGap, Unknown}
 use Rattle.crn_solve.proofs.Ranks.{rank_from}
 
 pub base_few : (net : Net) (proof : RankProof) → IsNetwork net → ProvesRank net (all_places net) proof → length proof.base.list ≤ MAX_REACTIONS
@@ -23,7 +23,7 @@ rank_given net budget earlier proof answer n h g =
 pub all_members : (net : Net) → member_matrix net (all_places net) ≡ species_system net
 all_members net = ap (λ (rows : List (List ℤ)). let a : Mat = record { cols = length net.names; rows = rows } in a) (all_vectors net)
 
-pub rank_wide : (net : Net) (budget : ℕ) (earlier : Earlier) (index : ℕ) (basis : KeptNums) → NamesWide (member_matrix net (all_places net)) index basis.list → IsAnswer net budget earlier Q5 (wide_answer 1 index basis)
+pub rank_wide : (net : Net) (budget : ℕ) (earlier : Earlier) (index : ℕ) (basis : KeptNums) → NamesWide (member_matrix net (all_places net)) index basis.list → IsAnswer net budget earlier Q5 (plain (Unknown (WideGap 1 0 index basis)))
 rank_wide net budget earlier index basis h =
     let wide : NamesWide (species_system net) index basis.list = subst (λ (a : Mat). NamesWide a index basis.list) (all_members net) h in
     let gap : IsWideGap net earlier Q5 1 0 index basis.list = ((refl, refl, wide_basis (species_system net) (length net.names) (length net.reactions) index basis.list refl (vectors_count net) wide), tt) in

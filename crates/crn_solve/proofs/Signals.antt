@@ -1,19 +1,19 @@
 -- The answer on signals is one of the crate of signals, rests on an open verdict, or says that there is no vector.
-use Rattle.crn_solve.proofs.Prelude.{◌≡◌, ◌∙◌, ◌⊎◌, ℕ, inl, inr, List, [], ◌∷◌, refl, ap, sym, subst, arith, IsTrue, Bool, ℤ, Result, Ok, Err, IfOk, IsSome, IsSomeAnd, false≢true, KeptInts, Net, IsNetwork, IsWeaklyReversible, negative, HasNoSignal, Proof, Sides, Verdict, YesVec, Earlier, Q2, Q4, Q12, Q13, IsOpen, IsYes, on, vector_given, IsTrueOf, IsValid, IsTrueOrOpen, IsLicensedBudget, PassForSignals, IsAnswer, tight, valid_answers_are_true, open_tight, vector_tight, yes_tight, GiveVector, inapplicable_answer, rests_answer, GiveSides}
+use Rattle.crn_solve.proofs.Prelude.{◌≡◌, ◌∙◌, ◌⊎◌, ℕ, inl, inr, List, [], ◌∷◌, refl, ap, sym, subst, arith, IsTrue, Bool, ℤ, Result, Ok, Err, IfOk, IsSome, IsSomeAnd, false≢true, KeptInts, Net, IsNetwork, IsWeaklyReversible, negative, HasNoSignal, Proof, Sides, Verdict, YesVec, Earlier, Q2, Q4, Q12, Q13, IsOpen, IsYes, on, vector_given, IsTrueOf, IsValid, IsTrueOrOpen, IsLicensedBudget, PassForSignals, IsAnswer, tight, valid_answers_are_true, open_tight, vector_tight, yes_tight, GiveVector, GiveSides, plain, Rests, NotApplicable, Unknown}
 use Rattle.std.specs.Prelude.{◌↔◌}
 
 -- an open verdict on confluence vectors leaves signals open
-pub signal_rests : (net : Net) (budget : ℕ) (earlier : Earlier) (v : Verdict) → IsOpen v → on earlier Q12 ≡ tight v → IsAnswer net budget earlier Q13 (rests_answer 12)
+pub signal_rests : (net : Net) (budget : ℕ) (earlier : Earlier) (v : Verdict) → IsOpen v → on earlier Q12 ≡ tight v → IsAnswer net budget earlier Q13 (plain (Unknown (Rests 12)))
 signal_rests net budget earlier v o is = record { formed = (record { head = ((omega arith, omega arith), tt); rows = tt; trees = tt }, (refl, refl)); valid = tt; answered = (refl, subst IsOpen (sym is) (subst (λ (A : Type 0). A) (sym (open_tight v)) o), tt) }
 
 -- without a vector there is nothing to look for
-no_signals : (net : Net) (weak v : Verdict) → IsNetwork net → IsTrueOf net Q4 weak → IsTrueOrOpen net Q12 v → (IsOpen v → ⊥) → (IsSome (vector_given v) → ⊥) → IsTrueOf net Q13 inapplicable_answer.verdict
+no_signals : (net : Net) (weak v : Verdict) → IsNetwork net → IsTrueOf net Q4 weak → IsTrueOrOpen net Q12 v → (IsOpen v → ⊥) → (IsSome (vector_given v) → ⊥) → IsTrueOf net Q13 NotApplicable
 no_signals net weak v n w h not_open no_vector =
     let own : Earlier = (Q4, weak) ∷ (Q12, v) ∷ [] in
-    let valid : IsValid net own Q13 inapplicable_answer = ((no_vector, not_open), tt) in
-    valid_answers_are_true Q13 net own inapplicable_answer n (w, tt) (h, tt) (record { head = tt; rows = tt; trees = tt }, (refl, refl)) valid
+    let valid : IsValid net own Q13 (plain NotApplicable) = ((no_vector, not_open), tt) in
+    valid_answers_are_true Q13 net own (plain NotApplicable) n (w, tt) (h, tt) (record { head = tt; rows = tt; trees = tt }, (refl, refl)) valid
 
-pub inapplicable_given : (net : Net) (budget : ℕ) (earlier : Earlier) (weak v : Verdict) → IsNetwork net → IsTrueOf net Q4 weak → IsTrueOrOpen net Q12 v → (IsOpen v → ⊥) → (IsSome (vector_given v) → ⊥) → on earlier Q12 ≡ tight v → IsAnswer net budget earlier Q13 inapplicable_answer
+pub inapplicable_given : (net : Net) (budget : ℕ) (earlier : Earlier) (weak v : Verdict) → IsNetwork net → IsTrueOf net Q4 weak → IsTrueOrOpen net Q12 v → (IsOpen v → ⊥) → (IsSome (vector_given v) → ⊥) → on earlier Q12 ≡ tight v → IsAnswer net budget earlier Q13 (plain NotApplicable)
 inapplicable_given net budget earlier weak v n w h not_open no_vector is =
     record { formed = (record { head = tt; rows = tt; trees = tt }, (refl, refl)); valid = ((λ s. no_vector (subst (λ x. IsSome x) (ap vector_given is ∙ vector_tight v) s), λ o. not_open (subst (λ (A : Type 0). A) (ap IsOpen is ∙ open_tight v) o)), tt); answered = no_signals net weak v n w h not_open no_vector }
 

@@ -21,7 +21,6 @@ use crate::concordance::{concordance_verdicts, decide_concordance};
 use crate::confluence_answer::confluence_answer;
 use crate::deficiency_answer::deficiency_answer;
 use crate::linkage_answer::linkage_answer;
-use crate::open::rests_answer;
 use crate::parts::is_open;
 use crate::positive::{conservative, positively_dependent};
 use crate::rank_answer::rank_answer;
@@ -30,7 +29,7 @@ use crate::signal_answer::signal_answer;
 use crate::strong_answer::strong_answer;
 use crate::systems::species_matrix;
 use crate::zero_answer::zero_answer;
-use crn_cert::{Answer, Answers, Verdict, Verdicts};
+use crn_cert::{Answer, Answers, Gap, Verdict, Verdicts};
 use crn_conc::reaction_matrix;
 use crn_defi::one_hypotheses;
 use crn_farkas::Solver;
@@ -183,8 +182,8 @@ pub fn solve_rank(alloc: Global, net: &Network) -> Result<Answers, NoMemory>
     let mut answers = Answers::new(alloc)?;
     answers.push(linkage_answer(linkage));
     answers.push(strong_answer(strong));
-    answers.push(rests_answer(5));
-    answers.push(rests_answer(5));
+    answers.push(Answer::plain(Verdict::Unknown(Gap::Rests { question: 5 })));
+    answers.push(Answer::plain(Verdict::Unknown(Gap::Rests { question: 5 })));
     answers.push(rank);
     Ok(answers)
 }

@@ -5,26 +5,14 @@ ghost use Rattle.crn_cert.specs.Says.{AreLinkageClasses, AreStrongClasses, IsTru
 ghost use Rattle.crn_cert.specs.Law.{IsTrueOrOpen};
 ghost use Rattle.crn_cert.specs.Given.{GiveClasses};
 ghost use Rattle.crn_cert.specs.Answered.{IsAnswer};
-ghost use Rattle.crn_solve.specs.Inner.Given.{irregular_answer};
 
-use crate::open::rests_answer;
 use crate::parts::{is_open, is_yes};
-use crn_cert::{Answer, Proof, Verdict};
+use crn_cert::{Answer, Gap, Verdict};
 use crn_graph::{LinkageData, StrongData};
 use crn_net::Network;
 use crn_reg::confluence;
 use crn_vec::NoMemory;
 use std::alloc::Global;
-
-// The answer for a network that is not regular.
-fn irregular_answer() -> Answer
-    ensures { result ≡ irregular_answer }
-{
-    Answer {
-        verdict: Verdict::NotRegular,
-        proof: Proof::Nothing,
-    }
-}
 
 /// Question 12: the normal confluence vector of a regular network, or why there is none, which rests on question 11.
 pub(crate) fn confluence_answer(
@@ -51,7 +39,7 @@ pub(crate) fn confluence_answer(
         return confluence(alloc, net, linkage, strong, is_yes(weak));
     }
     if is_open(regular) {
-        return Ok(rests_answer(11));
+        return Ok(Answer::plain(Verdict::Unknown(Gap::Rests { question: 11 })));
     }
-    Ok(irregular_answer())
+    Ok(Answer::plain(Verdict::NotRegular))
 }

@@ -6,7 +6,6 @@ mod concordance;
 mod confluence_answer;
 mod deficiency_answer;
 mod linkage_answer;
-mod open;
 mod parts;
 mod positive;
 mod rank_answer;

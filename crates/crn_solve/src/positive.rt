@@ -8,10 +8,9 @@ ghost use Rattle.crn_cert.specs.Answered.{IsAnswer};
 ghost use Rattle.crn_solve.specs.Inner.Given.{vector_answer};
 ghost use Rattle.crn_solve.specs.Laws.{IsLawDecision, IsLawStop};
 
-use crate::open::wide_answer;
 use crate::parts::is_open;
 use crate::systems::{positive_kinds, species_matrix};
-use crn_cert::{Answer, Proof, Verdict};
+use crn_cert::{Answer, Gap, Verdict};
 use crn_farkas::{Decision, Solver, Stop};
 use crn_net::Network;
 use crn_tab::Tableau;
@@ -57,10 +56,7 @@ fn vector_answer(decision: Decision) -> Answer
         Decision::Feasible(vector) => Verdict::YesVec { vector },
         Decision::Infeasible(multipliers) => Verdict::NoVec { multipliers },
     };
-    Answer {
-        verdict,
-        proof: Proof::Nothing,
-    }
+    Answer::plain(verdict)
 }
 
 /// Question 7: a positive dependence of the reaction vectors, or multipliers that rule each one out. The matrix is that of
@@ -87,7 +83,12 @@ pub(crate) fn positively_dependent(
     };
     let answer = match decide_positive(alloc, matrix, &mut solver, viewed) {
         Ok(decision) => vector_answer(decision),
-        Err(Stop::Wide { index, basis }) => wide_answer(2, index, basis),
+        Err(Stop::Wide { index, basis }) => Answer::plain(Verdict::Unknown(Gap::Wide {
+            system: 2,
+            class: 0,
+            index,
+            basis,
+        })),
         Err(Stop::NoMemory) => return Err(NoMemory),
     };
     Ok(Dependence { answer, solver })
@@ -110,7 +111,12 @@ pub(crate) fn conservative(
     let mut solver = Solver::new(alloc, matrix)?;
     match decide_positive(alloc, matrix, &mut solver, viewed) {
         Ok(decision) => Ok(vector_answer(decision)),
-        Err(Stop::Wide { index, basis }) => Ok(wide_answer(1, index, basis)),
+        Err(Stop::Wide { index, basis }) => Ok(Answer::plain(Verdict::Unknown(Gap::Wide {
+            system: 1,
+            class: 0,
+            index,
+            basis,
+        }))),
         Err(Stop::NoMemory) => Err(NoMemory),
     }
 }

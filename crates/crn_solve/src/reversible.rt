@@ -21,10 +21,7 @@ pub(crate) fn reversible(alloc: Global, net: &Network) -> Result<Answer, NoMemor
             verdict: Verdict::Yes,
             proof: Proof::Back(back),
         }),
-        Reverses::Missing(reaction) => Ok(Answer {
-            verdict: Verdict::NoReaction { reaction },
-            proof: Proof::Nothing,
-        }),
+        Reverses::Missing(reaction) => Ok(Answer::plain(Verdict::NoReaction { reaction })),
     }
 }
 
@@ -53,8 +50,5 @@ pub(crate) fn weakly_reversible(net: &Network, label: &[u32]) -> Answer
         Some(reaction) => Verdict::NoReaction { reaction },
         None => Verdict::Yes,
     };
-    Answer {
-        verdict,
-        proof: Proof::Nothing,
-    }
+    Answer::plain(verdict)
 }

@@ -10,27 +10,15 @@ ghost use Rattle.crn_cert.specs.Licensed.{IsLicensedBudget};
 ghost use Rattle.crn_cert.specs.TreeSizes.{HasFewNodes};
 ghost use Rattle.crn_shelf.specs.Order.{IsForNegative};
 ghost use Rattle.crn_shelf.specs.Visits.{ListSignalVisits};
-ghost use Rattle.crn_solve.specs.Inner.Given.{inapplicable_answer};
 ghost use Rattle.crn_solve.specs.Inner.Sides.{GiveSides};
 
-use crate::open::rests_answer;
 use crate::parts::{is_open, is_yes};
-use crn_cert::{Answer, Proof, Verdict};
+use crn_cert::{Answer, Gap, Proof, Verdict};
 use crn_graph::StrongData;
 use crn_net::Network;
 use crn_shelf::signal;
 use crn_vec::NoMemory;
 use std::alloc::Global;
-
-// The answer for a network of which question 12 gives no vector.
-fn inapplicable_answer() -> Answer
-    ensures { result ≡ inapplicable_answer }
-{
-    Answer {
-        verdict: Verdict::NotApplicable,
-        proof: Proof::Nothing,
-    }
-}
 
 /// Question 13: a signal for the vector of question 12 or for its negative, trees that show that there is none, or that
 /// there is no vector, which rests on question 12. The sides are those in the proof of question 11.
@@ -64,13 +52,13 @@ pub(crate) fn signal_answer(
 {
     net.meets_definition();
     if is_open(confluence) {
-        return Ok(rests_answer(12));
+        return Ok(Answer::plain(Verdict::Unknown(Gap::Rests { question: 12 })));
     }
     match (confluence, regular) {
         (Verdict::YesVec { vector }, Proof::Sides(sides)) => {
             let g = vector.as_slice();
             signal(alloc, net, strong, sides, g, is_yes(weak), budget)
         }
-        _ => Ok(inapplicable_answer()),
+        _ => Ok(Answer::plain(Verdict::NotApplicable)),
     }
 }
