@@ -17,17 +17,17 @@ pub use Rattle.crn_endo_check.specs.Slopes.{AtLeastZeroOrFree, IsSmallEnough, Ne
 pub use Rattle.crn_endo_check.specs.declared.endo.Endo.{Endo}
 pub use Rattle.crn_endo_check.specs.declared.endo.Endo.TheVariants.{Large, No, Spent, Wide, Yes}
 pub use Rattle.crn_farkas.specs.Decision.{IsSmallSolution}
-pub use Rattle.crn_sign.proofs.CallerLemmas.{put_here, put_other}
+pub use Rattle.crn_sign.proofs.CallerLemmas.{put_here, put_other, row_kept}
 pub use Rattle.crn_sign.specs.Options.{AskKindsBy, IsPut, asked_kind, bit_of, kind_in, weakened, word_count, word_of}
 pub use Rattle.crn_sign.specs.Search.{IsSearchEnd}
 pub use Rattle.crn_sign.specs.declared.bits.Bits.{Bits}
 pub use Rattle.crn_sign.specs.declared.end.SearchEnd.TheVariants.{Found}
 pub use Rattle.crn_sign.specs.declared.problem.Asked.{Asked}
-pub use Rattle.crn_vec.proofs.CallerLemmas.{all_at, all_push, are_one, at_in, below_or, eq_or, filter_distinct, filter_from, held, longer_by, lt_or, map_more, range_bounds, written}
+pub use Rattle.crn_vec.proofs.CallerLemmas.{above_ascending, above_in, all_at, all_push, any_default, are_one, at_in, below_or, eq_or, filter_ascending, filter_from, held, longer_by, lt_or, map_more, range_ascending, row_chosen, written}
 pub use Rattle.crn_vec.specs.Concordance.{is_plus, kind_of_sign, row_kinds}
 pub use Rattle.crn_vec.specs.Elementary.{width}
 pub use Rattle.crn_vec.specs.Kept.{KeptInts}
-pub use Rattle.crn_vec.specs.Lists.{AreDistinct, IsIn}
+pub use Rattle.crn_vec.specs.Lists.{IsAscending, IsIn}
 pub use Rattle.crn_vec.specs.Network.{IsNetwork, Net}
 pub use Rattle.crn_vec.specs.Systems.{kind_at}
 pub use Rattle.crn_vec.specs.Vectors.{Mat, entry}

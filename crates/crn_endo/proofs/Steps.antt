@@ -1,21 +1,25 @@
 -- What one option more requires, coordinate by coordinate.
-use Rattle.crn_endo.proofs.Prelude.{◌≡◌, ◌≢◌, ℕ, zero, suc, ◌+◌, ◌-◌, ◌<◌, ◌≤◌, inl, inr, List, [], ◌∷◌, ◌++◌, length, map, replicate, get_or, Bool, true, false, cond, refl, sym, ap, subst, ◌∙◌, arith, ◌==◌, not, range_with_len, false≢true, eq-eqb, ne_eqb, get_or_append_left, get_or-append_right, get_or-replicate, length-append, length-replicate, get_or-map-range_with_len, length-map-range_with_len, Sign, Zero, Plus, Minus, Kind, Pos, Free, is_plus, kind_of_sign, row_kinds, width, AreDistinct, IsIn, Net, kind_at, at_in, eq_or, filter_distinct, filter_from, lt_or, range_bounds, Bits, Asked, AskKindsBy, IsPut, asked_kind, bit_of, kind_in, weakened, put_here, put_other, reaction_at, at_least_zero_if, fall_kind, is_reactant, later, option_of, others, reactants, rise_kind, slope_kinds, slope_matrix, AreRaised, AskFirmly, ShowsWeak, firm_kind}
+use Rattle.crn_endo.proofs.Prelude.{◌≡◌, ◌≢◌, ℕ, suc, ◌+◌, ◌-◌, ◌<◌, inl, inr, List, [], ◌∷◌, ◌++◌, length, map, replicate, get_or, Bool, false, cond, refl, sym, ap, subst, ◌∙◌, arith, ◌==◌, not, range_with_len, false≢true, eq-eqb, ne_eqb, get_or_append_left, get_or-append_right, get_or-replicate, length-append, length-replicate, get_or-map-range_with_len, length-map-range_with_len, Sign, Zero, Plus, Minus, Kind, Pos, Free, is_plus, kind_of_sign, row_kinds, width, IsIn, Net, kind_at, at_in, eq_or, filter_from, lt_or, Bits, Asked, AskKindsBy, IsPut, asked_kind, bit_of, kind_in, weakened, put_here, put_other, reaction_at, at_least_zero_if, fall_kind, is_reactant, later, option_of, others, reactants, rise_kind, slope_kinds, slope_matrix, AreRaised, AskFirmly, ShowsWeak, firm_kind, above_ascending, above_in, any_default, filter_ascending, range_ascending, row_chosen, IsAscending, row_kept}
 
 -- ---- options
+
+last_option : (p : List Sign) (o : Sign) → get_or (p ++ o ∷ []) (length p) Zero ≡ o
+last_option [] o = refl
+last_option (a ∷ p) o = last_option p o
 
 option_none : (os : List ℕ) (c : ℕ) → option_of os [] c ≡ Zero
 option_none [] c = refl
 option_none (o ∷ os) c = refl
 
 -- the option of the complex that is chosen last, which has none before
-option_last : (os : List ℕ) (p : List Sign) (s : Sign) (c : ℕ) → AreDistinct os → length p < length os → c ≡ get_or os (length p) c → (option_of os (p ++ s ∷ []) c ≡ s) × (option_of os p c ≡ Zero)
+option_last : (os : List ℕ) (p : List Sign) (s : Sign) (c : ℕ) → IsAscending os → length p < length os → c ≡ get_or os (length p) c → (option_of os (p ++ s ∷ []) c ≡ s) × (option_of os p c ≡ Zero)
 option_last [] p s c d lt e = absurd (omega (arith, lt))
 option_last (o ∷ os) [] s c d lt e = (ap (λ (b : Bool). cond b s (option_of os [] c)) (eq-eqb o c (sym e)), refl)
 option_last (o ∷ os) (t ∷ p) s c d lt e =
     let less : length p < length os = omega (arith, lt) in
     let in_rest : IsIn c os = subst (λ (x : ℕ). IsIn x os) (sym e) (at_in os (length p) c less) in
-    let other : (o == c) ≡ false = ne_eqb o c (λ same. d.0 (subst (λ (x : ℕ). IsIn x os) (sym same) in_rest)) in
-    let rest = option_last os p s c d.1 less e in
+    let other : (o == c) ≡ false = ne_eqb o c (λ same. omega (arith, above_in o os d c in_rest, same)) in
+    let rest = option_last os p s c (above_ascending o os d) less e in
     (ap (λ (b : Bool). cond b t (option_of os (p ++ s ∷ []) c)) other ∙ rest.0, ap (λ (b : Bool). cond b t (option_of os p c)) other ∙ rest.1)
 
 -- the option of another complex
@@ -24,18 +28,8 @@ option_kept [] p s c lt ne = refl
 option_kept (o ∷ os) [] s c lt ne = ap (λ (b : Bool). cond b s (option_of os [] c)) (ne_eqb o c (λ e. ne (sym e))) ∙ option_none os c
 option_kept (o ∷ os) (t ∷ p) s c lt ne = ap (λ (x : Sign). cond (o == c) t x) (option_kept os p s c (omega (arith, lt)) ne)
 
--- a place inside a list has one member, whatever it has past its end
-get_same : (os : List ℕ) (i d e : ℕ) → i < length os → get_or os i d ≡ get_or os i e
-get_same [] i d e lt = absurd (omega (arith, lt))
-get_same (o ∷ os) zero d e lt = refl
-get_same (o ∷ os) (suc i) d e lt = get_same os i d e (omega (arith, lt))
-
-range_distinct : (a n : ℕ) → AreDistinct (range_with_len a n)
-range_distinct a zero = tt
-range_distinct a (suc n) = (λ i. let b = range_bounds a (a + 1) n i in omega (arith, b.0), range_distinct (a + 1) n)
-
-others_distinct : (net : Net) (r : ℕ) → AreDistinct (others net r)
-others_distinct net r = filter_distinct (λ c. not (c == (reaction_at net r).0)) (reactants net) (filter_distinct (is_reactant net) (range_with_len 0 (length net.complexes)) (range_distinct 0 (length net.complexes)))
+others_ascending : (net : Net) (r : ℕ) → IsAscending (others net r)
+others_ascending net r = filter_ascending (λ c. not (c == (reaction_at net r).0)) (reactants net) (filter_ascending (is_reactant net) (range_with_len 0 (length net.complexes)) (range_ascending 0 (length net.complexes)))
 
 -- a reaction from a further complex is another one
 goes_apart : (net : Net) (r q c i : ℕ) → i < length (others net r) → c ≡ get_or (others net r) i c → (reaction_at net q).0 ≡ c → (q == r) ≡ false
@@ -62,16 +56,7 @@ rise_kept : (net : Net) (r q : ℕ) (p p' : List Sign) → option_of (others net
 rise_kept net r q p p' e = ap (λ (x : Sign). cond (q == r) (kind_of_sign Plus) (at_least_zero_if (is_plus x))) e
 
 row_last : (n : ℕ) (p : List Sign) (s : Sign) → length p < n → kind_at (row_kinds n (p ++ s ∷ [])) (length p) ≡ kind_of_sign s
-row_last zero p s lt = absurd (omega (arith, lt))
-row_last (suc n) [] s lt = refl
-row_last (suc n) (t ∷ p) s lt = row_last n p s (omega (arith, lt))
-
-row_kept : (n : ℕ) (p : List Sign) (s : Sign) (j : ℕ) → j ≢ length p → kind_at (row_kinds n (p ++ s ∷ [])) j ≡ kind_at (row_kinds n p) j
-row_kept zero p s j ne = refl
-row_kept (suc n) [] s zero ne = absurd (ne refl)
-row_kept (suc n) [] s (suc j) ne = refl
-row_kept (suc n) (t ∷ p) s zero ne = refl
-row_kept (suc n) (t ∷ p) s (suc j) ne = row_kept n p s j (λ e. ne (ap suc e))
+row_last n p s lt = sym (row_chosen n (length p) (p ++ s ∷ []) lt (omega (arith, length-append p (s ∷ [])))) ∙ ap kind_of_sign (last_option p s)
 
 -- ---- coordinates
 
@@ -168,14 +153,14 @@ next_asked net r s p c h x old mid new long is at asks put count kept raised giv
         let apart : k ≢ h = λ d. omega (arith, d, at, e, less) in
         elim (eq_or y c) as (λ _. Asks k) [
           | inl from ↦
-              let o = option_last os p s y (others_distinct net r) long (from ∙ is ∙ get_same os (length p) c y long) in
+              let o = option_last os p s y (others_ascending net r) long (from ∙ is ∙ any_default c y os (length p) long) in
               let other = goes_apart net r q c (length p) long is from in
               let free : kind_in mid k ≡ Free = put_other old h x mid put k apart ∙ given.each k lt ∙ ap firm_kind (before ∙ rise_by net r q Zero p other o.1) in
               ap (kind_in new) e ∙ raised q less from (ap (kind_in mid) (sym e) ∙ free) ∙ ap firm_kind (sym (rise_by net r q s (p ++ s ∷ []) other o.0) ∙ sym after)
           | inr ne ↦
-              let there : y ≢ get_or os (length p) y = λ d. ne (d ∙ get_same os (length p) y c long ∙ sym is) in
+              let there : y ≢ get_or os (length p) y = λ d. ne (d ∙ any_default y c os (length p) long ∙ sym is) in
               same k lt apart (λ i lt' z d. let j : i ≡ q = omega (arith, d, e) in ne (ap (λ (t : ℕ). (reaction_at net t).0) (sym j) ∙ z))
-                (before ∙ sym (rise_kept net r q p (p ++ s ∷ []) (option_kept os p s y long there)) ∙ sym after)
+              (before ∙ sym (rise_kept net r q p (p ++ s ∷ []) (option_kept os p s y long there)) ∙ sym after)
         ]
 
     height : (k j : ℕ) → k < width (slope_matrix net r) → k ≡ length net.names + length net.reactions + length net.reactions + j → Asks k
@@ -204,7 +189,7 @@ next_asked net r s p c h x old mid new long is at asks put count kept raised giv
               | inl less ↦
                   let e : k ≡ names + n + (k - names - n) = omega (arith, le, past) in
                   same k lt (λ d. omega (arith, d, at, less, past, le)) (λ q l z d. omega (arith, d, l, past, le))
-                    (fall_at net r (Plus ∷ p) k (k - names - n) e less ∙ sym (fall_at net r (Plus ∷ (p ++ s ∷ [])) k (k - names - n) e less))
+                  (fall_at net r (Plus ∷ p) k (k - names - n) e less ∙ sym (fall_at net r (Plus ∷ (p ++ s ∷ [])) k (k - names - n) e less))
               | inr far ↦ height k (k - names - n - n) lt (omega (arith, le, past, far))
             ]
           ]
@@ -221,13 +206,9 @@ pub option_still : (net : Net) (r : ℕ) (s : Sign) (p : List Sign) (h : ℕ) (x
 option_still net r s p h x old mid none long at asks put given =
     let os = others net r in
     let c = get_or os (length p) 0 in
-    next_asked net r s p c h x old mid mid long (get_same os (length p) 0 c long) at asks put refl (λ k out. refl) (λ q lt y free. free ∙ sym none) given
+    next_asked net r s p c h x old mid mid long (any_default 0 c os (length p) long) at asks put refl (λ k out. refl) (λ q lt y free. free ∙ sym none) given
 
 -- ---- prefixes
-
-last_option : (p : List Sign) (o : Sign) → get_or (p ++ o ∷ []) (length p) Zero ≡ o
-last_option [] o = refl
-last_option (a ∷ p) o = last_option p o
 
 -- a prefix of more options than one that begins with plus, by the prefix without its last option
 pub record BeginsWithPlus (p q : List Sign) (o : Sign) : Type 0 where

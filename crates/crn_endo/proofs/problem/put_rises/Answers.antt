@@ -1,4 +1,4 @@
-use Rattle.crn_endo.proofs.Prelude.{ℕ, ◌+◌, refl, sym, ap, ◌∙◌, arith}
+use Rattle.crn_endo.proofs.Prelude.{◌≡◌, ℕ, ◌+◌, length, refl, sym, ap, subst, ◌∙◌, arith, AreRaised}
 use Rattle.crn_endo.proofs.Steps.{raised_more, raised_past}
 use Rattle.crn_endo.proofs.problem.put_rises.Goals as goal
 use Rattle.crn_endo.proofs.problem.put_rises.Goals.{then-from-c, else-from-c}
@@ -7,7 +7,7 @@ pub loop-q-init : goal.loop-q-init
 loop-q-init c = record { count = refl; here = λ q lt y. absurd (omega (arith, lt)); others = λ k out. refl }
 
 pub put_asked-requires : goal.put_asked-requires
-put_asked-requires c = omega (arith, c.requires, c.loop-q.invariant.count, c.loop-q-test.true, c.species-species.ensures.count, c.reactions.ensures.count)
+put_asked-requires c = omega (arith, c.requires, c.loop-q.invariant.count, c.loop-q-test.true, c.species-species.ensures.count, c.reactions-q-end.ensures.count)
 
 pub loop-q-preserved : goal.loop-q-preserved
 loop-q-preserved c =
@@ -22,4 +22,7 @@ loop-q-preserved c =
     ]
 
 pub returns : goal.returns
-returns c = c.loop-q.invariant
+returns c =
+    let net = c.args.net.now in
+    let all : c.loop-q.q ≡ length net.reactions = omega (arith, c.loop-q-test.false, c.loop-q.auto.q-end, c.reactions-q-end.ensures.count) in
+    subst (λ (n : ℕ). AreRaised net c.args.c n c.args.words.now c.loop-q.words) all c.loop-q.invariant

@@ -30,10 +30,10 @@ returns-in-Plus c =
     let inside : i < length (others net r) = subst (λ (n : Net). i < length (others n r)) s.net_is c.requires.inside in
     let is : complex ≡ get_or (others net r) i complex = c.index-c.ensures ∙ ap (λ (l : List ℕ). get_or l i complex) s.further_is in
     subst (Requires r i c.args.option old new) (sym s.net_is) (λ p long given.
-      let lt : length p < length (others net r) = omega (arith, long, inside) in
-      subst (λ (o : Sign). AskFirmly net r (Plus ∷ (p ++ o ∷ [])) new) (sym c.in-Plus.is)
-      (option_plus net r p complex h c.asked_of_sign.result old c.put_asked.new.words new lt (is ∙ ap (λ (j : ℕ). get_or (others net r) j complex) (sym long))
-        (omega (arith, long, c.species-species.ensures.count, c.reactions-reactions.ensures.count)) (c.asked_of_sign.ensures ∙ ap kind_of_sign c.in-Plus.is) c.put_asked.ensures c.put_rises.ensures given))
+    let lt : length p < length (others net r) = omega (arith, long, inside) in
+    subst (λ (o : Sign). AskFirmly net r (Plus ∷ (p ++ o ∷ [])) new) (sym c.in-Plus.is)
+    (option_plus net r p complex h c.asked_of_sign.result old c.put_asked.new.words new lt (is ∙ ap (λ (j : ℕ). get_or (others net r) j complex) (sym long))
+    (omega (arith, long, c.species-species.ensures.count, c.reactions-reactions.ensures.count)) (c.asked_of_sign.ensures ∙ ap kind_of_sign c.in-Plus.is) c.put_asked.ensures c.put_rises.ensures given))
 
 pub returns-in-Zero : goal.returns-in-Zero
 returns-in-Zero c =
@@ -46,8 +46,8 @@ returns-in-Zero c =
     let h = c.species-species.result + c.reactions-reactions.result + c.reactions-reactions.result + i in
     let inside : i < length (others net r) = subst (λ (n : Net). i < length (others n r)) s.net_is c.requires.inside in
     subst (Requires r i c.args.option old new) (sym s.net_is) (λ p long given.
-      option_still net r c.args.option p h c.asked_of_sign.result old new (ap (λ (o : Sign). firm_kind (at_least_zero_if (is_plus o))) c.in-Zero.is) (omega (arith, long, inside))
-        (omega (arith, long, c.species-species.ensures.count, c.reactions-reactions.ensures.count)) c.asked_of_sign.ensures c.put_asked.ensures given)
+    option_still net r c.args.option p h c.asked_of_sign.result old new (ap (λ (o : Sign). firm_kind (at_least_zero_if (is_plus o))) c.in-Zero.is) (omega (arith, long, inside))
+    (omega (arith, long, c.species-species.ensures.count, c.reactions-reactions.ensures.count)) c.asked_of_sign.ensures c.put_asked.ensures given)
 
 pub returns-in-Minus : goal.returns-in-Minus
 returns-in-Minus c =
@@ -60,5 +60,5 @@ returns-in-Minus c =
     let h = c.species-species.result + c.reactions-reactions.result + c.reactions-reactions.result + i in
     let inside : i < length (others net r) = subst (λ (n : Net). i < length (others n r)) s.net_is c.requires.inside in
     subst (Requires r i c.args.option old new) (sym s.net_is) (λ p long given.
-      option_still net r c.args.option p h c.asked_of_sign.result old new (ap (λ (o : Sign). firm_kind (at_least_zero_if (is_plus o))) c.in-Minus.is) (omega (arith, long, inside))
-        (omega (arith, long, c.species-species.ensures.count, c.reactions-reactions.ensures.count)) c.asked_of_sign.ensures c.put_asked.ensures given)
+    option_still net r c.args.option p h c.asked_of_sign.result old new (ap (λ (o : Sign). firm_kind (at_least_zero_if (is_plus o))) c.in-Minus.is) (omega (arith, long, inside))
+    (omega (arith, long, c.species-species.ensures.count, c.reactions-reactions.ensures.count)) c.asked_of_sign.ensures c.put_asked.ensures given)
