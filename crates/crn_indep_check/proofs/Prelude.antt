@@ -13,7 +13,7 @@ pub use Rattle.crn_cert.specs.declared.answer.Verdict.TheVariants.{Rank}
 pub use Rattle.crn_indep_check.specs.Finest.{IsIndependentDecomposition, all_reactions, label_of, part_reactions}
 pub use Rattle.crn_indep_check.specs.Inner.Ties.{IsEvenAt, IsGreatest}
 pub use Rattle.crn_indep_check.specs.Law.{ShownDecompositionsAreFinest, ValidAnswersAreTrue}
-pub use Rattle.crn_indep_check.specs.Shown.{AreEvenLabels, AreLinked, AreTied, DrawsOn, FailsShown, HangsByTie, IsProofForm, IsShownForm, comb_for, combined, greatest, label_record, part_ranks}
+pub use Rattle.crn_indep_check.specs.Shown.{AreEvenLabels, AreLinked, AreTied, DrawsOn, FailsShown, HangsByTie, IsProofForm, IsShownForm, comb_for, combined, count_outside, greatest, label_record, part_ranks}
 pub use Rattle.crn_indep_check.specs.declared.parts.Parts.TheVariants.{Split, Wide}
 pub use Rattle.crn_space.proofs.CallerLemmas.{IsPart, ascending_few, counted, counted_all, in_part, part_few, part_filter, part_filters, part_independent, part_later, part_map, placed, zero_more}
 pub use Rattle.crn_vec.proofs.CallerLemmas.{above_in, any_is, ascending_at, ascending_tail, at_in, base_gives_rank, distrib, dot-plus, dot-scale, dot_none, entry-plus, entry-scale, eq_or, filter_few, filter_from, filter_has, filter_no, filter_yes, first_goes, first_stays, in_at, in_range, is_zero, left-comm, length-plus, length-scale, length-zeros, lt_or, no_zero, not_true, plus, range_ascending, range_bounds, range_more, rank_is_one_number, refused, zeros, zeros-dot}

@@ -114,14 +114,14 @@ pub(crate) fn are_tied(net: &Network, proof: &RankProof, r: u32, q: u32) -> bool
         || draws_on(net, proof, q, row_for(net, proof, q), r)
 }
 
-// Whether a reaction has the label of whatever it draws on.
-fn is_even_at(net: &Network, proof: &RankProof, labels: &[u32], r: u32) -> bool
+// Whether a reaction has the label of whatever it draws on, by the row of its combination.
+fn is_even_at(net: &Network, proof: &RankProof, labels: &[u32], r: u32, row: Option<usize>) -> bool
     requires form { IsProofForm net.now proof.now }
     requires long { length labels.now ≡ length net.now.reactions }
     requires inside { IsFrom 1 (length net.now.reactions) r }
+    requires row { GivesRow net.now proof.now r row }
     ensures { IsTrue result ↔ IsEvenAt net.now proof.now labels.now r }
 {
-    let row = row_for(net, proof, r);
     let base = proof.base.as_slice();
     for b in base {
         if labels[*b as usize - 1] != labels[r as usize - 1] {
@@ -139,8 +139,11 @@ pub(crate) fn are_even(net: &Network, proof: &RankProof, labels: &[u32]) -> bool
     requires long { length labels.now ≡ length net.now.reactions }
     ensures { IsTrue result ↔ ((r : ℕ) → IsEvenAt net.now proof.now labels.now r) }
 {
+    let mut count = 0;
     for k in 0..net.reactions() {
-        if !is_even_at(net, proof, labels, k as u32 + 1) {
+        let r = k as u32 + 1;
+        let row = next_row(net, proof, r, &mut count);
+        if !is_even_at(net, proof, labels, r, row) {
             return false;
         }
     }
