@@ -1,5 +1,5 @@
--- What accepted verdicts say of linkage classes, strong classes and the rank.
-use Rattle.crn_robust.proofs.Prelude.{◌≡◌, ◌⊎◌, ℕ, ◌+◌, ◌≤◌, inl, inr, length, refl, arith, KeptNums, Net, IsNetwork, IsRank, vectors, IsDeficiency, Verdict, Classes, Strong, Rank, Unknown, Q1, Q2, Q5, on, IsOpen, count_of, labels_of, exits_of, IsTrueOf, AreLinkageClasses, IsTrueOrOpen, KeptFacts, AreFactsOf, sound_on, linkage_true, strong_true, number_of_classes, rank_leaves, HasStrong, HoldsBlocks}
+-- What true verdicts say of linkage classes, strong classes and the rank.
+use Rattle.crn_robust.proofs.Prelude.{◌≡◌, ◌⊎◌, ℕ, ◌+◌, ◌≤◌, inl, inr, length, refl, arith, KeptNums, Net, IsNetwork, IsRank, vectors, IsDeficiency, Verdict, Classes, Strong, Rank, Unknown, Q1, Q2, Q5, IsOpen, count_of, labels_of, exits_of, IsTrueOf, AreLinkageClasses, IsTrueOrOpen, number_of_classes, rank_leaves, HasStrong}
 
 linkage_known : (net : Net) (v : Verdict) → IsTrueOf net Q1 v → AreLinkageClasses net (count_of v) (labels_of v)
 linkage_known net (Classes count label) h = h
@@ -22,21 +22,15 @@ deficiency_by net v s d t r e =
       is = e;
     }
 
-pub classes_known : (net : Net) (facts : KeptFacts) → AreFactsOf net facts → HoldsBlocks facts.earlier → IsTrueOf net Q1 (on facts.earlier Q1)
-classes_known net facts f holds = linkage_true net facts f holds.linkage
-
 -- ---- strong classes
 
-strong_by : (net : Net) (v : Verdict) → IsTrueOf net Q2 v → HasStrong net (labels_of v) (exits_of v)
-strong_by net (Strong count terminal label exit) h = record {
+pub strong_known : (net : Net) (v : Verdict) → IsTrueOf net Q2 v → HasStrong net (labels_of v) (exits_of v)
+strong_known net (Strong count terminal label exit) h = record {
   long = h.places;
   classes = λ y lt. (h.right.positive y lt, omega (arith, h.count_is.most y lt, h.classes));
   exits_are = h.exits_are;
 }
-strong_by net v h = absurd h
-
-pub strong_known : (net : Net) (facts : KeptFacts) → AreFactsOf net facts → HoldsBlocks facts.earlier → HasStrong net (labels_of (on facts.earlier Q2)) (exits_of (on facts.earlier Q2))
-strong_known net facts f holds = strong_by net (on facts.earlier Q2) (strong_true net facts f holds.strong)
+strong_known net v h = absurd h
 
 -- ---- the rank
 
@@ -44,9 +38,6 @@ rank_or_open : (net : Net) (v : Verdict) → IsTrueOrOpen net Q5 v → IsOpen v 
 rank_or_open net (Unknown gap) h = inl tt
 rank_or_open net (Rank rank base) h = inr (rank, base, refl, h.rank_is)
 rank_or_open net v h = absurd h
-
-pub rank_known : (net : Net) (facts : KeptFacts) → AreFactsOf net facts → HoldsBlocks facts.earlier → IsTrueOrOpen net Q5 (on facts.earlier Q5)
-rank_known net facts f holds = sound_on net facts.earlier Q5 f.sound holds.rank
 
 -- a verdict that is a rank gives the rank
 pub rank_in : (net : Net) (rank : ℕ) (base : KeptNums) → IsTrueOrOpen net Q5 (Rank rank base) → IsRank (vectors net) rank

@@ -1,14 +1,11 @@
 -- What this crate's proofs use of other crates and of its specs.
 pub use Rattle.crn_cert.specs.Law.{IsTrueOrOpen}
-pub use Rattle.crn_cert.specs.Questions.{IsOpen, Q1, Q2, Q5, count_of, exits_of, labels_of, on}
+pub use Rattle.crn_cert.specs.Questions.{IsOpen, Q1, Q2, Q5, count_of, exits_of, labels_of}
 pub use Rattle.crn_cert.specs.Says.{AreLinkageClasses, IsTrueOf}
 pub use Rattle.crn_cert.specs.declared.answer.Verdict.{Verdict}
 pub use Rattle.crn_cert.specs.declared.answer.Verdict.TheVariants.{Classes, Rank, Strong, Unknown}
-pub use Rattle.crn_check.proofs.CallerLemmas.{linkage_true, sound_on, strong_true}
-pub use Rattle.crn_check.specs.Facts.{AreFactsOf, KeptFacts}
 pub use Rattle.crn_robust.specs.Inner.Pairs.{HasNoFirst, HasNoPartner, HasStrong, IsDifference}
 pub use Rattle.crn_robust.specs.Law.{CasesAreOne, CasesDecideRobustness, LinesAreTrue}
-pub use Rattle.crn_robust.specs.Pick.{HoldsBlocks}
 pub use Rattle.crn_robust.specs.Robust.{DifferAt, IsLeastPair, IsNoLater, IsRobustPair}
 pub use Rattle.crn_robust.specs.declared.robust.Robust.TheVariants.{None, Number, Rests, Yes}
 pub use Rattle.crn_space.proofs.CallerLemmas.{number_of_classes, one_leaves_line, rank_leaves}

@@ -13,6 +13,7 @@ pub use Rattle.crn_cert.specs.declared.answer.Gap.TheVariants.{Budget, Rests as 
 pub use Rattle.crn_cert.specs.declared.answer.Proof.{Proof}
 pub use Rattle.crn_cert.specs.declared.answer.Verdict.{Verdict}
 pub use Rattle.crn_cert.specs.declared.answer.Verdict.TheVariants.{Rank, Yes as SaysYes, Unknown}
+pub use Rattle.crn_check.proofs.CallerLemmas.{linkage_true, sound_on, strong_true}
 pub use Rattle.crn_check.specs.Facts.{AreFactsOf, HoldsNoneFrom, HoldsOn, KeptFacts}
 pub use Rattle.crn_ctext.proofs.CallerLemmas.{AllPlain, AreInOrder, AreTreeless, FitFields, HasNoEnd, IsAnswered, IsBounded, IsDecided, IsPlain, IsSmall, OfNetwork, Say, all_of, answers_by, answers_few, answers_learned, are_words, asks_part_settled, back_by, bare_back, bare_row, blocks_no_end, blocks_read, blocks_settled, blocks_written, both_decided, built_few, documents_are_judged, each_below, either_no_end, either_settled, ends_with, first_back, fitting_is_plain, formed_are_plain, formed_by, forms_yes, give_back, give_no_end, give_settled, given, if_decided, in_by_test, int_decided, le_decided, left_decided, line_of_word, line_on, lines_append, lines_two, lt_decided, meaning_decided, meaning_short, moved, nat_decided, networks_are_small, no_end_then, none_said, not_decided, number_back, number_then, one_back, one_decided, one_said, only, own_settled, part_document_short, part_no_end, part_settled, plain_is_line, record_is, sees_first, sees_rank, sees_second, settled_then, short_both, small_numbers, stops_first, stops_later, terminal_decided, test_back, test_no_end, test_on, valid_are_formed, valid_by, written_cuts, written_then, wrote_as}
 pub use Rattle.crn_ctext.specs.Answers.{records as answer_records, head_of, records_below, small_record}
@@ -42,13 +43,13 @@ pub use Rattle.crn_reading.specs.Steps.{CanRead, StepIs, StopIs}
 pub use Rattle.crn_reading.specs.declared.fault.CheckStop.{CheckStop}
 pub use Rattle.crn_reading.specs.declared.fault.CheckStop.TheVariants.{Rejected}
 pub use Rattle.crn_reading.specs.declared.reading.Reading.{Reading}
-pub use Rattle.crn_robust.proofs.CallerLemmas.{cases_are_one, classes_known, classes_leave, deficiency_by, rank_known}
-pub use Rattle.crn_robust.specs.Pick.{HoldsBlocks, IsPicked}
+pub use Rattle.crn_robust.proofs.CallerLemmas.{cases_are_one, classes_leave, deficiency_by}
+pub use Rattle.crn_robust.specs.Pick.{IsPicked}
 pub use Rattle.crn_robust.specs.Robust.{DifferAt, HasNoPair, IsCase, IsLeastPair, IsNoLater, IsRobustPair, SaysLine}
 pub use Rattle.crn_robust.specs.declared.robust.Robust.{Robust}
 pub use Rattle.crn_robust.specs.declared.robust.Robust.TheVariants.{None, Number, Rests, Yes}
 pub use Rattle.crn_robust_text.specs.Document.{AreInside, IsCaseBy, IsDeficiencyBy, IsFormed, IsOwn, IsReadAs, IsValid, Said, SaysLineBy, ValidAreTrue, ValidLinesAreTrue, WrittenAreDocuments, asks_case, asks_rests, asks_robust, asks_verdict, before, blocks_of, case_forms, case_in, case_records, earlier_of, is_open, line_forms, line_of, meant, part, records, rests_forms, rests_on, said_of, verdict_record, words}
-pub use Rattle.crn_robust_text.specs.Inner.LinesRead.{AreSmall, CaseSaid, Decides, IsTrueVerdict, ReadsVerdict, SaysOne}
+pub use Rattle.crn_robust_text.specs.Inner.LinesRead.{AreSmall, CaseSaid, Decides, HoldsBlocks, IsTrueVerdict, ReadsVerdict, SaysOne}
 pub use Rattle.crn_robust_text.specs.declared.verify.Verified.{Verified}
 pub use Rattle.crn_space.proofs.CallerLemmas.{one_leaves_line}
 pub use Rattle.crn_vec.proofs.CallerLemmas.{deficiency_is_one, eq_or, lt_or, past_end, vector_long, zip_append}

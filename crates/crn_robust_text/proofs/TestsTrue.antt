@@ -1,5 +1,5 @@
 -- The tests of a document say what they say of the network, if the blocks are true; and valid blocks are true or leave the rank open.
-use Rattle.crn_robust_text.proofs.Prelude.{◌≡◌, ◌⊎◌, ◌∙◌, ◌-◌, ℕ, false, List, [], ◌∷◌, length, refl, sym, ap, subst, inl, inr, arith, ◌↔◌, Option, NoRank, slice_index_or, Net, IsNetwork, IsDeficiency, HasConfluenceLine, deficiency_is_one, one_leaves_line, Answer, Wide, Budget, RestsOn, Proof, Verdict, Rank, Unknown, SaysYes, verdicts_of, Earlier, Q1, Q5, IsOpen, on, count_of, rank_of, IsFormedOf, AreFormed, IsTrueOrOpen, AllTrueOrOpen, AreBuilt, IsTrueOf, IsLeft, valid_documents_are_true, Record, AreValid, meaning, verdicts_said, AreInOrder, answers_by, back_by, valid_are_formed, Robust, Yes, Number, None, Rests, IsCase, SaysLine, classes_leave, deficiency_by, rests_on, IsDeficiencyBy, SaysLineBy, IsCaseBy, earlier_of, line_of, ValidAreTrue, ValidLinesAreTrue}
+use Rattle.crn_robust_text.proofs.Prelude.{◌≡◌, ◌⊎◌, ◌∙◌, ◌-◌, ℕ, false, List, [], ◌∷◌, length, refl, sym, ap, subst, inl, inr, arith, ◌↔◌, Option, NoRank, slice_index_or, Net, IsNetwork, IsDeficiency, HasConfluenceLine, deficiency_is_one, one_leaves_line, Answer, Wide, Budget, RestsOn, Proof, Verdict, Rank, Unknown, SaysYes, verdicts_of, Earlier, Q1, Q2, Q5, IsOpen, on, count_of, rank_of, IsFormedOf, AreFormed, IsTrueOrOpen, AllTrueOrOpen, AreBuilt, IsTrueOf, IsLeft, valid_documents_are_true, Record, AreValid, meaning, verdicts_said, AreInOrder, answers_by, back_by, valid_are_formed, Robust, Yes, Number, None, Rests, IsCase, SaysLine, classes_leave, deficiency_by, rests_on, IsDeficiencyBy, SaysLineBy, IsCaseBy, earlier_of, line_of, ValidAreTrue, ValidLinesAreTrue}
 use Rattle.std.specs.Prelude.{Some}
 
 -- the verdicts on linkage classes and on the rank are true, but for an open rank
@@ -74,6 +74,12 @@ first_closed net earlier (Unknown (Wide system class index basis)) p f t = absur
 first_closed net earlier (Unknown (Budget nodes)) p f t = absurd f.0.head
 first_closed net earlier (Unknown (RestsOn question)) p f t = absurd f.0.head
 first_closed net earlier v p f t = t
+
+pub second_closed : (net : Net) (earlier : Earlier) (v : Verdict) (p : Proof) → IsFormedOf net earlier Q2 v p → IsTrueOrOpen net Q2 v → IsTrueOf net Q2 v
+second_closed net earlier (Unknown (Wide system class index basis)) p f t = absurd f.0.head
+second_closed net earlier (Unknown (Budget nodes)) p f t = absurd f.0.head
+second_closed net earlier (Unknown (RestsOn question)) p f t = absurd f.0.head
+second_closed net earlier v p f t = t
 
 answers_true : (net : Net) (given : List Answer) (blocks : List (List Record)) → AreFormed net [] rests_on given → AllTrueOrOpen net rests_on given → verdicts_said rests_on (meaning.start net) blocks ≡ verdicts_of given → AreTrue net (earlier_of net blocks)
 answers_true net (a ∷ b ∷ c ∷ more) ((h ∷ rs) ∷ (i ∷ ss) ∷ (j ∷ ts) ∷ others) f t e = record {

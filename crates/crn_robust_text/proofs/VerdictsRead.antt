@@ -1,5 +1,5 @@
 -- The lines below the blocks, as they are read one after another.
-use Rattle.crn_robust_text.proofs.Prelude.{◌≡◌, ◌≢◌, ◌≤◌, ◌<◌, ◌+◌, ◌-◌, ◌^◌, ℕ, Bool, true, false, List, [], ◌∷◌, length, refl, sym, ap, subst, ◌∙◌, inl, inr, arith, Result, Ok, Err, beq, ℤ, pos, codes, not, ◌↔◌, slice_index_or, unsigned_abs, Net, IsNetwork, Gap, Verdict, Unknown, Earlier, Q5, on, SourceSeen, Record, small_form, Course, Give, ◌>>=◌, test_own, AfterBlocks, either, word_of, Known, asks_part, StepGives, first_number, only, one_back, KeptFacts, AreFactsOf, CanRead, StepIs, StopIs, IsPartSaid, Reading, CheckStop, Rejected, step_then_is, step_gives, stop_first, stop_after, IsGiven, find, place_is, own_holds, own_fails, Robust, Yes, Number, None, Rests, HoldsBlocks, IsPicked, IsCase, cases_are_one, classes_known, rank_known, words, rests_forms, line_forms, case_forms, case_in, AreInside, SaysLineBy, IsCaseBy, is_open, asks_rests, asks_case, asks_verdict, line_of, verdict_record, AreSmall, CaseSaid, Decides}
+use Rattle.crn_robust_text.proofs.Prelude.{◌≡◌, ◌≢◌, ◌≤◌, ◌<◌, ◌+◌, ◌-◌, ◌^◌, ℕ, Bool, true, false, List, [], ◌∷◌, length, refl, sym, ap, subst, ◌∙◌, inl, inr, arith, Result, Ok, Err, beq, ℤ, pos, codes, not, ◌↔◌, slice_index_or, unsigned_abs, Net, IsNetwork, Gap, Verdict, Unknown, Earlier, Q5, on, SourceSeen, Record, small_form, Course, Give, ◌>>=◌, test_own, AfterBlocks, either, word_of, Known, asks_part, StepGives, first_number, only, one_back, KeptFacts, AreFactsOf, CanRead, StepIs, StopIs, IsPartSaid, Reading, CheckStop, Rejected, step_then_is, step_gives, stop_first, stop_after, IsGiven, find, place_is, own_holds, own_fails, Robust, Yes, Number, None, Rests, HoldsBlocks, IsPicked, IsCase, cases_are_one, linkage_true, sound_on, words, rests_forms, line_forms, case_forms, case_in, AreInside, SaysLineBy, IsCaseBy, is_open, asks_rests, asks_case, asks_verdict, line_of, verdict_record, AreSmall, CaseSaid, Decides}
 use Rattle.crn_ctext.specs.Meaning.{number}
 use Rattle.crn_robust_text.proofs.TestsTrue.{AreTrue, case_true, true_case}
 use Rattle.crn_robust_text.proofs.Answered.{verdict_back, line_said, is_open_by}
@@ -84,7 +84,7 @@ is_shut v n = refl
 -- ---- which case holds
 
 -- the accepted verdicts decide the case, if they decide the rank
-pub decides : (net : Net) (facts : KeptFacts) (robust : Robust) → IsNetwork net → AreFactsOf net facts → HoldsBlocks facts.earlier → is_open (on facts.earlier Q5) ≡ false → IsPicked net facts.earlier robust → Decides net facts.earlier robust × IsCase net robust
+pub decides : (net : Net) (facts : KeptFacts) (robust : Robust) → IsNetwork net → AreFactsOf net facts → HoldsBlocks facts.earlier → is_open (on facts.earlier Q5) ≡ false → IsPicked net (on facts.earlier Q5) robust → Decides net facts.earlier robust × IsCase net robust
 decides net facts robust n f holds shut (inl p) = absurd (let opens : is_open (on facts.earlier Q5) ≡ true = is_open_by (on facts.earlier Q5) p.0 in cc)
 decides net facts robust n f holds shut (inr p) = (
   record {
@@ -96,7 +96,7 @@ decides net facts robust n f holds shut (inr p) = (
 )
   where
     t : AreTrue net facts.earlier
-    t = record { classes = classes_known net facts f holds; rank = rank_known net facts f holds }
+    t = record { classes = linkage_true net facts f holds.linkage; rank = sound_on net facts.earlier Q5 f.sound holds.rank }
 
 -- the number of the line is right if and only if it says what the case says
 pub line_right : (net : Net) (earlier : Earlier) (robust : Robust) (place : ℕ) (read : List ℤ) (r : Record) → Decides net earlier robust → IsPartSaid words line_forms place read r → SaysLineBy net earlier (first_number r.numbers) ↔ ((number read 0 ≡ 1) ↔ (line_of robust ≡ 1))

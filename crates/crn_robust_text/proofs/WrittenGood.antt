@@ -1,7 +1,8 @@
 -- What is written of formed and valid answers and of the verdict that they give is a document.
-use Rattle.crn_robust_text.proofs.Prelude.{◌≡◌, ◌≤◌, ◌-◌, ◌<◌, false, List, [], ◌∷◌, length, refl, sym, subst, inl, inr, arith, get_or, codes, length-append, Net, IsNetwork, vector_long, Answer, Earlier, Q1, Q5, AreFormed, AllTrueOrOpen, true_tight, is_true_tight, valid_documents_are_true, all_records, verdicts_on, meaning, all_of, answers_few, answers_learned, built_few, formed_by, meaning_short, networks_are_small, valid_by, part_document_short, Robust, Yes, Number, None, Rests, IsPicked, IsCase, rests_on, IsCaseBy, case_records, Said, earlier_of, AreInside, IsFormed, records, said_of, WrittenAreDocuments}
+use Rattle.crn_robust_text.proofs.Prelude.{◌≡◌, ◌≤◌, ◌-◌, ◌<◌, false, List, [], ◌∷◌, length, refl, sym, subst, inl, inr, arith, get_or, codes, length-append, Net, IsNetwork, vector_long, Answer, Earlier, Q1, Q2, Q5, on, IsTrueOf, IsTrueOrOpen, AreFormed, AllTrueOrOpen, true_tight, is_true_tight, valid_documents_are_true, all_records, verdicts_on, meaning, all_of, answers_few, answers_learned, built_few, formed_by, meaning_short, networks_are_small, valid_by, part_document_short, Robust, Yes, Number, None, Rests, IsPicked, IsCase, rests_on, IsCaseBy, case_records, Said, earlier_of, AreInside, IsFormed, records, said_of, WrittenAreDocuments}
+use Rattle.crn_cert.specs.Valid as cert
 use Rattle.crn_ctext.specs.Documents as documents
-use Rattle.crn_robust_text.proofs.TestsTrue.{AreTrue, each_built, first_closed, in_order, true_case}
+use Rattle.crn_robust_text.proofs.TestsTrue.{AreTrue, each_built, first_closed, second_closed, in_order, true_case}
 use Rattle.crn_robust_text.proofs.Answered.{records_plain, robust_is_answered, treeless}
 
 -- the numbers of the case that holds are within their ranges
@@ -25,8 +26,14 @@ answers_true net [] f t = absurd f
 answers_true net (a ∷ []) f t = absurd f.1
 answers_true net (a ∷ b ∷ []) f t = absurd f.1.1
 
+-- and those on linkage classes and strong classes are not open
+pub blocks_true : (net : Net) (linkage strong rank : Answer) → IsNetwork net → AreFormed net [] rests_on (linkage ∷ strong ∷ rank ∷ []) → cert.AreValid net [] rests_on (linkage ∷ strong ∷ rank ∷ []) → IsTrueOf net Q1 linkage.verdict × IsTrueOf net Q2 strong.verdict × IsTrueOrOpen net Q5 rank.verdict
+blocks_true net linkage strong rank n formed valid =
+    let t = valid_documents_are_true rests_on net (linkage ∷ strong ∷ rank ∷ []) each_built n formed valid in
+    (first_closed net _ linkage.verdict linkage.proof formed.0 t.0, second_closed net _ strong.verdict strong.proof formed.1.0 t.1.0, t.1.1.0)
+
 -- the verdict that they give is the case by their records, and within its ranges
-picked_by : (net : Net) (earlier : Earlier) (robust : Robust) → IsNetwork net → AreTrue net earlier → IsPicked net earlier robust → IsCaseBy net earlier robust × AreInside net robust
+picked_by : (net : Net) (earlier : Earlier) (robust : Robust) → IsNetwork net → AreTrue net earlier → IsPicked net (on earlier Q5) robust → IsCaseBy net earlier robust × AreInside net robust
 picked_by net earlier robust n t (inl p) = subst (λ (r : Robust). IsCaseBy net earlier r × AreInside net r) (sym p.1) (p.0, tt)
 picked_by net earlier robust n t (inr p) = (true_case net earlier robust n t p.0 p.1, inside_by net robust n p.1)
 

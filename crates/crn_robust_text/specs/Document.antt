@@ -213,7 +213,7 @@ said_of net answers robust = record {
 abbrev pub WrittenAreDocuments : Type 0
 WrittenAreDocuments = (net : Net) (answers : List Answer) (robust : Robust) → IsNetwork net
     → cert.AreFormed net [] rests_on answers → cert_valid.AreValid net [] rests_on answers
-    → IsPicked net (verdicts_on rests_on answers) robust
+    → IsPicked net (on (verdicts_on rests_on answers) Q5) robust
     → IsPartDocument part meant net (said_of net answers robust)
     (part_document part.name net (records (said_of net answers robust)))
 

@@ -7,11 +7,10 @@ ghost use Rattle.crn_check.specs.Facts.{AreFactsOf, HoldsOn};
 ghost use Rattle.crn_document.specs.Facts.{after_facts};
 ghost use Rattle.crn_reading.specs.Records.{IsPartSaid};
 ghost use Rattle.crn_reading.specs.Steps.{GoesOn, StepIs};
-ghost use Rattle.crn_robust.specs.Pick.{HoldsBlocks};
 ghost use Rattle.crn_robust.specs.declared.robust.Robust.{Robust as Said};
 ghost use Rattle.crn_robust.specs.declared.robust.Robust.TheVariants.{Yes};
 ghost use Rattle.crn_robust_text.specs.Document.{asks_case, asks_verdict, is_open, line_of};
-ghost use Rattle.crn_robust_text.specs.Inner.LinesRead.{AreSmall, CaseSaid, Decides, IsTrueVerdict, ReadsVerdict, SaysOne};
+ghost use Rattle.crn_robust_text.specs.Inner.LinesRead.{AreSmall, CaseSaid, Decides, HoldsBlocks, IsTrueVerdict, ReadsVerdict, SaysOne};
 
 use crate::lines::{next_case, next_line, next_rests};
 use crn_cert::Verdict;
@@ -160,7 +159,7 @@ pub(crate) fn next_verdict<S: Source>(
         next_rests(source, at)?;
         return Ok(Robust::Rests);
     }
-    let robust = pick(net, facts);
+    let robust = pick(net, facts.verdict(1), facts.verdict(2), facts.verdict(5));
     next_decided(source, at, net, &robust)?;
     Ok(robust)
 }

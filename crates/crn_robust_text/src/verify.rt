@@ -11,9 +11,8 @@ ghost use Rattle.crn_reading.specs.Ending.{EndStepIs, LastIs};
 ghost use Rattle.crn_reading.specs.Reads.{IsAnsweredBy, ReadingGives};
 ghost use Rattle.crn_robust.specs.declared.robust.Robust.{Robust as Said};
 ghost use Rattle.crn_robust.specs.declared.robust.Robust.TheVariants.{Rests};
-ghost use Rattle.crn_robust.specs.Pick.{HoldsBlocks};
 ghost use Rattle.crn_robust_text.specs.Document.{IsReadAs, asks_robust, before, part, rests_on, words};
-ghost use Rattle.crn_robust_text.specs.Inner.LinesRead.{IsTrueVerdict, ReadsVerdict};
+ghost use Rattle.crn_robust_text.specs.Inner.LinesRead.{HoldsBlocks, IsTrueVerdict, ReadsVerdict};
 
 use crate::lines::next_last;
 use crate::verdict::{next_verdict, says_line};

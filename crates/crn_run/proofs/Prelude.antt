@@ -14,23 +14,21 @@ pub use Rattle.clap.specs.declared.error.Error.{Error}
 pub use Rattle.clap.specs.declared.error.kind.ErrorKind.{ErrorKind}
 pub use Rattle.clap.specs.declared.error.kind.ErrorKind.TheVariants.{OutOfMemory}
 pub use Rattle.clap.specs.declared.parser.matches.ArgMatches.{ArgMatches}
-pub use Rattle.crn_cert.proofs.CallerLemmas.{formed_answers_have_formed_verdicts, have_more, is_true_tight}
+pub use Rattle.crn_cert.proofs.CallerLemmas.{formed_answers_have_formed_verdicts, have_more, is_true_tight, open_tight}
 pub use Rattle.crn_cert.specs.Answers.{verdicts_of}
 pub use Rattle.crn_cert.specs.Built.{built}
 pub use Rattle.crn_cert.specs.Faults.{AfterEnd, BadEvidence, BadField, BadHeader, BadLeaf, BadNetwork, BadVector, DocumentTooLong, EndsEarly, LineTooLong, NodeNotAllowed, NotIndependent, NotSpanned, NumberWide, TreeEndsEarly, TreeGoesOn, UnknownWord, WrongClasses, WrongNumber, WrongOrder, WrongShape, WrongVerdict, WrongWalk, fault_number}
 pub use Rattle.crn_cert.specs.Formed.{AreFormed}
 pub use Rattle.crn_cert.specs.FormedVerdicts.{AreFormedVerdicts}
+pub use Rattle.crn_cert.specs.Law.{IsTrueOrOpen}
 pub use Rattle.crn_cert.specs.Licensed.{AllTrueOrLicensed, IsTrueOrLicensed}
 pub use Rattle.crn_cert.specs.Questions.{Earlier, IsOpen, Q1, Q2, Q5, Question, on}
 pub use Rattle.crn_cert.specs.Shares.{Shared}
-pub use Rattle.crn_cert.specs.Tests.{AllHold, FailsFirst, Test}
 pub use Rattle.crn_cert.specs.TreeSizes.{HaveFewNodes}
 pub use Rattle.crn_cert.specs.Valid.{AreValid}
 pub use Rattle.crn_cert.specs.Verdicts.{tight}
 pub use Rattle.crn_cert.specs.declared.answer.Answer.{Answer}
 pub use Rattle.crn_cert.specs.declared.answer.Verdict.{Verdict}
-pub use Rattle.crn_check.specs.Check.{Judges}
-pub use Rattle.crn_check.specs.declared.fault.CheckFault.{CheckFault}
 pub use Rattle.crn_ctext.proofs.CallerLemmas.{answers_formed, documents_are_judged, ends_with, first_is_one, gives_one, gives_or_fails, good_documents_are_read, good_one, records_answered, answers_formed as records_formed, stops_first, stops_later}
 pub use Rattle.crn_ctext.specs.Blocks.{ReadOf, course}
 pub use Rattle.crn_ctext.specs.Course.{IsReported}
@@ -39,6 +37,7 @@ pub use Rattle.crn_ctext.specs.Documents.{FitsShare, Share, document2, share_of}
 pub use Rattle.crn_ctext.specs.Judged.{AreFormedOf, IsGood, IsReadOf, ReadDocumentsAreGood}
 pub use Rattle.crn_ctext.specs.Linked.{AreSound, FormedRecordsAreOfAnswers, SharedDocumentsAreGood, SharesFit, records_of}
 pub use Rattle.crn_ctext.specs.Meaning.{meaning, versions}
+pub use Rattle.crn_ctext.specs.PartBlocks.{verdicts_on}
 pub use Rattle.crn_ctext.specs.Parts.{AreJudged, IsPartDocument, IsPartFault, IsPartRead, part_document}
 pub use Rattle.crn_ctext.specs.Records.{Record, numbers_text}
 pub use Rattle.crn_ctext.specs.Shares.{as_share}
@@ -78,7 +77,7 @@ pub use Rattle.crn_robust.specs.Law.{CasesDecideRobustness, IsTrueOf}
 pub use Rattle.crn_robust.specs.Pick.{IsPicked}
 pub use Rattle.crn_robust.specs.Robust.{IsCase}
 pub use Rattle.crn_robust.specs.declared.robust.Robust.TheVariants.{Number, Rests}
-pub use Rattle.crn_robust_text.proofs.CallerLemmas.{blocks_learned, course_settled, robust_is_answered, course_settled as robust_settled}
+pub use Rattle.crn_robust_text.proofs.CallerLemmas.{blocks_learned, blocks_true, course_settled, robust_is_answered, course_settled as robust_settled}
 pub use Rattle.crn_robust_text.specs.Document.{AreInside, IsFormed, IsReadAs, IsValid, ValidAreTrue, ValidLinesAreTrue, blocks_of, earlier_of, rests_on, said_of}
 pub use Rattle.crn_run.specs.Inner.Network.{NetworkRead}
 pub use Rattle.crn_run.specs.Inner.Parse.{Means, MeansBudget, MeansNumber, MeansPart, is_two_dashes}

@@ -1,9 +1,10 @@
 -- Proofs and verdicts of the part `robust`.
-use Rattle.crn_run.proofs.Prelude.{◌≡◌, ◌⊎◌, ◌≤◌, ◌<◌, ◌+◌, ◌-◌, ◌^◌, ◌++◌, ℕ, List, [], ◌∷◌, length, inl, inr, subst, sym, ◌∙◌, arith, OnOk, decimal, slice_get, slice_index_or, same_Some, length-decimal-le_wide, length-append, Net, IsNetwork, IsName, all_at, MAX_DOCUMENT, Test, AllHold, FailsFirst, Earlier, IsOpen, Q5, on, IsPartRead, CasesDecideRobustness, IsTrueOf, IsPicked, IsCase, Number, Rests, AreInside, IsFormed, IsValid, ValidAreTrue, ValidLinesAreTrue, blocks_of, earlier_of, rests_on, said_of, blocks_learned, course_settled, robust_is_answered, AreFormed, AreValid, IsTrueOrLicensed, Q1, Q2, tight, Answer, Verdict, is_true_tight, documents_are_judged, Judges, CheckFault, AreRankAnswers, AreTrueOnRobustness, IsLicensedOnRobustness, robust_verdict}
+use Rattle.crn_run.proofs.Prelude.{◌≡◌, ◌⊎◌, ◌≤◌, ◌<◌, ◌+◌, ◌-◌, ◌^◌, ◌++◌, ℕ, List, [], ◌∷◌, length, inl, inr, subst, sym, ◌∙◌, arith, OnOk, decimal, slice_get, slice_index_or, same_Some, length-decimal-le_wide, length-append, Net, IsNetwork, IsName, all_at, MAX_DOCUMENT, Earlier, IsOpen, Q5, on, IsPartRead, CasesDecideRobustness, IsTrueOf, IsPicked, IsCase, Number, Rests, AreInside, IsFormed, IsValid, ValidAreTrue, ValidLinesAreTrue, blocks_of, earlier_of, rests_on, said_of, blocks_learned, course_settled, robust_is_answered, AreFormed, AreValid, IsTrueOrLicensed, Q1, Q2, tight, Answer, Verdict, is_true_tight, documents_are_judged, AreRankAnswers, AreTrueOnRobustness, IsLicensedOnRobustness, robust_verdict, IsTrueOrOpen, open_tight, verdicts_on, blocks_true}
 use Rattle.std.specs.Prelude.{Option, Some, Result, Ok, Err, codes}
 use Rattle.crn_robust.specs.declared.robust.Robust.{Robust}
 use Rattle.crn_robust.specs.declared.robust.Robust.TheVariants.{Yes, None}
 use Rattle.crn_robust_text.specs.Document.{Said, meant, part}
+use Rattle.crn_cert.specs.Says as verdicts
 use Rattle.crn_cert.specs.declared.answer.Verdict.TheVariants as verdict
 use Rattle.crn_cert.specs.declared.answer.Gap.TheVariants as gap
 
@@ -54,18 +55,7 @@ rank_licensed net budget (a ∷ b ∷ c ∷ d ∷ e ∷ more) robust n (linkage,
     subst (λ (earlier : Earlier). IsTrueOrLicensed net budget [] Q5 (on earlier Q5)) (sym learned_is)
     (licensed_alone net budget ((Q1, tight a.verdict) ∷ (Q2, tight b.verdict) ∷ []) e.verdict rank.answered)
 
--- a test that fails is none of those that hold
-pub none_fails : (ts : List {1} Test) (place code : ℕ) → AllHold ts → FailsFirst ts place code → ⊥
-none_fails [] place code all fails = fails
-none_fails (t ∷ ts) place code all (inl here) = here.0 all.0
-none_fails (t ∷ ts) place code all (inr later) = none_fails ts place code all.1 later.1
-
--- ---- verdicts that are taken up
-
--- the check of a valid answer makes its verdict one of the facts
-pub taken : (tests : List {1} Test) (result : Result Unit CheckFault) (earlier : Earlier) (wanted : Earlier) → AllHold tests → Judges tests result → OnOk result (earlier ≡ wanted) → earlier ≡ wanted
-taken tests (Ok done) earlier wanted valid judged accepted = accepted
-taken tests (Err fault) earlier wanted valid judged accepted = absurd (none_fails tests fault.part fault.code valid judged)
+-- ---- the case by these answers
 
 -- the three answers are there
 pub hold_five : (net : Net) (answers : List Answer) → AreFormed net [] rests_on (blocks_of answers) → 5 ≤ length answers
@@ -95,6 +85,21 @@ three_formed net answers linkage strong rank f first second fifth = subst (AreFo
 
 pub three_valid : (net : Net) (answers : List Answer) (linkage strong rank : Answer) → AreFormed net [] rests_on (blocks_of answers) → AreValid net [] rests_on (blocks_of answers) → slice_get answers 0 ≡ Some linkage → slice_get answers 1 ≡ Some strong → slice_get answers 4 ≡ Some rank → AreValid net [] rests_on (linkage ∷ strong ∷ rank ∷ [])
 three_valid net answers linkage strong rank f v first second fifth = subst (AreValid net [] rests_on) (blocks_are answers linkage strong rank (hold_five net answers f) first second fifth) v
+
+-- and true, but for an open rank
+pub three_true : (net : Net) (answers : List Answer) (linkage strong rank : Answer) → IsNetwork net → AreFormed net [] rests_on (blocks_of answers) → AreValid net [] rests_on (blocks_of answers) → slice_get answers 0 ≡ Some linkage → slice_get answers 1 ≡ Some strong → slice_get answers 4 ≡ Some rank → verdicts.IsTrueOf net Q1 linkage.verdict × verdicts.IsTrueOf net Q2 strong.verdict × IsTrueOrOpen net Q5 rank.verdict
+three_true net answers linkage strong rank n f v first second fifth =
+    blocks_true net linkage strong rank n (three_formed net answers linkage strong rank f first second fifth) (three_valid net answers linkage strong rank f v first second fifth)
+
+-- spares of the base change nothing
+picked_tight : (net : Net) (v : Verdict) (robust : Robust) → IsPicked net v robust → IsPicked net (tight v) robust
+picked_tight net v robust (inl p) = inl (subst (λ (A : Type 0). A) (sym (open_tight v)) p.0, p.1)
+picked_tight net v robust (inr p) = inr ((λ o. p.0 (subst (λ (A : Type 0). A) (open_tight v) o)), p.1)
+
+-- the case by the rank is that by the verdicts of the blocks
+pub picked_by_blocks : (net : Net) (answers : List Answer) (linkage strong rank : Answer) (robust : Robust) → AreFormed net [] rests_on (blocks_of answers) → slice_get answers 0 ≡ Some linkage → slice_get answers 1 ≡ Some strong → slice_get answers 4 ≡ Some rank → IsPicked net rank.verdict robust → IsPicked net (on (verdicts_on rests_on (blocks_of answers)) Q5) robust
+picked_by_blocks net answers linkage strong rank robust f first second fifth picked =
+    subst (λ (three : List Answer). IsPicked net (on (verdicts_on rests_on three) Q5) robust) (sym (blocks_are answers linkage strong rank (hold_five net answers f) first second fifth)) (picked_tight net rank.verdict robust picked)
 
 -- ---- truth
 

@@ -1,4 +1,4 @@
-ghost use Rattle.std.specs.Prelude.{◌≡◌, ◌≤◌, ◌⊎◌, ◌↔◌, ◌++◌, ℕ, List, [], ◌∷◌, IfOk, IsTrue, true};
+ghost use Rattle.std.specs.Prelude.{◌≡◌, ◌≤◌, ◌↔◌, ℕ, List, [], IsTrue, true};
 ghost use Rattle.crn_vec.specs.declared.limits.TheConstants.{MAX_BUDGET};
 ghost use Rattle.crn_siphon_check.specs.Answers.{said_of};
 ghost use Rattle.crn_siphon_check.specs.declared.answer.Outcome.TheVariants.{Undecided};
@@ -8,10 +8,9 @@ ghost use Rattle.crn_robust.specs.Pick.{IsPicked};
 ghost use Rattle.crn_robust.specs.declared.robust.Robust.TheVariants as robust;
 ghost use Rattle.crn_robust_text.specs.Document.{blocks_of, rests_on};
 ghost use Rattle.crn_ctext.specs.PartBlocks.{verdicts_on};
-ghost use Rattle.crn_cert.specs.Formed.{AreFormed, IsFormed};
-ghost use Rattle.crn_cert.specs.Valid.{AreValid, IsValid};
-ghost use Rattle.crn_cert.specs.Verdicts.{tight};
-ghost use Rattle.crn_check.specs.Facts.{AreFactsOf, HoldsNoneFrom, asked};
+ghost use Rattle.crn_cert.specs.Formed.{AreFormed};
+ghost use Rattle.crn_cert.specs.Questions.{Q5, on};
+ghost use Rattle.crn_cert.specs.Valid.{AreValid};
 ghost use Rattle.crn_endo_text.specs.Document.{seen_of as endo_seen_of};
 ghost use Rattle.crn_endo_text.specs.declared.seen.EndoSeen.TheVariants as endo;
 ghost use Rattle.crn_run.specs.Run.{RunGives};
@@ -24,8 +23,7 @@ use crate::output::{end_without_document, status_by};
 use crate::status::Status;
 use crate::verdicts::{write_decomposition, write_endotactic, write_persistence, write_robustness};
 use crate::words::PartName;
-use crn_cert::{Answer, Answers};
-use crn_check::{Facts, check_answer};
+use crn_cert::Answers;
 use crn_endo::endotactic;
 use crn_endo_check::{Endo, valid_answers_on_endotactic_networks_are_true};
 use crn_endo_text::{verify_endo, write_endo, written_documents_on_endotactic_networks_are_good};
@@ -43,7 +41,6 @@ use crn_siphon::persist;
 use crn_siphon_check::{Persist, valid_answers_on_persistence_are_true};
 use crn_siphon_text::{verify_persist, write_persist, written_documents_on_persistence_are_good};
 use crn_solve::solve_rank;
-use crn_vec::NoMemory;
 use std::alloc::Global;
 
 /// Answers the question of a part on a network, and writes the document of the answer. Takes memory, before it writes.
@@ -226,34 +223,18 @@ fn rests(answer: &Robust) -> bool
     matches!(answer, Robust::Rests)
 }
 
-// Takes up the verdict of a valid answer to a question on which robustness rests.
-fn take_up(net: &Network, facts: &mut Facts, question: u32, answer: &Answer)
-    requires asks { (question ≡ 1) ⊎ (question ≡ 2) ⊎ (question ≡ 5) }
-    requires facts { AreFactsOf net.now facts.old }
-    requires later { HoldsNoneFrom question facts.old.earlier }
-    requires formed { IsFormed net.now facts.old.earlier (asked question) answer.now }
-    requires valid { IsValid net.now facts.old.earlier (asked question) answer.now }
-    ensures held { facts.new.earlier
-        ≡ facts.old.earlier ++ (asked question, tight answer.now.verdict) ∷ [] }
-    ensures facts { AreFactsOf net.now facts.new }
-{
-    let _ = check_answer(net, facts, question, answer);
-}
-
 // The case that holds of a network, by valid answers on its linkage classes, its strong classes and its rank.
-fn case_by(alloc: Global, net: &Network, answers: &Answers) -> Result<Robust, NoMemory>
+fn case_by(net: &Network, answers: &Answers) -> Robust
     requires formed { AreFormed net.now [] rests_on (blocks_of answers.now) }
     requires valid { AreValid net.now [] rests_on (blocks_of answers.now) }
-    ensures { IfOk result (IsPicked net.now (verdicts_on rests_on (blocks_of answers.now))) }
+    ensures { let earlier = verdicts_on rests_on (blocks_of answers.now) in
+        IsPicked net.now (on earlier Q5) result }
 {
-    let mut facts = Facts::new(alloc, net)?;
+    net.meets_definition();
     let linkage = answers.get(1);
     let strong = answers.get(2);
     let rank = answers.get(5);
-    take_up(net, &mut facts, 1, linkage);
-    take_up(net, &mut facts, 2, strong);
-    take_up(net, &mut facts, 5, rank);
-    Ok(pick(net, &facts))
+    pick(net, &linkage.verdict, &strong.verdict, &rank.verdict)
 }
 
 // Answers whether the structural hypotheses on robustness hold, and writes the document of the answer. No search is bounded
@@ -266,10 +247,7 @@ fn prove_robust<K: Sink>(alloc: Global, net: &Network, sink: &mut K) -> Status
         Ok(answers) => answers,
         Err(_) => return Status::NoMemory,
     };
-    let robust = match case_by(alloc, net, &answers) {
-        Ok(robust) => robust,
-        Err(_) => return Status::NoMemory,
-    };
+    let robust = case_by(net, &answers);
     let whole = status_by(rests(&robust));
     cases_decide_robustness();
     valid_answers_on_robustness_are_true();

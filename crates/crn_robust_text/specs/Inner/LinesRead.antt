@@ -6,6 +6,7 @@ use Rattle.std.specs.List.{AllByRecursion}
 use Rattle.crn_vec.specs.Network.{Net}
 use Rattle.crn_cert.specs.Questions.{Earlier}
 use Rattle.crn_io.specs.Device.{SourceSeen}
+use Rattle.crn_check.specs.Facts.{HoldsOn}
 use Rattle.crn_ctext.specs.Course.{Course}
 use Rattle.crn_ctext.specs.Meaning.{number}
 use Rattle.crn_reading.specs.Steps.{StepIs}
@@ -15,6 +16,12 @@ use Rattle.crn_robust.specs.declared.robust.Robust.{Robust}
 use Rattle.crn_robust.specs.declared.robust.Robust.TheVariants.{Yes, Number, None, Rests}
 use Rattle.crn_robust.specs.Robust.{IsCase}
 use Rattle.crn_robust_text.specs.Document.{IsCaseBy}
+
+-- verdicts are held on the questions that robustness rests on: linkage classes, strong classes and the rank
+pub record HoldsBlocks (earlier : Earlier) : Type 0 where
+  pub linkage : HoldsOn earlier 1
+  pub strong : HoldsOn earlier 2
+  pub rank : HoldsOn earlier 5
 
 -- the course gives the number of the line that is due next, and the verdict that is answered
 abbrev pub ReadsVerdict : Course (ℕ × Robust) → Result Robust CheckStop → Reading → Reading

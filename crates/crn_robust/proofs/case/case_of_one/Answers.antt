@@ -1,4 +1,4 @@
-use Rattle.crn_robust.proofs.Prelude.{◌≡◌, ℕ, ◌+◌, ◌-◌, List, sym, ap, subst, ◌∙◌, arith, Verdict, Q2, on, labels_of, exits_of, IsLeastPair, HasStrong}
+use Rattle.crn_robust.proofs.Prelude.{◌≡◌, ℕ, ◌+◌, ◌-◌, List, sym, subst, arith, labels_of, IsLeastPair, HasStrong}
 use Rattle.crn_robust.proofs.Known.{strong_known}
 use Rattle.crn_robust.proofs.Pairs.{pair_small}
 use Rattle.crn_robust.proofs.case.case_of_one.Goals as goal
@@ -6,12 +6,8 @@ use Rattle.crn_robust.proofs.case.case_of_one.Goals as goal
 pub least_pair-requires : goal.least_pair-requires
 least_pair-requires c =
     let net = c.args.net.now in
-    let facts = c.args.facts.now in
-    let v = on facts.earlier Q2 in
-    let labels : c.labels_in.result.now ≡ labels_of v = c.labels_in.ensures ∙ ap (λ (w : Verdict). labels_of w) c.verdict-strong.ensures in
-    let exits : c.exits_in.result.now ≡ exits_of v = c.exits_in.ensures ∙ ap (λ (w : Verdict). exits_of w) c.verdict-strong.ensures in
-    let h : HasStrong net (labels_of v) (exits_of v) = strong_known net facts c.requires.facts c.requires.holds in
-    record { strong = subst (λ (l : List ℕ). HasStrong net l c.exits_in.result.now) (sym labels) (subst (HasStrong net (labels_of v)) (sym exits) h) }
+    let v = c.args.strong.now in
+    record { strong = subst (λ (l : List ℕ). HasStrong net l c.exits_in.result.now) (sym c.labels_in.ensures) (subst (HasStrong net (labels_of v)) (sym c.exits_in.ensures) (strong_known net v c.requires.strong)) }
 
 pub overflow_cast-result : goal.overflow_cast-result
 overflow_cast-result c =
