@@ -35,13 +35,13 @@ def import_line(module, items):
     return f"use {module}.{{{', '.join(name if name == of else f'{of} as {name}' for name, of in items)}}}\n"
 
 
-def named_once(text):
-    """The text, with a name once where an import has it twice."""
+def lines_of(text):
+    """The lines of a text, in whatever order, with a name once where an import has it twice."""
     lines = []
     for line in text.splitlines(keepends=True):
         module, items = items_of(line)
         lines.append(LINE.match(line)[1] + import_line(module, items.items()) if module else line)
-    return "".join(lines)
+    return sorted(lines)
 
 
 class Proofs:
@@ -134,7 +134,7 @@ def main():
     for listed in sorted(root.glob("crates/*/proofs/Lib.antt")):
         crate = listed.parts[-3]
         for path, text in Proofs(root, crate).written():
-            is_so = path.exists() and named_once(path.read_text()) == text
+            is_so = path.exists() and lines_of(path.read_text()) == lines_of(text)
             tally.count(f"{path.relative_to(root)} is as preludes.py --write {crate} has it", is_so)
     return tally.end()
 
