@@ -1,4 +1,4 @@
-mod Covers
+mod Nodes
 mod SetLaws
 mod Systems
 mod Places

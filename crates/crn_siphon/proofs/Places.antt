@@ -1,5 +1,6 @@
 -- What the visit of one prefix shows, and full prefixes that stand.
-use Rattle.crn_siphon.proofs.Prelude.{◌≡◌, ℕ, zero, suc, ◌-◌, ◌<◌, ◌≤◌, ◌⊎◌, inl, inr, Bool, true, false, List, [], ◌∷◌, length, map, get_or, refl, sym, ap, subst, ◌∙◌, arith, ℤ, pos, negsuc, ◌≤ℤ◌, AllByRecursion, false≢true, length-map, ints, Net, IsNetwork, IsVector, JoinsTwo, Holds, amount_at, entry, lt_or, all_at, all_in, in_at, past_end, AreFree, AreBits, HasMember, HoldsMember, IsSiphon, Covers, IsZeroOutside, set_of, IsOut, IsBad, IsVoid, IsFull, Stands, Bad, Law, Void, covered_has_none, Place, mark, IsPlace, AreIncreased, IsLawIn, HasNoBad, IsLeafAt, IsStanding}
+use Rattle.crn_siphon.proofs.Prelude.{◌≡◌, ℕ, zero, suc, ◌-◌, ◌<◌, ◌≤◌, ◌⊎◌, inl, inr, Bool, true, false, List, [], ◌∷◌, length, map, get_or, refl, sym, ap, subst, ◌∙◌, arith, ℤ, pos, negsuc, ◌≤ℤ◌, AllByRecursion, false≢true, length-map, ints, Net, IsNetwork, IsVector, JoinsTwo, Holds, amount_at, entry, lt_or, all_at, all_in, in_at, past_end, AreFree, AreBits, HasMember, HoldsMember, IsSiphon, Covers, IsZeroOutside, set_of, IsOut, IsBad, IsVoid, IsFull, Stands, Bad, Law, covered_has_none, Place, mark, IsPlace, AreIncreased, IsLawIn, HasNoBad, IsLeafAt, IsStanding}
+use Rattle.crn_siphon_check.specs.Trees.{Void}
 use Rattle.crn_siphon.proofs.SetLaws.{member_inside}
 
 -- ---- nodes
@@ -49,7 +50,7 @@ holds_inside net c s h = elim (lt_or s (length (get_or net.complexes c []))) as 
   | inr past ↦ absurd (let none : amount_at net c s ≡ pos 0 = past_end (get_or net.complexes c []) s past in omega (arith, ints, none, h))
 ]
 
-holds_or : (net : Net) (c s : ℕ) → Holds net c s ⊎ (Holds net c s → ⊥)
+pub holds_or : (net : Net) (c s : ℕ) → Holds net c s ⊎ (Holds net c s → ⊥)
 holds_or net c s = one_or (amount_at net c s)
   where
     one_or : (x : ℤ) → (pos 1 ≤ℤ x) ⊎ (pos 1 ≤ℤ x → ⊥)

@@ -3,5 +3,6 @@ pub mod Sets
 pub mod Places
 pub mod Systems
 pub mod Known
+pub mod Nodes
 pub mod Search
 pub mod Ends

@@ -1,25 +1,61 @@
-ghost use Rattle.std.specs.Prelude.{◌≤◌, length, IfOk, MatchResult};
+ghost use Rattle.std.specs.Prelude.{◌≡◌, ◌≤◌, [], length, IfOk, MatchResult};
 ghost use Rattle.crn_vec.specs.declared.limits.TheConstants.{MAX_BUDGET};
 ghost use Rattle.crn_vec.specs.Deficiency.{IsConservationLaw};
 ghost use Rattle.crn_cert.specs.Ranges.{AreFree};
 ghost use Rattle.crn_siphon_check.specs.Answers.{IsAnswer, said_of};
 ghost use Rattle.crn_siphon.specs.Inner.Known.{IsSearchStop};
 ghost use Rattle.crn_siphon.specs.Inner.Ends.{IsEndOfVisits, IsStopAnswer};
+ghost use Rattle.crn_siphon.specs.Inner.Search.{IsReady};
 
-use crate::ends::ends_of;
+use crate::ends::all_holders;
 use crate::known::nothing_known;
 use crate::place::ROOT;
 use crate::search::{End, Search, walk};
+use crate::sets::marks;
+use crate::tree::next_tree;
 use crn_conc::reaction_matrix;
 use crn_farkas::{Decision, Solver, Stop};
 use crn_net::Network;
-use crn_siphon_check::Persist;
+use crn_siphon_check::{Persist, SiphonTree};
 use crn_solve::law_or_cut;
 use crn_vec::{Ints, NoMemory};
 use std::alloc::Global;
 
-// How at most this many visits end, the first of which is that of the empty prefix.
-fn visit_all(alloc: Global, net: &Network, budget: u32) -> Result<End, Stop>
+// What the visits show.
+#[derive(Drop)]
+enum Shown {
+    /// A full prefix stands: its marks, and numbers that increase each member.
+    Siphon { marks: Ints, cover: Ints },
+    /// None does, as this tree shows.
+    Tree(SiphonTree),
+    /// The visits exceed the budget.
+    Spent,
+}
+
+// What the visits show, the first of which is that of the empty prefix.
+fn visit_root(net: &Network, search: &mut Search) -> Result<Shown, Stop>
+    requires ready { IsReady net.now search.old }
+    requires fresh { search.old.nodes.items ≡ [] }
+    ensures { MatchResult result (λ e. IsEndOfVisits net.now search.old.left e)
+        (λ s. IsSearchStop net.now s) }
+{
+    match walk(net, search, ROOT)? {
+        End::Found { inside, cover } => {
+            let marks = marks(search.alloc, inside, net.species())?;
+            let cover = search.known.covers[cover].numbers.copy()?;
+            Ok(Shown::Siphon { marks, cover })
+        }
+        End::Refuted => {
+            let mut at = 0;
+            let tree = next_tree(search.alloc, &search.known.laws, &search.nodes, &mut at)?;
+            Ok(Shown::Tree(tree))
+        }
+        End::Spent => Ok(Shown::Spent),
+    }
+}
+
+// What at most this many visits show.
+fn visit_all(alloc: Global, net: &Network, budget: u32) -> Result<Shown, Stop>
     ensures { MatchResult result (λ e. IsEndOfVisits net.now budget e)
         (λ s. IsSearchStop net.now s) }
 {
@@ -27,11 +63,12 @@ fn visit_all(alloc: Global, net: &Network, budget: u32) -> Result<End, Stop>
     let mut search = Search {
         alloc,
         solver: Solver::new(alloc, &matrix)?,
-        ends: ends_of(alloc, net)?,
+        holders: all_holders(alloc, net)?,
         known: nothing_known(alloc, net)?,
+        nodes: Vec::new(alloc),
         left: budget,
     };
-    walk(net, &mut search, ROOT)
+    visit_root(net, &mut search)
 }
 
 // The answer if a solver of this system stopped.
@@ -58,9 +95,9 @@ fn persist_by(alloc: Global, net: &Network, budget: u32, law: Ints) -> Result<Pe
 {
     net.meets_definition();
     match visit_all(alloc, net, budget) {
-        Ok(End::Found { marks, cover }) => Ok(Persist::NoSiphon { marks, cover }),
-        Ok(End::Refuted(tree)) => Ok(Persist::Yes { law, tree }),
-        Ok(End::Spent) => Ok(Persist::Spent { nodes: budget }),
+        Ok(Shown::Siphon { marks, cover }) => Ok(Persist::NoSiphon { marks, cover }),
+        Ok(Shown::Tree(tree)) => Ok(Persist::Yes { law, tree }),
+        Ok(Shown::Spent) => Ok(Persist::Spent { nodes: budget }),
         Err(stop) => stop_answer(2, stop),
     }
 }

@@ -5,8 +5,10 @@ mod answer;
 mod ends;
 mod kinds;
 mod known;
+mod node;
 mod place;
 mod search;
 mod sets;
+mod tree;
 
 pub use answer::persist;

@@ -1,7 +1,8 @@
-ghost use Rattle.std.specs.Prelude.{◌≡◌, ◌<◌, ◌+◌, ◌↔◌, ◌++◌, ◌∷◌, [], Bool, List, IsTrue, length};
+ghost use Rattle.std.specs.Prelude.{◌≡◌, ◌≢◌, ◌<◌, ◌+◌, ◌↔◌, ◌++◌, ◌∷◌, [], ℕ, Bool, List, IsTrue, length};
 ghost use Rattle.crn_vec.specs.declared.limits.TheConstants.{MAX_SPECIES};
 ghost use Rattle.crn_siphon_check.specs.Prefixes.{IsVoid};
 ghost use Rattle.crn_siphon.specs.Inner.Places.{IsPlace};
+ghost use Rattle.crn_siphon.specs.Inner.Sets.{Has};
 
 use crate::sets::{NONE, SpeciesSet};
 use crn_net::Network;
@@ -25,6 +26,8 @@ pub(crate) const ROOT: Place = Place {
 pub(crate) fn child(place: Place, is_in: bool) -> Place
     requires { place.chosen < MAX_SPECIES }
     ensures count { result.chosen ≡ place.chosen + 1 }
+    ensures inside { (s : ℕ) → s ≢ place.chosen → Has result.inside s ↔ Has place.inside s }
+    ensures outside { (s : ℕ) → s ≢ place.chosen → Has result.outside s ↔ Has place.outside s }
     ensures place { (p : List Bool) → IsPlace place p → IsPlace result (p ++ is_in ∷ []) }
 {
     let next = place.chosen;

@@ -1,66 +1,108 @@
-ghost use Rattle.std.specs.Prelude.{◌≡◌, ◌≤◌, ◌<◌, ◌++◌, ◌∷◌, [], Bool, List, length, OnOk, MatchResult};
-ghost use Rattle.crn_siphon.specs.Inner.Places.{IsPlace};
-ghost use Rattle.crn_siphon.specs.Inner.Known.{IsSearchStop};
-ghost use Rattle.crn_siphon.specs.Inner.Search.{EndsAt, EndsBelow, IsReady, IsVisit};
+ghost use Rattle.std.specs.Prelude.{◌≡◌, ◌≤◌, ◌<◌, ◌+◌, ◌++◌, ◌∷◌, [], Bool, List, length, OnOk, IfOk, IfSome, MatchResult};
+ghost use Rattle.crn_siphon.specs.Inner.Places.{IsPlace, NoneStops, StopsLast};
+ghost use Rattle.crn_siphon.specs.Inner.Known.{HasMore, IsSearchStop};
+ghost use Rattle.crn_siphon.specs.Inner.Search.{EndsAt, EndsBelow, HasGrown, IsReady, IsShown, IsVisit, NoneStopsIf};
 
-use crate::ends::{Ends, stopping};
-use crate::known::{Known, law_within};
+use crate::ends::{Holders, stopping};
+use crate::known::{Finding, Known, find};
+use crate::node::Node;
 use crate::place::{Place, child, is_void};
-use crate::sets::marks;
+use crate::sets::SpeciesSet;
+use crate::tree::put_node;
 use crn_farkas::{Solver, Stop};
 use crn_net::Network;
-use crn_siphon_check::SiphonTree;
-use crn_vec::Ints;
 use std::alloc::Global;
 
-/// What a search works with: memory, the solver of system 2, the ends of the reactions, what visits have shown, and the
-/// visits that are left.
+/// What a search works with: memory, the solver of system 2, the reactions that hold each species, what visits have shown,
+/// the nodes of the visits so far, and the visits that are left.
 #[derive(Drop)]
 pub(crate) struct Search {
     pub alloc: Global,
     pub solver: Solver,
-    pub ends: Vec<Ends>,
+    pub holders: Vec<Holders>,
     pub known: Known,
+    pub nodes: Vec<Node>,
     pub left: u32,
 }
 
 /// How the visits of a prefix, and of all below it, ended.
-#[derive(Drop)]
+#[derive(Clone, Copy)]
 pub(crate) enum End {
-    /// A full prefix stands: its marks, and numbers that increase each member.
-    Found { marks: Ints, cover: Ints },
-    /// None does, as this tree shows.
-    Refuted(SiphonTree),
+    /// A full prefix stands, with these species in, and the known numbers at this place increase each of them.
+    Found { inside: SpeciesSet, cover: usize },
+    /// None does, as the tree shows whose nodes were put at the end.
+    Refuted,
     /// The visits exceed those that are left.
     Spent,
 }
 
-// The node that stops the prefix, if it does not stand.
-fn visit(net: &Network, search: &mut Search, place: Place) -> Result<Option<SiphonTree>, Stop>
+/// What the visit of a prefix shows.
+#[derive(Clone, Copy)]
+pub(crate) enum Standing {
+    /// This node stops it.
+    Stops(Node),
+    /// It stands, and the known numbers at this place increase each species that is in.
+    Stands(usize),
+}
+
+// What the visit of a prefix shows.
+fn look(net: &Network, search: &mut Search, place: Place) -> Result<Standing, Stop>
     requires ready { IsReady net.now search.old }
     requires room { place.chosen ≤ length net.now.names }
+    requires last { StopsLast net.now place }
+    ensures none { IfOk result (λ v. NoneStopsIf net.now place v) }
     ensures left { search.new.left ≡ search.old.left }
+    ensures nodes { search.new.nodes.items ≡ search.old.nodes.items }
+    ensures laws { OnOk result
+        (HasMore search.old.known.laws.items search.new.known.laws.items) }
     ensures ready { OnOk result (IsReady net.now search.new) }
     ensures answer { (p : List Bool) → IsPlace place p →
-        MatchResult result (λ v. IsVisit net.now p search.new.known.cover.list v)
+        MatchResult result (λ v. IsShown net.now p search.new.known v)
         (λ s. IsSearchStop net.now s) }
 {
-    if let Some(r) = stopping(net, &search.ends, place) {
-        return Ok(Some(SiphonTree::Bad(r)));
+    if let Some(r) = stopping(net, &search.holders, place) {
+        return Ok(Standing::Stops(Node::Bad(r)));
     }
     if is_void(net, place) {
-        return Ok(Some(SiphonTree::Void));
+        return Ok(Standing::Stops(Node::Void));
     }
-    let law = law_within(
+    let found = find(
         search.alloc,
         net,
         &mut search.solver,
         &mut search.known,
         place.inside,
     )?;
-    match law {
-        Some(law) => Ok(Some(SiphonTree::Law(law))),
-        None => Ok(None),
+    match found {
+        Finding::Law(k) => Ok(Standing::Stops(Node::Law(k))),
+        Finding::Cover(k) => Ok(Standing::Stands(k)),
+    }
+}
+
+// Puts the node of a prefix, a fork if it stands. If it does, it gives the place of numbers that increase each species that is in.
+fn visit(net: &Network, search: &mut Search, place: Place) -> Result<Option<usize>, Stop>
+    requires ready { IsReady net.now search.old }
+    requires room { place.chosen ≤ length net.now.names }
+    requires last { StopsLast net.now place }
+    requires left { 1 ≤ search.old.left }
+    ensures none { IfOk result (λ v. IfSome v (λ _. NoneStops net.now place)) }
+    ensures left { search.new.left + 1 ≡ search.old.left }
+    ensures grown { OnOk result (HasGrown search.old search.new) }
+    ensures ready { OnOk result (IsReady net.now search.new) }
+    ensures answer { (p : List Bool) → IsPlace place p →
+        MatchResult result (λ v. IsVisit net.now p search.old search.new v)
+        (λ s. IsSearchStop net.now s) }
+{
+    search.left -= 1;
+    match look(net, search, place)? {
+        Standing::Stops(leaf) => {
+            put_node(&mut search.nodes, leaf)?;
+            Ok(None)
+        }
+        Standing::Stands(cover) => {
+            put_node(&mut search.nodes, Node::Fork)?;
+            Ok(Some(cover))
+        }
     }
 }
 
@@ -69,28 +111,20 @@ fn visit(net: &Network, search: &mut Search, place: Place) -> Result<Option<Siph
 fn fork(net: &Network, search: &mut Search, place: Place) -> Result<End, Stop>
     requires ready { IsReady net.now search.old }
     requires room { place.chosen < length net.now.names }
+    requires none { NoneStops net.now place }
     ensures ready { OnOk result (IsReady net.now search.new) }
+    ensures grown { OnOk result (HasGrown search.old search.new) }
     ensures answer { (p : List Bool) → IsPlace place p → MatchResult result
-        (λ e. EndsBelow net.now p search.old.left search.new.left e)
+        (λ e. EndsBelow net.now p search.old search.new e)
         (λ s. IsSearchStop net.now s) }
 {
     net.meets_definition();
-    let inside = match walk(net, search, child(place, true))? {
-        End::Refuted(tree) => tree,
+    match walk(net, search, child(place, true))? {
+        End::Refuted => {}
         end => return Ok(end),
-    };
-    let outside = match walk(net, search, child(place, false))? {
-        End::Refuted(tree) => tree,
-        end => return Ok(end),
-    };
-    let inside = match Box::new(search.alloc, inside) {
-        Ok(tree) => tree,
-        Err(_) => return Err(Stop::NoMemory),
-    };
-    match Box::new(search.alloc, outside) {
-        Ok(outside) => Ok(End::Refuted(SiphonTree::Fork { inside, outside })),
-        Err(_) => Err(Stop::NoMemory),
     }
+    let end = walk(net, search, child(place, false))?;
+    Ok(end)
 }
 
 /// Visits a prefix, and all that is visited below it.
@@ -98,24 +132,23 @@ fn fork(net: &Network, search: &mut Search, place: Place) -> Result<End, Stop>
 pub(crate) fn walk(net: &Network, search: &mut Search, place: Place) -> Result<End, Stop>
     requires ready { IsReady net.now search.old }
     requires room { place.chosen ≤ length net.now.names }
+    requires last { StopsLast net.now place }
     ensures ready { OnOk result (IsReady net.now search.new) }
+    ensures grown { OnOk result (HasGrown search.old search.new) }
     ensures answer { (p : List Bool) → IsPlace place p → MatchResult result
-        (λ e. EndsAt net.now p search.old.left search.new.left e)
+        (λ e. EndsAt net.now p search.old search.new e)
         (λ s. IsSearchStop net.now s) }
 {
     if search.left == 0 {
         return Ok(End::Spent);
     }
-    search.left -= 1;
-    match visit(net, search, place)? {
-        Some(tree) => return Ok(End::Refuted(tree)),
-        None => {}
-    }
+    let cover = match visit(net, search, place)? {
+        Some(cover) => cover,
+        None => return Ok(End::Refuted),
+    };
     if place.chosen == net.species() {
-        let found = marks(search.alloc, place.inside, place.chosen)?;
-        let cover = search.known.cover.copy()?;
         return Ok(End::Found {
-            marks: found,
+            inside: place.inside,
             cover,
         });
     }

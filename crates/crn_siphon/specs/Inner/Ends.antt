@@ -8,15 +8,15 @@ use Rattle.crn_siphon_check.specs.Answers.{Wide, said_of}
 use Rattle.crn_siphon_check.specs.declared.answer.Persist.{Persist}
 use Rattle.crn_farkas.specs.declared.fault.Stop.{Stop}
 use Rattle.crn_farkas.specs.declared.fault.Stop.TheVariants.{Wide as StopWide, NoMemory}
-use Rattle.crn_siphon.specs.declared.search.End.{End}
-use Rattle.crn_siphon.specs.declared.search.End.TheVariants.{Found, Refuted, Spent}
+use Rattle.crn_siphon.specs.declared.answer.Shown.{Shown}
+use Rattle.crn_siphon.specs.declared.answer.Shown.TheVariants.{Siphon, Tree, Spent}
 use Rattle.crn_siphon.specs.Inner.Search.{IsFoundBy}
 
 -- marks of a full prefix that stands, or a valid tree, within the budget; or the visits exceed it
-abbrev pub IsEndOfVisits : Net → (budget : ℕ) → End → Type 0
-IsEndOfVisits net budget (Found marks cover) = IsFoundBy net marks.list cover.list
+abbrev pub IsEndOfVisits : Net → (budget : ℕ) → Shown → Type 0
+IsEndOfVisits net budget (Siphon marks cover) = IsFoundBy net marks.list cover.list
     × (PassesBudget net budget → ⊥)
-IsEndOfVisits net budget (Refuted tree) = (IsValidTree net [] (plan_of tree) × IsFormedTree net 0 (plan_of tree))
+IsEndOfVisits net budget (Tree tree) = (IsValidTree net [] (plan_of tree) × IsFormedTree net 0 (plan_of tree))
     × (PassesBudget net budget → ⊥) × (node_count (plan_of tree) ≤ budget)
 IsEndOfVisits net budget Spent = PassesBudget net budget
 

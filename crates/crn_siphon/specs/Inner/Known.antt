@@ -1,7 +1,7 @@
 -- For the contracts of private functions alone.
 -- What visits have shown: laws, and numbers that increase species.
 -- Shapes: species count from 0.
-use Rattle.std.specs.Prelude.{◌≢◌, ◌<◌, ℕ, ℤ, pos, ◌≤ℤ◌, List, length, slice_index_or, Option, None, Some}
+use Rattle.std.specs.Prelude.{◌≡◌, ◌≢◌, ◌<◌, ◌++◌, ℕ, ℤ, pos, ◌≤ℤ◌, List, length, slice_index_or}
 use Rattle.std.specs.List.{AllByRecursion}
 use Rattle.crn_vec.specs.Kept.{KeptInts}
 use Rattle.crn_vec.specs.Network.{Net}
@@ -15,8 +15,9 @@ use Rattle.crn_farkas.specs.declared.fault.Stop.{Stop}
 use Rattle.crn_farkas.specs.declared.fault.Stop.TheVariants.{Wide, NoMemory}
 use Rattle.crn_siphon_check.specs.Siphons.{IsSemiLaw}
 use Rattle.crn_siphon.specs.declared.sets.SpeciesSet.{SpeciesSet}
-use Rattle.crn_siphon.specs.declared.known.Law.{Law}
-use Rattle.crn_siphon.specs.declared.known.Cover.{Cover}
+use Rattle.crn_siphon.specs.declared.known.Fact.{Fact}
+use Rattle.crn_siphon.specs.declared.known.Finding.{Finding}
+use Rattle.crn_siphon.specs.declared.known.Finding.TheVariants.{Law, Cover}
 use Rattle.crn_siphon.specs.declared.known.Known.{Known}
 use Rattle.crn_siphon.specs.Inner.Sets.{Has}
 
@@ -31,38 +32,50 @@ pub record IsLawIn (net : Net) (set : SpeciesSet) (weights : List ℤ) : Type 0 
   pub law : IsSemiLaw net weights
   pub within : (s : ℕ) → entry weights s ≢ pos 0 → Has set s
 
--- each is a law, with its species
-abbrev pub AreLaws : Net → List Law → Type 0
-AreLaws net laws = AllByRecursion (λ law. IsLawIn net law.species law.weights.list) laws
-
 -- numbers of a certificate that increase each member of the set
 pub record IsCoverIn (net : Net) (set : SpeciesSet) (numbers : List ℤ) : Type 0 where
   pub free : AreFree (length net.reactions) numbers
   pub increased : AreIncreased net set numbers
 
+-- each is a law, with its species
+abbrev pub AreLaws : Net → List Fact → Type 0
+AreLaws net laws = AllByRecursion (λ law. IsLawIn net law.species law.numbers.list) laws
+
 -- each has numbers that increase its species
-abbrev pub AreCovers : Net → List Cover → Type 0
-AreCovers net covers = AllByRecursion (λ cover. IsCoverIn net cover.species cover.numbers.list)
-    covers
+abbrev pub AreCovers : Net → List Fact → Type 0
+AreCovers net covers = AllByRecursion (λ cover. IsCoverIn net cover.species cover.numbers.list) covers
 
--- the cover at this place has numbers that increase its species and each member of the set
-pub record IsCoverAt (net : Net) (set : SpeciesSet) (covers : List Cover) (k : ℕ) : Type 0 where
-  pub inside : k < length covers
-  pub own : (none : Cover) → IsCoverIn net (slice_index_or covers k none).species
-      (slice_index_or covers k none).numbers.list
-  pub all : (none : Cover) → IsCoverIn net set (slice_index_or covers k none).numbers.list
-
--- numbers of a certificate, species that they increase, others of such numbers, and laws
+-- numbers that increase species, those that are tried first among them, and laws
 pub record IsKnown (net : Net) (known : Known) : Type 0 where
-  pub free : AreFree (length net.reactions) known.cover.list
-  pub covered : AreIncreased net known.covered known.cover.list
   pub covers : AreCovers net known.covers.items
+  pub first : known.first < length known.covers.items
   pub laws : AreLaws net known.laws.items
 
--- a law within the set, or none and the numbers increase each member
-abbrev pub IsLawOrCover : Net → SpeciesSet → (cover : List ℤ) → Option KeptInts → Type 0
-IsLawOrCover net set cover None = AreIncreased net set cover
-IsLawOrCover net set cover (Some law) = IsLawIn net set law.list
+-- these numbers and species
+abbrev pub fact : KeptInts → SpeciesSet → Fact
+fact numbers species = record { numbers = numbers; species = species }
+
+-- the fact at this place has these numbers
+pub record IsFactAt (facts : List Fact) (k : ℕ) (list : List ℤ) : Type 0 where
+  pub inside : k < length facts
+  pub is : (none : Fact) → (slice_index_or facts k none).numbers.list ≡ list
+
+-- the law at this place is within the set
+abbrev pub IsLawWithin : Net → SpeciesSet → List Fact → (k : ℕ) → Type 0
+IsLawWithin net set laws k = (weights : List ℤ) × IsFactAt laws k weights × IsLawIn net set weights
+
+-- the numbers at this place increase each member of the set
+abbrev pub IsCoverOf : Net → SpeciesSet → List Fact → (k : ℕ) → Type 0
+IsCoverOf net set covers k = (numbers : List ℤ) × IsFactAt covers k numbers × IsCoverIn net set numbers
+
+-- what is found of a set
+abbrev pub IsFinding : Net → SpeciesSet → Known → Finding → Type 0
+IsFinding net set known (Law k) = IsLawWithin net set known.laws.items k
+IsFinding net set known (Cover k) = IsCoverOf net set known.covers.items k
+
+-- a list with some more at its end
+abbrev pub HasMore : {A : Type 0} → List A → List A → Type 0
+HasMore {A} list longer = (more : List A) × (longer ≡ list ++ more)
 
 -- system 2 is wide there, or memory ran out
 abbrev pub IsSearchStop : Net → Stop → Type 0

@@ -1,26 +1,33 @@
 -- For the contracts of private functions alone.
 -- How the visits of a prefix of sets of species, of its children and of all below them end.
--- Shapes: `left` visits are allowed where it begins, and `after` where it ends.
-use Rattle.std.specs.Prelude.{◌≡◌, ◌+◌, ℕ, ℤ, false, true, Bool, List, [], ◌∷◌, length, map, Option, None, Some}
+-- Shapes: `left` visits are allowed where it begins, and `after` where it ends; a search is given before and after.
+use Rattle.std.specs.Prelude.{◌≡◌, ◌+◌, ◌++◌, ℕ, ℤ, false, true, Bool, List, [], ◌∷◌, length, map, Option, None, Some}
 use Rattle.crn_vec.specs.Network.{Net}
 use Rattle.crn_vec.specs.NetSystems.{reaction_system}
 use Rattle.crn_cert.specs.Ranges.{AreFree}
 use Rattle.crn_siphon_check.specs.Siphons.{Covers}
 use Rattle.crn_siphon_check.specs.Prefixes.{IsBad, IsFull, Stands}
-use Rattle.crn_siphon_check.specs.Trees.{Plan, plan_of, IsFormedTree, IsValidTree, node_count}
+use Rattle.crn_siphon_check.specs.Trees.{Plan, Fork, IsFormedTree, IsValidTree, node_count}
 use Rattle.crn_siphon_check.specs.SiphonVisits.{Visits, Passes, children}
-use Rattle.crn_siphon_check.specs.declared.tree.SiphonTree.{SiphonTree}
+use Rattle.crn_siphon.specs.declared.sets.SpeciesSet.{SpeciesSet}
 use Rattle.crn_siphon.specs.declared.search.Search.{Search}
 use Rattle.crn_siphon.specs.declared.search.End.{End}
 use Rattle.crn_siphon.specs.declared.search.End.TheVariants.{Found, Refuted, Spent}
-use Rattle.crn_siphon.specs.Inner.Sets.{mark}
-use Rattle.crn_siphon.specs.Inner.Places.{AreEnds}
-use Rattle.crn_siphon.specs.Inner.Known.{IsKnown}
+use Rattle.crn_siphon.specs.declared.node.Node.{Node}
+use Rattle.crn_siphon.specs.declared.node.Node.TheVariants.{Fork as NodeFork}
+use Rattle.crn_siphon.specs.declared.known.Known.{Known}
+use Rattle.crn_siphon.specs.Inner.Sets.{mark, marks}
+use Rattle.crn_siphon.specs.declared.place.Place.{Place}
+use Rattle.crn_siphon.specs.declared.search.Standing.{Standing}
+use Rattle.crn_siphon.specs.declared.search.Standing.TheVariants.{Stops, Stands as StandsAt}
+use Rattle.crn_siphon.specs.Inner.Places.{AreAllHolders, NoneStops}
+use Rattle.crn_siphon.specs.Inner.Known.{HasMore, IsFactAt, IsKnown}
+use Rattle.crn_siphon.specs.Inner.Nodes.{IsLeaf, Lists}
 
--- the solver is that of system 2, the ends are those of the reactions, and what is known holds
+-- the solver is that of system 2, the reactions are those that hold each species, and what is known holds
 pub record IsReady (net : Net) (s : Search) : Type 0 where
   pub matrix : s.solver.matrix ≡ reaction_system net
-  pub ends : AreEnds net (length net.reactions) s.ends.items
+  pub holders : AreAllHolders net (length net.names) s.holders.items
   pub known : IsKnown net s.known
 
 -- no reaction stops the prefix
@@ -40,10 +47,26 @@ pub record IsStanding (net : Net) (p : List Bool) (cover : List ℤ) : Type 0 wh
   pub covers : Covers net p cover
   pub stands : Stands net p
 
--- what the visit of a prefix shows: a node that stops it, or it stands and these numbers cover it
-abbrev pub IsVisit : Net → List Bool → (cover : List ℤ) → Option SiphonTree → Type 0
-IsVisit net p cover (Some tree) = IsLeafAt net p (plan_of tree)
-IsVisit net p cover None = IsStanding net p cover
+-- numbers at this place cover the prefix, which stands
+abbrev pub StandsBy : Net → List Bool → Known → (k : ℕ) → Type 0
+StandsBy net p known k = (numbers : List ℤ) × IsFactAt known.covers.items k numbers
+    × IsStanding net p numbers
+
+-- a node that stops the prefix, or it stands
+abbrev pub IsShown : Net → List Bool → Known → Standing → Type 0
+IsShown net p known (Stops node) = (tree : Plan) × IsLeafAt net p tree
+    × IsLeaf known.laws.items tree node
+IsShown net p known (StandsAt k) = StandsBy net p known k
+
+-- if it stands, no reaction stops the place
+abbrev pub NoneStopsIf : Net → Place → Standing → Type 0
+NoneStopsIf net place (Stops node) = Unit {0}
+NoneStopsIf net place (StandsAt k) = NoneStops net place
+
+-- laws and nodes are put at the end alone
+pub record HasGrown (before after : Search) : Type 0 where
+  pub laws : HasMore before.known.laws.items after.known.laws.items
+  pub nodes : HasMore before.nodes.items after.nodes.items
 
 -- marks of a full prefix that stands, and numbers that increase each member
 pub record IsFoundBy (net : Net) (marks cover : List ℤ) : Type 0 where
@@ -84,16 +107,43 @@ abbrev pub EndsWithSet : Net → List (List Bool) → (left after : ℕ) → (ma
 EndsWithSet net due left after marks cover = IsFoundBy net marks cover
     × ((n : ℕ) × AreVisited net due true n × (n + after ≡ left))
 
+-- the nodes that were put at the end are those of the tree
+abbrev pub HasPut : (before after : Search) → Plan → Type 0
+HasPut before after tree = Lists after.known.laws.items after.nodes.items tree
+    (length before.nodes.items) (length after.nodes.items)
+
+-- and so are those of two trees, one after the other
+pub record ArePut (before after : Search) (first second : Plan) : Type 0 where
+  pub mid : ℕ
+  pub inside : Lists after.known.laws.items after.nodes.items first
+      (length before.nodes.items) mid
+  pub outside : Lists after.known.laws.items after.nodes.items second mid
+      (length after.nodes.items)
+
+-- what the visit of a prefix shows: the node of a tree that stops it, or it stands and a fork was put
+abbrev pub IsVisit : Net → List Bool → (before after : Search) → Option ℕ → Type 0
+IsVisit net p before after None = (tree : Plan) × IsLeafAt net p tree × HasPut before after tree
+IsVisit net p before after (Some k) = StandsBy net p after.known k
+    × (after.nodes.items ≡ before.nodes.items ++ NodeFork ∷ [])
+
+-- they end with a full prefix that stands, that of the set, and numbers at this place cover it
+pub record EndsFound (net : Net) (due : List (List Bool)) (before after : Search) (set : SpeciesSet) (cover : ℕ) : Type 0 where
+  pub numbers : List ℤ
+  pub at : IsFactAt after.known.covers.items cover numbers
+  pub ends : EndsWithSet net due before.left after.left (marks set (length net.names)) numbers
+
 -- what the visits of a prefix, and of all below it, end with
-abbrev pub EndsAt : Net → List Bool → (left after : ℕ) → End → Type 0
-EndsAt net p left after (Found marks cover) =
-    EndsWithSet net (p ∷ []) left after marks.list cover.list
-EndsAt net p left after (Refuted tree) = EndsWithTree net p left after (plan_of tree)
-EndsAt net p left after Spent = RunsOut net (p ∷ []) left after
+abbrev pub EndsAt : Net → List Bool → (before after : Search) → End → Type 0
+EndsAt net p before after (Found inside cover) = EndsFound net (p ∷ []) before after inside cover
+EndsAt net p before after Refuted = (tree : Plan)
+    × EndsWithTree net p before.left after.left tree × HasPut before after tree
+EndsAt net p before after Spent = RunsOut net (p ∷ []) before.left after.left
 
 -- what the visits of a prefix's children, and of all below them, end with
-abbrev pub EndsBelow : Net → List Bool → (left after : ℕ) → End → Type 0
-EndsBelow net p left after (Found marks cover) =
-    EndsWithSet net (children p) left after marks.list cover.list
-EndsBelow net p left after (Refuted tree) = EndsBelowWithTree net p left after (plan_of tree)
-EndsBelow net p left after Spent = RunsOut net (children p) left after
+abbrev pub EndsBelow : Net → List Bool → (before after : Search) → End → Type 0
+EndsBelow net p before after (Found inside cover) =
+    EndsFound net (children p) before after inside cover
+EndsBelow net p before after Refuted = (inside outside : Plan)
+    × EndsBelowWithTree net p before.left after.left (Fork inside outside)
+    × ArePut before after inside outside
+EndsBelow net p before after Spent = RunsOut net (children p) before.left after.left

@@ -1,5 +1,5 @@
-use Rattle.crn_siphon.proofs.Prelude.{◌≡◌, List, length, ap, sym, subst, ◌∙◌, arith, ℤ, Mat, entry, width, signed_count, Kind, all_push, AreFree, Feasible, Infeasible, siphon_kinds, AreIncreased, AreLaws, IsCoverIn, IsLawIn}
-use Rattle.crn_siphon.specs.declared.known.Law.{Law}
+use Rattle.crn_siphon.proofs.Prelude.{◌≡◌, ℕ, List, length, ap, refl, sym, subst, ◌∙◌, arith, ℤ, Mat, entry, width, signed_count, Kind, AreFree, Feasible, Infeasible, Fact, siphon_kinds, AreIncreased, IsCoverIn, IsFactAt, IsLawIn, fact}
+use Rattle.crn_siphon.proofs.Nodes.{covers_put, fact_put, laws_put, more_same}
 use Rattle.crn_siphon.proofs.Systems.{kinds_long, few_signed, decided, solution_formed, solution_increases, cut_is_law}
 use Rattle.crn_siphon.proofs.known.ask.Goals as goal
 
@@ -23,8 +23,8 @@ increased-species-requires c =
     let s = decided net c.args.set c.args.solver.now.matrix c.deref.result.now c.in_ok-cover.field-0 (Feasible cover) c.requires.matrix kinds c.in_ok-cover.ensures.answer c.in-Feasible.is in
     subst (λ (x : List ℤ). AreFree (length net.reactions) x) (sym c.as_slice.ensures) (solution_formed net c.args.set cover.list s)
 
-pub put_cover-requires-clause-cover : goal.put_cover-requires-clause-cover
-put_cover-requires-clause-cover c =
+pub returns-in-Feasible-clause-known : goal.returns-in-Feasible-clause-known
+returns-in-Feasible-clause-known c =
     let net = c.args.net.now in
     let cover = c.in-Feasible.cover in
     let kinds : c.deref.result.now ≡ siphon_kinds net c.args.set = c.deref.ensures.value ∙ c.in_ok-kinds.ensures in
@@ -33,18 +33,10 @@ put_cover-requires-clause-cover c =
       free = solution_formed net c.args.set cover.list s;
       increased = subst (λ (x : List ℤ). AreIncreased net c.increased-species.result x) c.as_slice.ensures c.increased-species.ensures;
     } in
-    subst (λ (x : List ℤ). IsCoverIn net c.increased-species.result x) (sym c.in_ok-numbers-in-Feasible.ensures.list) one
-
-pub returns-in-Feasible-clause-known : goal.returns-in-Feasible-clause-known
-returns-in-Feasible-clause-known c =
-    let net = c.args.net.now in
-    let cover = c.in-Feasible.cover in
-    let kinds : c.deref.result.now ≡ siphon_kinds net c.args.set = c.deref.ensures.value ∙ c.in_ok-kinds.ensures in
-    let s = decided net c.args.set c.args.solver.now.matrix c.deref.result.now c.in_ok-cover.field-0 (Feasible cover) c.requires.matrix kinds c.in_ok-cover.ensures.answer c.in-Feasible.is in
+    let here = fact_put c.make_room.new.covers.items _ (fact cover c.increased-species.result) _ c.in_ok-place-in-Feasible.ensures.items c.in_ok-place-in-Feasible.ensures.place in
     record {
-      free = solution_formed net c.args.set cover.list s;
-      covered = subst (λ (x : List ℤ). AreIncreased net c.increased-species.result x) c.as_slice.ensures c.increased-species.ensures;
-      covers = c.in_ok-put_cover-in-Feasible.ensures;
+      covers = covers_put net c.make_room.new.covers.items _ (fact cover c.increased-species.result) c.in_ok-place-in-Feasible.ensures.items c.make_room.ensures one;
+      first = here.inside;
       laws = c.requires.known.laws;
     }
 
@@ -53,8 +45,14 @@ returns-in-Feasible-clause-answer c =
     let net = c.args.net.now in
     let cover = c.in-Feasible.cover in
     let kinds : c.deref.result.now ≡ siphon_kinds net c.args.set = c.deref.ensures.value ∙ c.in_ok-kinds.ensures in
-    let s = decided net c.args.set c.args.solver.now.matrix c.deref.result.now c.in_ok-cover.field-0 (Feasible cover) c.requires.matrix kinds c.in_ok-cover.ensures.answer c.in-Feasible.is in
-    solution_increases net c.args.set cover.list c.meets_definition.ensures s
+    let s = decided net c.args.set c.args.solver.now.matrix c.deref.result.now c.in_ok-cover.field-0 (Feasible cover) c.requires.matrix kinds c.in_ok-cover.ensures.answer c.in-Feasible.is in (
+      cover.list,
+      fact_put c.make_room.new.covers.items _ (fact cover c.increased-species.result) _ c.in_ok-place-in-Feasible.ensures.items c.in_ok-place-in-Feasible.ensures.place,
+      record { free = solution_formed net c.args.set cover.list s; increased = solution_increases net c.args.set cover.list c.meets_definition.ensures s },
+    )
+
+pub returns-in-Feasible-clause-kept : goal.returns-in-Feasible-clause-kept
+returns-in-Feasible-clause-kept c = more_same c.args.known.now.laws.items
 
 pub support-species-requires : goal.support-species-requires
 support-species-requires c =
@@ -65,8 +63,8 @@ support-species-requires c =
     let law = cut_is_law net c.args.set weights.list c.meets_definition.ensures u in
     omega (arith, ap (λ (x : List ℤ). length x) c.as_slice-in-Infeasible.ensures, law.free.long, c.meets_definition.ensures.partial.species_limit)
 
-pub returns-in-Ok-clause-known : goal.returns-in-Ok-clause-known
-returns-in-Ok-clause-known c =
+pub returns-clause-known : goal.returns-clause-known
+returns-clause-known c =
     let net = c.args.net.now in
     let weights = c.in-Infeasible.weights in
     let kinds : c.deref.result.now ≡ siphon_kinds net c.args.set = c.deref.ensures.value ∙ c.in_ok-kinds.ensures in
@@ -78,16 +76,18 @@ returns-in-Ok-clause-known c =
       within = λ s some. (c.support-species.ensures s).1 (λ e. some (ap (λ (x : List ℤ). entry x s) (sym c.as_slice-in-Infeasible.ensures) ∙ e));
     } in
     record {
-      free = c.requires.known.free;
-      covered = c.requires.known.covered;
       covers = c.requires.known.covers;
-      laws = subst (λ (laws : List Law). AreLaws net laws) (sym c.in-Ok.ensures.items) (all_push (λ (law : Law). IsLawIn net law.species law.weights.list) _ _ c.requires.known.laws one);
+      first = c.requires.known.first;
+      laws = laws_put net c.args.known.now.laws.items _ (fact weights c.support-species.result) c.in_ok-place-in-Infeasible.ensures.items c.requires.known.laws one;
     }
 
-pub returns-in-Ok-clause-answer : goal.returns-in-Ok-clause-answer
-returns-in-Ok-clause-answer c =
+pub returns-clause-answer : goal.returns-clause-answer
+returns-clause-answer c =
     let net = c.args.net.now in
     let weights = c.in-Infeasible.weights in
     let kinds : c.deref.result.now ≡ siphon_kinds net c.args.set = c.deref.ensures.value ∙ c.in_ok-kinds.ensures in
-    let u = decided net c.args.set c.args.solver.now.matrix c.deref.result.now c.in_ok-cover.field-0 (Infeasible weights) c.requires.matrix kinds c.in_ok-cover.ensures.answer c.in-Infeasible.is in
-    subst (λ (x : List ℤ). IsLawIn net c.args.set x) (sym c.in_ok-law-in-Infeasible.ensures.list) (cut_is_law net c.args.set weights.list c.meets_definition.ensures u)
+    let u = decided net c.args.set c.args.solver.now.matrix c.deref.result.now c.in_ok-cover.field-0 (Infeasible weights) c.requires.matrix kinds c.in_ok-cover.ensures.answer c.in-Infeasible.is in (
+      weights.list,
+      fact_put c.args.known.now.laws.items _ (fact weights c.support-species.result) _ c.in_ok-place-in-Infeasible.ensures.items c.in_ok-place-in-Infeasible.ensures.place,
+      cut_is_law net c.args.set weights.list c.meets_definition.ensures u,
+    )

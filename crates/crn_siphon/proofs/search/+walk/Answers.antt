@@ -1,36 +1,9 @@
-use Rattle.crn_siphon.proofs.Prelude.{◌≡◌, ◌++◌, List, [], ◌∷◌, length, map, true, false, Bool, ap, sym, subst, ◌∙◌, arith, ℤ, Option, plan_of, SiphonTree, End, mark, EndsAt, EndsWithTree, IsStanding, IsVisit}
+use Rattle.crn_siphon.proofs.Prelude.{◌≡◌, ◌++◌, ◌+◌, ◌-◌, ◌*◌, ◌<◌, ◌≤◌, ℕ, List, [], ◌∷◌, length, map, true, false, Bool, ap, refl, sym, subst, ◌∙◌, arith, rules, Option, End, mark, marks, EndsAt, IsVisit}
 use Rattle.crn_siphon.proofs.SetLaws.{members_are}
-use Rattle.crn_siphon.proofs.EndLaws.{run_out, leaf_at, found_at, opened_at, first_child, second_child, both_trees}
+use Rattle.crn_siphon.proofs.EndLaws.{run_out, leaf_at, found_at, opened_at, first_child, second_child}
+use Rattle.crn_siphon.proofs.Nodes.{grown_same, grown_then}
+use Rattle.crn_siphon.proofs.Stops.{child_last}
 use Rattle.crn_siphon.proofs.search.+walk.Goals as goal
-
-pub fork-returns-in_default : goal.fork-returns-in_default
-fork-returns-in_default t c = record {
-  ready = c.in_ok-end.ensures.ready;
-  answer = λ p is. first_child c.args.net.now p c.args.search.now.left c.walk.new.search.left c.in_ok-end.end (λ tree. c.in_default.not-Refuted tree) (c.in_ok-end.ensures.answer (p ++ true ∷ []) (c.child.ensures.place p is));
-}
-
-pub fork-returns-in_default-2 : goal.fork-returns-in_default-2
-fork-returns-in_default-2 t c =
-    let net = c.args.net.now in
-    record {
-      ready = c.in_ok-end-2.ensures.ready;
-      answer = λ p is.
-          let first = subst (λ (e : End). EndsAt net (p ++ true ∷ []) c.args.search.now.left c.walk.new.search.left e) c.in-Refuted.is (c.in_ok-end.ensures.answer (p ++ true ∷ []) (c.child.ensures.place p is)) in
-          second_child net p c.args.search.now.left c.walk.new.search.left c.walk-2.new.search.left c.in-Refuted.tree c.in_ok-end-2.end first (λ tree. c.in_default-2.not-Refuted tree)
-          (c.in_ok-end-2.ensures.answer (p ++ false ∷ []) (c.child-2.ensures.place p is));
-    }
-
-pub fork-returns-in-Ok-new-clause-answer : goal.fork-returns-in-Ok-new-clause-answer
-fork-returns-in-Ok-new-clause-answer t c = λ p is.
-    let net = c.args.net.now in
-    let left = c.args.search.now.left in
-    let mid = c.walk.new.search.left in
-    let after = c.walk-2.new.search.left in
-    let first = subst (λ (e : End). EndsAt net (p ++ true ∷ []) left mid e) c.in-Refuted.is (c.in_ok-end.ensures.answer (p ++ true ∷ []) (c.child.ensures.place p is)) in
-    let second = subst (λ (e : End). EndsAt net (p ++ false ∷ []) mid after e) c.in-Refuted-2.is (c.in_ok-end-2.ensures.answer (p ++ false ∷ []) (c.child-2.ensures.place p is)) in
-    let inside = subst (λ (tree : SiphonTree). EndsWithTree net (p ++ true ∷ []) left mid (plan_of tree)) (sym c.in-Ok.ensures.ok) first in
-    let outside = subst (λ (tree : SiphonTree). EndsWithTree net (p ++ false ∷ []) mid after (plan_of tree)) (sym c.in-Ok-new.ensures.ok) second in
-    both_trees net p left mid after (plan_of c.in-Ok.tree.value) (plan_of c.in-Ok-new.outside.value) (omega (arith, c.requires.room, is.chosen)) inside outside
 
 pub fork-child-requires : goal.fork-child-requires
 fork-child-requires t c = omega (arith, c.requires.room, c.meets_definition.ensures.partial.species_limit)
@@ -38,26 +11,68 @@ fork-child-requires t c = omega (arith, c.requires.room, c.meets_definition.ensu
 pub fork-child-requires-2 : goal.fork-child-requires-2
 fork-child-requires-2 t c = omega (arith, c.requires.room, c.meets_definition.ensures.partial.species_limit)
 
+pub fork-walk-requires : goal.fork-walk-requires
+fork-walk-requires t c =
+    let n = length c.args.net.now.names in
+    let less : 2 * (n - c.child.result.chosen) + 1 < 2 * (n - c.args.place.chosen) = omega (arith, c.child.ensures.count, c.requires.room) in
+    let ready = c.requires.ready in
+    let room : c.child.result.chosen ≤ n = omega (arith, c.child.ensures.count, c.requires.room) in
+    let last = child_last c.args.net.now c.args.place c.child.result c.requires.none c.child.ensures.count c.child.ensures.inside c.child.ensures.outside in
+    search (rules, less, ready, room, last)
+
+pub fork-walk-requires-2 : goal.fork-walk-requires-2
+fork-walk-requires-2 t c =
+    let n = length c.args.net.now.names in
+    let less : 2 * (n - c.child-2.result.chosen) + 1 < 2 * (n - c.args.place.chosen) = omega (arith, c.child-2.ensures.count, c.requires.room) in
+    let ready = c.in_ok-end.ensures.ready in
+    let room : c.child-2.result.chosen ≤ n = omega (arith, c.child-2.ensures.count, c.requires.room) in
+    let last = child_last c.args.net.now c.args.place c.child-2.result c.requires.none c.child-2.ensures.count c.child-2.ensures.inside c.child-2.ensures.outside in
+    search (rules, less, ready, room, last)
+
+pub fork-returns-in_default-clause-answer : goal.fork-returns-in_default-clause-answer
+fork-returns-in_default-clause-answer t c = λ p is.
+    first_child c.args.net.now p c.args.search.now c.walk.new.search c.in_ok-end.end c.in_default.not-Refuted (c.in_ok-end.ensures.answer (p ++ true ∷ []) (c.child.ensures.place p is))
+
+pub fork-returns-clause-answer : goal.fork-returns-clause-answer
+fork-returns-clause-answer t c = λ p is.
+    let first = subst (λ (e : End). EndsAt c.args.net.now (p ++ true ∷ []) c.args.search.now c.walk.new.search e) c.in-Refuted.is (c.in_ok-end.ensures.answer (p ++ true ∷ []) (c.child.ensures.place p is)) in
+    second_child c.args.net.now p c.args.search.now c.walk.new.search c.walk-2.new.search c.in_ok-end-2.end (omega (arith, c.requires.room, is.chosen)) c.in_ok-end-2.ensures.grown first
+    (c.in_ok-end-2.ensures.answer (p ++ false ∷ []) (c.child-2.ensures.place p is))
+
+pub fork-returns-clause-grown : goal.fork-returns-clause-grown
+fork-returns-clause-grown t c = grown_then c.args.search.now c.walk.new.search c.walk-2.new.search c.in_ok-end.ensures.grown c.in_ok-end-2.ensures.grown
+
 pub walk-returns-then-search-eq0-clause-answer : goal.walk-returns-then-search-eq0-clause-answer
 walk-returns-then-search-eq0-clause-answer t c = λ p is. run_out c.args.net.now p c.args.search.now.left (omega arith)
 
-pub walk-returns-in-Some-clause-answer : goal.walk-returns-in-Some-clause-answer
-walk-returns-in-Some-clause-answer t c = λ p is.
-    leaf_at c.args.net.now p c.args.search.now.left c.visit.new.search.left c.in-Some.tree (omega (arith, c.visit.ensures.left))
-    (subst (λ (v : Option SiphonTree). IsVisit c.args.net.now p c.visit.new.search.known.cover.list v) c.in-Some.is (c.in_ok-tree.ensures.answer p is))
+pub walk-returns-then-search-eq0-clause-grown : goal.walk-returns-then-search-eq0-clause-grown
+walk-returns-then-search-eq0-clause-grown t c = grown_same c.args.search.now
+
+pub walk-returns-in-None-clause-answer : goal.walk-returns-in-None-clause-answer
+walk-returns-in-None-clause-answer t c = λ p is.
+    let net = c.args.net.now in
+    let v = subst (λ (o : Option ℕ). IsVisit net p c.args.search.now c.visit.new.search o) c.in-None.is (c.in_ok-cover.ensures.answer p is) in
+    (v.0, leaf_at net p c.args.search.now.left c.visit.new.search.left v.0 (omega (arith, c.visit.ensures.left)) v.1, v.2)
 
 pub walk-returns-then-place-species-clause-answer : goal.walk-returns-then-place-species-clause-answer
 walk-returns-then-place-species-clause-answer t c = λ p is.
     let net = c.args.net.now in
-    let standing : IsStanding net p c.visit.new.search.known.cover.list = subst (λ (v : Option SiphonTree). IsVisit net p c.visit.new.search.known.cover.list v) c.in-None.is (c.in_ok-tree.ensures.answer p is) in
-    found_at net p c.args.search.now.left c.visit.new.search.left c.in_ok-found.found c.in_ok-cover.cover (omega (arith, c.visit.ensures.left))
-    (c.in_ok-found.ensures ∙ ap (λ (q : List Bool). map mark q) (members_are c.args.place p is))
-    (omega (arith, is.chosen, c.species.ensures.count, c.if-place-species.true))
-    (subst (λ (x : List ℤ). IsStanding net p x) (sym c.in_ok-cover.ensures.list) standing)
+    let v = subst (λ (o : Option ℕ). IsVisit net p c.args.search.now c.visit.new.search o) c.in-Some.is (c.in_ok-cover.ensures.answer p is) in
+    let full : c.args.place.chosen ≡ length net.names = omega (arith, c.species.ensures.count, c.if-place-species.true) in
+    let marked : marks c.args.place.inside (length net.names) ≡ map mark p = ap (λ (n : ℕ). marks c.args.place.inside n) (sym full) ∙ ap (λ (q : List Bool). map mark q) (members_are c.args.place p is) in
+    record {
+      numbers = v.0.0;
+      at = v.0.1;
+      ends = found_at net p c.args.search.now.left c.visit.new.search.left _ v.0.0 (omega (arith, c.visit.ensures.left)) marked (omega (arith, is.chosen, full)) v.0.2;
+    }
 
 pub walk-returns-clause-answer : goal.walk-returns-clause-answer
 walk-returns-clause-answer t c = λ p is.
     let net = c.args.net.now in
-    let standing : IsStanding net p c.visit.new.search.known.cover.list = subst (λ (v : Option SiphonTree). IsVisit net p c.visit.new.search.known.cover.list v) c.in-None.is (c.in_ok-tree.ensures.answer p is) in
-    opened_at net p c.args.search.now.left c.visit.new.search.left c.fork.new.search.left c.in_ok-end.end (omega (arith, c.visit.ensures.left)) standing.stands
+    let v = subst (λ (o : Option ℕ). IsVisit net p c.args.search.now c.visit.new.search o) c.in-Some.is (c.in_ok-cover.ensures.answer p is) in
+    let standing = v.0.2 in
+    opened_at net p c.args.search.now c.visit.new.search c.fork.new.search c.in_ok-end.end (omega (arith, c.visit.ensures.left)) v.1 c.in_ok-end.ensures.grown standing.stands
     (λ (f : length p ≡ length net.names). omega (arith, f, is.chosen, c.species.ensures.count, c.if-place-species.false)) (c.in_ok-end.ensures.answer p is)
+
+pub walk-returns-clause-grown : goal.walk-returns-clause-grown
+walk-returns-clause-grown t c = grown_then c.args.search.now c.visit.new.search c.fork.new.search c.in_ok-cover.ensures.grown c.in_ok-end.ensures.grown

@@ -1,14 +1,33 @@
-use Rattle.crn_siphon.proofs.Prelude.{sym, subst, ◌∙◌, Option, false≢true, KeptInts, IsLawOrCover}
-use Rattle.crn_siphon.proofs.Places.{law_leaf, cover_stands}
+use Rattle.crn_siphon.proofs.Prelude.{◌++◌, ◌∷◌, [], List, length, ap, subst, ◌∙◌, Node, Fork, Standing, Lists, IsShown, NoneStopsIf}
+use Rattle.crn_siphon.proofs.Nodes.{leaf_put}
 use Rattle.crn_siphon.proofs.search.visit.Goals as goal
 
-pub returns-in-Some-law-clause-answer : goal.returns-in-Some-law-clause-answer
-returns-in-Some-law-clause-answer c = λ p is.
-    law_leaf c.args.net.now c.args.place p c.in-Some-law.law.list is
-    (subst (λ (v : Option KeptInts). IsLawOrCover c.args.net.now c.args.place.inside c.law_within.new.known.cover.list v) c.in-Some-law.is c.in_ok-law.ensures.answer)
+pub returns-in_ok-put_node-in-Stops-clause-answer : goal.returns-in_ok-put_node-in-Stops-clause-answer
+returns-in_ok-put_node-in-Stops-clause-answer c = λ p is.
+    let known = c.look.new.search.known in
+    let leaf = subst (λ (v : Standing). IsShown c.args.net.now p known v) c.in-Stops.is (c.in_ok-leaf.ensures.answer p is) in
+    let longer = c.put_node.new.nodes.items in
+    let put = subst (λ (l : List Node). Lists known.laws.items longer leaf.0 (length l) (length longer)) c.look.ensures.nodes
+    (leaf_put known.laws.items c.look.new.search.nodes.items longer leaf.0 c.in-Stops.leaf c.in_ok-put_node-in-Stops.ensures leaf.2) in
+    (leaf.0, leaf.1, put)
 
-pub returns-in-None-clause-answer : goal.returns-in-None-clause-answer
-returns-in-None-clause-answer c = λ p is.
-    cover_stands c.args.net.now c.args.place p c.law_within.new.known.cover.list is c.requires.room c.in_ok-law.ensures.known.free
-    (subst (λ (v : Option KeptInts). IsLawOrCover c.args.net.now c.args.place.inside c.law_within.new.known.cover.list v) c.in-None.is c.in_ok-law.ensures.answer)
-    (c.in_default.ensures p is) (λ v. false≢true (sym c.if-is_void.false ∙ (c.is_void.ensures p is).1 v))
+pub returns-in_ok-put_node-in-Stops-clause-grown : goal.returns-in_ok-put_node-in-Stops-clause-grown
+returns-in_ok-put_node-in-Stops-clause-grown c = record {
+  laws = c.in_ok-leaf.ensures.laws;
+  nodes = (c.in-Stops.leaf ∷ [], c.in_ok-put_node-in-Stops.ensures ∙ ap (λ (l : List Node). l ++ c.in-Stops.leaf ∷ []) c.look.ensures.nodes);
+}
+
+pub returns-in_ok-put_node-in-Stands-clause-answer : goal.returns-in_ok-put_node-in-Stands-clause-answer
+returns-in_ok-put_node-in-Stands-clause-answer c = λ p is. (
+  subst (λ (v : Standing). IsShown c.args.net.now p c.look.new.search.known v) c.in-Stands.is (c.in_ok-leaf.ensures.answer p is),
+  c.in_ok-put_node-in-Stands.ensures ∙ ap (λ (l : List Node). l ++ Fork ∷ []) c.look.ensures.nodes,
+)
+
+pub returns-in_ok-put_node-in-Stands-clause-grown : goal.returns-in_ok-put_node-in-Stands-clause-grown
+returns-in_ok-put_node-in-Stands-clause-grown c = record {
+  laws = c.in_ok-leaf.ensures.laws;
+  nodes = (Fork ∷ [], c.in_ok-put_node-in-Stands.ensures ∙ ap (λ (l : List Node). l ++ Fork ∷ []) c.look.ensures.nodes);
+}
+
+pub returns-in_ok-put_node-in-Stands-clause-none : goal.returns-in_ok-put_node-in-Stands-clause-none
+returns-in_ok-put_node-in-Stands-clause-none c = subst (λ (v : Standing). NoneStopsIf c.args.net.now c.args.place v) c.in-Stands.is c.in_ok-leaf.ensures.none

@@ -1,0 +1,41 @@
+use Rattle.crn_siphon.proofs.Prelude.{[], ℕ, arith, ap, refl, sym, subst, ◌∙◌, Fact, marks, err_from_is_err_and}
+use Rattle.crn_siphon.proofs.Stops.{root_place, root_last}
+use Rattle.crn_siphon.proofs.EndLaws.{siphon_shown, tree_shown, found_end, refuted_end, spent_end, all_put}
+use Rattle.crn_siphon.proofs.answer.visit_root.Goals as goal
+
+pub walk-requires-clause-last : goal.walk-requires-clause-last
+walk-requires-clause-last c = root_last c.args.net.now _ refl
+
+pub index-requires : goal.index-requires
+index-requires c =
+    let h = found_end c.args.search.now c.walk.new.search _ c.in-Found.inside c.in-Found.cover c.in-Found.is (c.in_ok-inside.ensures.answer [] (root_place _ refl refl refl)) in
+    omega (arith, h.at.inside, c.walk.new.search.known.covers.ok)
+
+pub returns-in_ok-cover-in-Found : goal.returns-in_ok-cover-in-Found
+returns-in_ok-cover-in-Found c =
+    let net = c.args.net.now in
+    let h = found_end c.args.search.now c.walk.new.search _ c.in-Found.inside c.in-Found.cover c.in-Found.is (c.in_ok-inside.ensures.answer [] (root_place _ refl refl refl)) in
+    siphon_shown net c.args.search.now.left c.walk.new.search.left _ c.in_ok-marks-in-Found.marks c.in_ok-cover-in-Found.cover (c.in_ok-marks-in-Found.ensures ∙ ap (λ (n : ℕ). marks c.in-Found.inside n) c.species.ensures.count) h.numbers
+    (c.in_ok-cover-in-Found.ensures.list ∙ ap (λ (f : Fact). f.numbers.list) c.index.ensures ∙ (let is = h.at.is in is c.index.result.now)) h.ends
+
+pub next_tree-requires : goal.next_tree-requires
+next_tree-requires c =
+    let h = refuted_end c.args.search.now c.walk.new.search _ c.in-Refuted.is (c.in_ok-inside.ensures.answer [] (root_place _ refl refl refl)) in
+    (h.0, _, all_put c.args.search.now c.walk.new.search c.deref.result.now c.deref-in-Refuted.result.now h.0 c.deref.ensures.value c.deref-in-Refuted.ensures.value c.requires.fresh h.2)
+
+pub returns-in_ok-tree-in-Refuted : goal.returns-in_ok-tree-in-Refuted
+returns-in_ok-tree-in-Refuted c =
+    let net = c.args.net.now in
+    let h = refuted_end c.args.search.now c.walk.new.search _ c.in-Refuted.is (c.in_ok-inside.ensures.answer [] (root_place _ refl refl refl)) in
+    let put = all_put c.args.search.now c.walk.new.search c.deref.result.now c.deref-in-Refuted.result.now h.0 c.deref.ensures.value c.deref-in-Refuted.ensures.value c.requires.fresh h.2 in
+    tree_shown net c.args.search.now.left c.walk.new.search.left h.0 c.in_ok-tree-in-Refuted.tree ((c.in_ok-tree-in-Refuted.ensures h.0 _ put).0) h.1
+
+pub returns-in-Spent : goal.returns-in-Spent
+returns-in-Spent c =
+    let h = spent_end c.args.search.now c.walk.new.search _ c.in-Spent.is (c.in_ok-inside.ensures.answer [] (root_place _ refl refl refl)) in
+    h.passes
+
+pub returns-in_err-inside : goal.returns-in_err-inside
+returns-in_err-inside c =
+    let p = err_from_is_err_and c.from_residual.result c.from_residual.ensures.1 in
+    rw (p.1, p.2) (c.in_err-inside.ensures.answer [] (root_place _ refl refl refl))
