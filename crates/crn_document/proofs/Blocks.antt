@@ -1,5 +1,5 @@
 -- The tests of a block, in the words of a document's course, and what is known after it.
-use Rattle.crn_document.proofs.Prelude.{◌≡◌, ◌≤◌, ◌+◌, ◌-◌, ◌++◌, ◌∙◌, ℕ, zero, suc, Bool, true, false, ◌==◌, ◌&&◌, List, [], ◌∷◌, length, map, replicate, refl, sym, subst, ap, ap₂, inl, inr, arith, Result, ℤ, if◌then◌else◌, slice_index_or, AllByRecursion, AllZip, flat_map, eqb-true, length-map, map-append, Place, Net, MAX_COMPLEXES, Verdict, No, Yes, Rests, Proof, Answer, Earlier, Question, Q2, Q13, Q14, Q15, on, terminal_of, Test, AllHold, FailsFirst, HasVector, exits, head_tests, linkage, linkage_count, row_tests, strong, tests_of, pairs_to, IsFormed, IsFormedOf, hold_parts, Record, Form, Fits, decided, kind_at, later_numbers, open_kinds, Course, Give, ◌>>=◌, Gives, AfterBlocks, Problem, asks_all, asks_trees, below, claims, has_tree, StepGives, SourceSeen, and_first, zip_long, records_formed, PairsFor, Reading, CheckStop, StepIs, step_map, step_then_is, Known, lists, problems_by, sizes_of, shapes_of, verdict_by, verdict_of, proof_by, proof_of, meaning, KeptFacts, asked, AsksForTree, IsBuilt, shown_by_tree, tree_place, tight, Part, verdict_of_head, FitAnswer, part_proofs, proof_of_head, IsKnownFor, parts_below, AreRows, MayBeRow, fixed_rows, many_rows, part_rows, row_form, rows_below, Row, Comb, Dual, M, Mu, Shelves, Side, Tie, Weights, IsHead, known_of, class_count, HeadHolds, IsAfter, IsBlock, Learns, after_at, after_by, end_course, forms_below, head_course, many_after, parts_after, rows_course, tests_course}
+use Rattle.crn_document.proofs.Prelude.{◌≡◌, ◌≤◌, ◌+◌, ◌-◌, ◌++◌, ◌∙◌, ℕ, zero, suc, Bool, true, false, ◌==◌, ◌&&◌, List, [], ◌∷◌, length, map, replicate, refl, sym, subst, ap, ap₂, inl, inr, arith, Result, ℤ, if◌then◌else◌, slice_index_or, AllByRecursion, AllZip, flat_map, eqb-true, length-map, map-append, Place, Net, MAX_COMPLEXES, Verdict, No, Yes, Rests, Proof, Answer, Earlier, Question, Q2, Q13, Q14, Q15, on, terminal_of, Test, AllHold, FailsFirst, HasVector, exits, head_tests, linkage, linkage_count, row_tests, strong, tests_of, pairs_to, IsFormed, IsFormedOf, hold_parts, Record, Form, Fits, decided, kind_at, later_numbers, open_kinds, Course, Give, ◌>>=◌, Gives, AfterBlocks, Problem, asks_all, asks_trees, below, claims, has_tree, StepGives, SourceSeen, and_first, zip_long, records_formed, Reading, CheckStop, StepIs, step_map, step_then_is, Known, lists, problems_by, sizes_of, shapes_of, verdict_by, verdict_of, proof_by, proof_of, meaning, KeptFacts, asked, AsksForTree, IsBuilt, shown_by_tree, tree_place, tight, Part, verdict_of_head, FitAnswer, part_proofs, proof_of_head, IsKnownFor, parts_below, AreRows, MayBeRow, fixed_rows, many_rows, part_rows, row_form, rows_below, Row, Comb, Dual, M, Mu, Shelves, Side, Tie, Weights, IsHead, known_of, class_count, HeadHolds, IsAfter, IsBlock, Learns, after_at, after_by, end_course, forms_below, head_course, many_after, parts_after, rows_course, tests_course}
 use Rattle.crn_document.specs.Inner.Answer.{kind_of}
 use Rattle.crn_ctext.specs.Course as course
 use Rattle.crn_ctext.specs.Meaning as said
@@ -7,7 +7,6 @@ use Rattle.crn_document.proofs.Fields.{part_within}
 use Rattle.crn_document.proofs.Ranks.{AreRanks}
 use Rattle.crn_document.proofs.HeadKinds.{heads_hold, tight_and_bare}
 use Rattle.crn_document.proofs.Heads.{said_facts}
-use Rattle.crn_document.proofs.Linkages.{pairs_known}
 use Rattle.crn_document.proofs.TreesBelow.{no_tree_below}
 
 -- ---- claims
@@ -132,25 +131,6 @@ other_answer : (P : Verdict → Proof → Type 0) (net : Net) (earlier : Earlier
 other_answer P net earlier n head rs a is p =
     subst (λ (v : Verdict). P v (said_proof net earlier n head rs)) is.verdict_is (subst (λ (w : Proof). P a.verdict w) is.proof_is p)
 
--- the pairs are known on which the forms rest
-pairs_for : (net : Net) (n : ℕ) (facts : KeptFacts) → IsBuilt n → IsKnownFor net n facts → PairsFor (asked n) (known_of net facts.earlier)
-pairs_for net n facts (inl e) k = subst (λ (m : ℕ). PairsFor (asked m) (known_of net facts.earlier)) (sym e) tt
-pairs_for net n facts (inr (inl e)) k = subst (λ (m : ℕ). PairsFor (asked m) (known_of net facts.earlier)) (sym e) tt
-pairs_for net n facts (inr (inr (inl e))) k = subst (λ (m : ℕ). PairsFor (asked m) (known_of net facts.earlier)) (sym e) tt
-pairs_for net n facts (inr (inr (inr (inl e)))) k = subst (λ (m : ℕ). PairsFor (asked m) (known_of net facts.earlier)) (sym e) tt
-pairs_for net n facts (inr (inr (inr (inr (inl e))))) k = subst (λ (m : ℕ). PairsFor (asked m) (known_of net facts.earlier)) (sym e) tt
-pairs_for net n facts (inr (inr (inr (inr (inr (inl e)))))) k = subst (λ (m : ℕ). PairsFor (asked m) (known_of net facts.earlier)) (sym e) tt
-pairs_for net n facts (inr (inr (inr (inr (inr (inr (inl e))))))) k = subst (λ (m : ℕ). PairsFor (asked m) (known_of net facts.earlier)) (sym e) tt
-pairs_for net n facts (inr (inr (inr (inr (inr (inr (inr (inl e)))))))) k = subst (λ (m : ℕ). PairsFor (asked m) (known_of net facts.earlier)) (sym e) tt
-pairs_for net n facts (inr (inr (inr (inr (inr (inr (inr (inr (inl e))))))))) k = subst (λ (m : ℕ). PairsFor (asked m) (known_of net facts.earlier)) (sym e) tt
-pairs_for net n facts (inr (inr (inr (inr (inr (inr (inr (inr (inr (inl e)))))))))) k = subst (λ (m : ℕ). PairsFor (asked m) (known_of net facts.earlier)) (sym e) tt
-pairs_for net n facts (inr (inr (inr (inr (inr (inr (inr (inr (inr (inr (inl e))))))))))) k = subst (λ (m : ℕ). PairsFor (asked m) (known_of net facts.earlier)) (sym e) (pairs_known net n facts k (inl e))
-pairs_for net n facts (inr (inr (inr (inr (inr (inr (inr (inr (inr (inr (inr (inl e)))))))))))) k = subst (λ (m : ℕ). PairsFor (asked m) (known_of net facts.earlier)) (sym e) tt
-pairs_for net n facts (inr (inr (inr (inr (inr (inr (inr (inr (inr (inr (inr (inr (inl e))))))))))))) k = subst (λ (m : ℕ). PairsFor (asked m) (known_of net facts.earlier)) (sym e) (pairs_known net n facts k (inr e))
-pairs_for net n facts (inr (inr (inr (inr (inr (inr (inr (inr (inr (inr (inr (inr (inr (inl e)))))))))))))) k = subst (λ (m : ℕ). PairsFor (asked m) (known_of net facts.earlier)) (sym e) tt
-pairs_for net n facts (inr (inr (inr (inr (inr (inr (inr (inr (inr (inr (inr (inr (inr (inr (inl e))))))))))))))) k = subst (λ (m : ℕ). PairsFor (asked m) (known_of net facts.earlier)) (sym e) tt
-pairs_for net n facts (inr (inr (inr (inr (inr (inr (inr (inr (inr (inr (inr (inr (inr (inr (inr (none)))))))))))))))) k = absurd none
-
 pub answer_formed : (net : Net) (n : ℕ) (facts : KeptFacts) (head : List ℤ) (rows : List (List ℤ)) (h : Record) (rs : List Record) (a : Answer) → (AsksForTree n → said.number head 0 ≡ tree_place n → ⊥) → IsBuilt n → IsKnownFor net n facts → HeadHolds net facts.earlier n head → IsBlock net facts.earlier n head rows h rs → IsAnswerOf net facts.earlier n head rs a → IsFormed net facts.earlier (asked n) a
 answer_formed net n facts head rows h rs a other built known hold b is =
     let earlier = facts.earlier in
@@ -159,7 +139,7 @@ answer_formed net n facts head rows h rs a other built known hold b is =
     let f = said_facts net n facts head h built known b.is_head in
     let below_is : below q (shapes_of here) h ≡ forms_below net earlier n head = f.below_is in
     let none : meaning.problems q here h ≡ [] = sym (trees_due net earlier n head h b.is_head) ∙ no_tree_below n built here (said.number head 0) other in
-    let formed = records_formed here q h rs (pairs_for net n facts built known) (let s = b.is_head in s.form) (subst (λ (fs : List Form). AllZip Fits fs rs) (sym below_is) b.fit) none in
+    let formed = records_formed here q h rs (let s = b.is_head in s.form) (subst (λ (fs : List Form). AllZip Fits fs rs) (sym below_is) b.fit) none in
     same_answer (λ v p. IsFormedOf net earlier q v p) net earlier n head rs a is
     (subst (λ (v : Verdict). IsFormedOf net earlier q v (said_proof net earlier n head rs)) (head_says net earlier n head h rs b.is_head) (subst (λ (p : Proof). IsFormedOf net earlier q (verdict_of q (sizes_of here) h rs) p) (let s = f.shown in s rs) formed))
 

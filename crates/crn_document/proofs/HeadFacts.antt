@@ -1,5 +1,5 @@
 -- What the form of a head says of its numbers, of the records below it and of the answer.
-use Rattle.crn_document.proofs.Prelude.{◌≡◌, ◌≤◌, ◌<◌, ◌+◌, ◌^◌, ◌⊎◌, ◌++◌, ◌∙◌, ℕ, zero, suc, List, [], ◌∷◌, length, map, refl, sym, subst, ap, ap₂, arith, ℤ, pos, nat_abs, AllZip, range_with_len, append-nil, length-map, length-map-range_with_len, IsAscending, Net, IsNetwork, MAX_COMPLEXES, abs_back, HeadMayBe, zip_long, record_is, Earlier, IsBasisOf, head_tests, row_tests, linkage, linkage_count, class_places, pair_places, AreFrom, Record, Form, AreRising, Rising, Fits, AreOf, small, just, small_form, below, IsOneOf, row, lists, pairs_of, sizes_of, shapes_of, proof_of, asked, AreSmall, AreSmallAt, verdict_of_head, FitAnswer, proof_of_head, HeadHolds, forms_below, parts_after, known_of, head_forms, tagged, class_count}
+use Rattle.crn_document.proofs.Prelude.{◌≡◌, ◌≤◌, ◌<◌, ◌+◌, ◌^◌, ◌++◌, ◌∙◌, ℕ, zero, suc, List, [], ◌∷◌, length, map, refl, sym, subst, ap, ap₂, arith, ℤ, pos, nat_abs, AllZip, append-nil, length-map, IsAscending, Net, IsNetwork, MAX_COMPLEXES, abs_back, HeadMayBe, zip_long, record_is, Earlier, IsBasisOf, head_tests, row_tests, linkage, linkage_count, AreFrom, Record, Form, AreRising, Rising, Fits, AreOf, small, just, small_form, below, IsOneOf, row, lists, shapes_of, proof_of, asked, AreSmall, AreSmallAt, verdict_of_head, FitAnswer, proof_of_head, HeadHolds, forms_below, parts_after, known_of, head_forms, tagged, class_count}
 use Rattle.crn_document.proofs.Fields.{Holds, PartsWithin, form_small, naturals, one_field, one_number, small_list}
 use Rattle.crn_document.proofs.Ranks.{AreRanks}
 
@@ -100,13 +100,6 @@ wide_basis columns rows index basis low high long rising = record {
   ascending = rising_ascends (columns + rows) basis rising;
 }
 
-pub counts_long : (net : Net) (earlier : Earlier) → length (sizes_of (known_of net earlier)).class_reactions ≡ linkage_count earlier
-counts_long net earlier = length-map (map (λ k. class_places net earlier k) (range_with_len 1 (linkage_count earlier))) (λ (x : List ℕ). length x) ∙ length-map-range_with_len (λ k. class_places net earlier k) 1 (linkage_count earlier)
-
--- the linked pairs on which the forms rest are those on which the tests do
-abbrev pub ArePairs : Net → Earlier → Type 0
-ArePairs net earlier = pairs_of (known_of net earlier) ≡ pair_places net earlier
-
 abbrev pub FactsOf : Net → Earlier → ℕ → Record → Type 1
 FactsOf net earlier n h = HeadFacts net earlier n h (tagged net earlier n h)
 
@@ -116,17 +109,13 @@ same_facts net earlier n h words numbers w z f = subst (λ (h : Record). FactsOf
 pub as_form : (h : Record) (form other : Form) → form ≡ other → Fits form h → Fits other h
 as_form h form other e fits = subst (λ (f : Form). Fits f h) e fits
 
--- the forms of the head or of the records below it rest on the linked pairs
-abbrev pub UsesPairs : ℕ → Type 0
-UsesPairs n = (n ≡ 11) ⊎ (n ≡ 13)
-
 abbrev pub FactsAt : Net → Earlier → Record → ℕ → Type 1
-FactsAt net earlier h n = IsNetwork net → linkage_count earlier ≤ MAX_COMPLEXES → (UsesPairs n → ArePairs net earlier) → IsOneOf (head_forms net earlier n) h → FactsOf net earlier n h
+FactsAt net earlier h n = IsNetwork net → linkage_count earlier ≤ MAX_COMPLEXES → IsOneOf (head_forms net earlier n) h → FactsOf net earlier n h
 
 -- a linkage class and a number from 2
-pub class_and_number : (net : Net) (earlier : Earlier) (zs : List ℤ) → AreOf Holds (small 1 1 (length (sizes_of (known_of net earlier)).class_reactions) ∷ small 1 2 (length net.complexes) ∷ []) zs
+pub class_and_number : (net : Net) (earlier : Earlier) (zs : List ℤ) → AreOf Holds (small 1 1 (linkage_count earlier) ∷ small 1 2 (length net.complexes) ∷ []) zs
     → (k : ℕ) × (m : ℕ) × (zs ≡ pos k ∷ pos m ∷ []) × ((1 ≤ k) × (k ≤ linkage_count earlier)) × ((2 ≤ m) × (m ≤ length net.complexes))
 class_and_number net earlier zs p =
-    let first = one_number 1 (length (sizes_of (known_of net earlier)).class_reactions) p.0 p.3 in
+    let first = one_number 1 (linkage_count earlier) p.0 p.3 in
     let second = one_number 2 (length net.complexes) p.1 (one_field (small 1 2 (length net.complexes)) p.1 p.4) in
-    (first.0, second.0, p.2 ∙ ap₂ (λ (x y : List ℤ). x ++ y) first.1 second.1, (first.2.0, (let l = counts_long net earlier in let t = first.2.1 in omega (arith, l, t))), second.2)
+    (first.0, second.0, p.2 ∙ ap₂ (λ (x y : List ℤ). x ++ y) first.1 second.1, (first.2.0, first.2.1), second.2)

@@ -1,7 +1,7 @@
 -- What the head of each question says, and on which sizes its forms rest.
-use Rattle.crn_document.proofs.Prelude.{◌≡◌, ◌≤◌, ◌+◌, ◌++◌, ◌∙◌, ℕ, List, [], ◌∷◌, length, refl, sym, subst, ap, ap₂, inl, inr, arith, ℤ, codes, min, Net, Earlier, Q13, Record, Form, CountAndPart, ClassWide, Turn, TwoOf, small, just, Sizes, heads, head, yes, no, no_by, none_by, wide, wide_signal, rests, spent, open_by, question_of, KeptFacts, asked, IsBuilt, IsKnownFor, HasClassSizes, IsHead}
+use Rattle.crn_document.proofs.Prelude.{◌≡◌, ◌≤◌, ◌+◌, ◌++◌, ◌∙◌, ℕ, List, [], ◌∷◌, map, refl, sym, subst, ap, ap₂, inl, inr, arith, ℤ, codes, min, range_with_len, Net, Earlier, Q13, Record, Form, CountAndPart, ClassWide, Turn, TwoOf, small, just, Sizes, head, yes, no, no_by, none_by, wide, wide_signal, rests, spent, open_by, heads, question_of, KeptFacts, asked, IsBuilt, IsKnownFor, HasClassSizes, IsHead}
 use Rattle.std.specs.Prelude.{Bool, true, false}
-use Rattle.crn_document.proofs.Linkages.{count_few, pairs_known}
+use Rattle.crn_document.proofs.Linkages.{count_few}
 use Rattle.crn_document.proofs.HeadFacts.{HeadFacts, FactsAt}
 use Rattle.crn_document.proofs.HeadsOfClasses.{by_linkage, by_strong, by_reversible, by_weak}
 use Rattle.crn_document.proofs.HeadsOfRanks.{by_rank, by_deficiency}
@@ -31,7 +31,7 @@ head_facts net earlier n h (inr (inr (inr (inr (inr (inr (inr (inr (inr (inr (in
 
 pub said_facts : (net : Net) (n : ℕ) (facts : KeptFacts) (head : List ℤ) (h : Record) → IsBuilt n → IsKnownFor net n facts → IsHead net facts.earlier n head h → HeadFacts net facts.earlier n h head
 said_facts net n facts head h built known said =
-    subst (λ (t : List ℤ). HeadFacts net facts.earlier n h t) (sym said.tag) (head_facts net facts.earlier n h built known.network (count_few net n facts built known) (pairs_known net n facts known) said.form)
+    subst (λ (t : List ℤ). HeadFacts net facts.earlier n h t) (sym said.tag) (head_facts net facts.earlier n h built known.network (count_few net n facts built known) said.form)
 
 -- the forms of the head of question 13, by the sizes on which they rest
 abbrev signal_wide : (species complexes pairs : ℕ) → Bool → List Form
@@ -56,13 +56,13 @@ signal_pairs : (species reactions complexes m n : ℕ) (vector : Bool) → (vect
 signal_pairs species reactions complexes m n true p = ap (λ (k : ℕ). signal_heads species reactions complexes k true) (p refl)
 signal_pairs species reactions complexes m n false p = refl
 
-pub heads_by_sizes : (n : ℕ) → IsBuilt n → (z w : Sizes) → z.species ≡ w.species → z.complexes ≡ w.complexes → z.reactions ≡ w.reactions → (n ≡ 6 → z.class_reactions ≡ w.class_reactions) → (HasClassSizes n → length z.class_reactions ≡ length w.class_reactions) → (n ≡ 13 → z.vector ≡ true → z.pairs ≡ w.pairs) → (n ≡ 13 → z.vector ≡ w.vector) → heads (question_of n) z ≡ heads (asked n) w
+pub heads_by_sizes : (n : ℕ) → IsBuilt n → (z w : Sizes) → z.species ≡ w.species → z.complexes ≡ w.complexes → z.reactions ≡ w.reactions → (n ≡ 6 → map z.class_reactions (range_with_len 1 z.classes) ≡ map w.class_reactions (range_with_len 1 w.classes)) → (HasClassSizes n → z.classes ≡ w.classes) → (n ≡ 13 → z.vector ≡ true → z.pairs ≡ w.pairs) → (n ≡ 13 → z.vector ≡ w.vector) → heads (question_of n) z ≡ heads (asked n) w
 heads_by_sizes n (inl e) z w s c r k l p v = subst (λ (m : ℕ). heads (question_of m) z ≡ heads (asked m) w) (sym e) (ap (λ (k : ℕ). head (codes "q1") 1 [] (small 1 1 k ∷ []) ∷ []) c)
 heads_by_sizes n (inr (inl e)) z w s c r k l p v = subst (λ (m : ℕ). heads (question_of m) z ≡ heads (asked m) w) (sym e) (ap (λ (k : ℕ). head (codes "q2") 1 [] (CountAndPart k ∷ []) ∷ []) c)
 heads_by_sizes n (inr (inr (inl e))) z w s c r k l p v = subst (λ (m : ℕ). heads (question_of m) z ≡ heads (asked m) w) (sym e) (ap (λ (k : ℕ). head (codes "q3") 1 yes [] ∷ head (codes "q3") 2 no (small 1 1 k ∷ []) ∷ []) r)
 heads_by_sizes n (inr (inr (inr (inl e)))) z w s c r k l p v = subst (λ (m : ℕ). heads (question_of m) z ≡ heads (asked m) w) (sym e) (ap (λ (k : ℕ). head (codes "q4") 1 yes [] ∷ head (codes "q4") 2 no (small 1 1 k ∷ []) ∷ []) r)
 heads_by_sizes n (inr (inr (inr (inr (inl e))))) z w s c r k l p v = subst (λ (m : ℕ). heads (question_of m) z ≡ heads (asked m) w) (sym e) (ap₂ (λ (i j : ℕ). head (codes "q5") 1 [] (small 1 1 (min i j) ∷ []) ∷ wide (codes "q5") 2 1 i j ∷ []) s r)
-heads_by_sizes n (inr (inr (inr (inr (inr (inl e)))))) z w s c r k l p v = subst (λ (m : ℕ). heads (question_of m) z ≡ heads (asked m) w) (sym e) (ap₂ (λ (i : ℕ × ℕ) (x : List ℕ). head (codes "q6") 1 [] (small (1 + length x) 0 i.0 ∷ []) ∷ head (codes "q6") 2 (open_by (codes "wide")) (just 3 ∷ ClassWide i.1 x ∷ []) ∷ rests (codes "q6") 4 5 ∷ []) (ap₂ (λ (i j : ℕ). (i, j)) c s) (k e))
+heads_by_sizes n (inr (inr (inr (inr (inr (inl e)))))) z w s c r k l p v = subst (λ (m : ℕ). heads (question_of m) z ≡ heads (asked m) w) (sym e) (ap₂ (λ (i : ℕ × ℕ) (x : ℕ × List ℕ). head (codes "q6") 1 [] (small (1 + x.0) 0 i.0 ∷ []) ∷ head (codes "q6") 2 (open_by (codes "wide")) (just 3 ∷ ClassWide i.1 x.1 ∷ []) ∷ rests (codes "q6") 4 5 ∷ []) (ap₂ (λ (i j : ℕ). (i, j)) c s) (ap₂ (λ (n : ℕ) (xs : List ℕ). (n, xs)) (l (inl e)) (k e)))
 heads_by_sizes n (inr (inr (inr (inr (inr (inr (inl e))))))) z w s c r k l p v = subst (λ (m : ℕ). heads (question_of m) z ≡ heads (asked m) w) (sym e) (ap₂ (λ (i j : ℕ). head (codes "q7") 1 yes [] ∷ head (codes "q7") 2 no [] ∷ wide (codes "q7") 3 2 i j ∷ []) r s)
 heads_by_sizes n (inr (inr (inr (inr (inr (inr (inr (inl e)))))))) z w s c r k l p v = subst (λ (m : ℕ). heads (question_of m) z ≡ heads (asked m) w) (sym e) (ap₂ (λ (i j : ℕ). head (codes "q8") 1 yes [] ∷ head (codes "q8") 2 no [] ∷ wide (codes "q8") 3 1 i j ∷ []) s r)
 heads_by_sizes n (inr (inr (inr (inr (inr (inr (inr (inr (inl e))))))))) z w s c r k l p v = subst (λ (m : ℕ). heads (question_of m) z ≡ heads (asked m) w) (sym e) (ap (λ (i : ℕ). head (codes "q9") 1 yes (small 1 0 1 ∷ []) ∷ head (codes "q9") 2 no (small 1 1 i ∷ []) ∷ rests (codes "q9") 5 5 ∷ []) c)

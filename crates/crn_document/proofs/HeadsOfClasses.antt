@@ -1,5 +1,5 @@
 -- What the heads of questions 1 to 4 say.
-use Rattle.crn_document.proofs.Prelude.{◌≤◌, ◌-◌, ℕ, List, [], ◌∷◌, length, refl, inl, inr, arith, pos, codes, Net, IsNetwork, zip_long, Earlier, Record, Form, CountAndPart, small, small_form, head, yes, no}
+use Rattle.crn_document.proofs.Prelude.{◌≤◌, ◌-◌, ℕ, List, [], ◌∷◌, length, refl, inl, inr, arith, pos, codes, Net, IsNetwork, zip_long, head, yes, no, Earlier, Record, Form, CountAndPart, small, small_form}
 use Rattle.crn_document.proofs.Fields.{one_field, one_number}
 use Rattle.crn_document.proofs.HeadFacts.{Facts, one_small, AreSmallForms, small_at, form_of, same_facts, as_form, FactsAt}
 
@@ -104,36 +104,36 @@ not_weak_facts net earlier k network range = record {
 }
 
 pub by_linkage : (net : Net) (earlier : Earlier) (h : Record) → FactsAt net earlier h 1
-by_linkage net earlier h network few pairs (form, inr none, fits) = absurd none
-by_linkage net earlier h network few pairs (form, inl e, fits) =
+by_linkage net earlier h network few (form, inr none, fits) = absurd none
+by_linkage net earlier h network few (form, inl e, fits) =
     let f = as_form h form (head (codes "q1") 1 [] (small 1 1 (length net.complexes) ∷ [])) e fits in
     let k = one_number 1 (length net.complexes) h.numbers (one_field (small 1 1 (length net.complexes)) h.numbers f.1) in
     same_facts net earlier 1 h (codes "q1" ∷ []) (pos k.0 ∷ []) f.0 k.1 (linkage_facts net earlier k.0 network k.2)
 
 pub by_strong : (net : Net) (earlier : Earlier) (h : Record) → FactsAt net earlier h 2
-by_strong net earlier h network few pairs (form, inr none, fits) = absurd none
-by_strong net earlier h network few pairs (form, inl e, fits) =
+by_strong net earlier h network few (form, inr none, fits) = absurd none
+by_strong net earlier h network few (form, inl e, fits) =
     let f = as_form h form (head (codes "q2") 1 [] (CountAndPart (length net.complexes) ∷ [])) e fits in
     let p = one_field (CountAndPart (length net.complexes)) h.numbers f.1 in
     let t = p.0 in
     same_facts net earlier 2 h (codes "q2" ∷ []) (pos t.0 ∷ pos t.1 ∷ []) f.0 t.2 (strong_facts net earlier t.0 t.1 network (t.3, t.4, t.5))
 
 pub by_reversible : (net : Net) (earlier : Earlier) (h : Record) → FactsAt net earlier h 3
-by_reversible net earlier h network few pairs (form, inr (inr none), fits) = absurd none
-by_reversible net earlier h network few pairs (form, inl e, fits) =
+by_reversible net earlier h network few (form, inr (inr none), fits) = absurd none
+by_reversible net earlier h network few (form, inl e, fits) =
     let f = as_form h form (head (codes "q3") 1 yes []) e fits in
     same_facts net earlier 3 h (codes "q3" ∷ yes) [] f.0 f.1 (reversible_facts net earlier network)
-by_reversible net earlier h network few pairs (form, inr (inl e), fits) =
+by_reversible net earlier h network few (form, inr (inl e), fits) =
     let f = as_form h form (head (codes "q3") 2 no (small 1 1 (length net.reactions) ∷ [])) e fits in
     let k = one_number 1 (length net.reactions) h.numbers (one_field (small 1 1 (length net.reactions)) h.numbers f.1) in
     same_facts net earlier 3 h (codes "q3" ∷ no) (pos k.0 ∷ []) f.0 k.1 (irreversible_facts net earlier k.0 network k.2)
 
 pub by_weak : (net : Net) (earlier : Earlier) (h : Record) → FactsAt net earlier h 4
-by_weak net earlier h network few pairs (form, inr (inr none), fits) = absurd none
-by_weak net earlier h network few pairs (form, inl e, fits) =
+by_weak net earlier h network few (form, inr (inr none), fits) = absurd none
+by_weak net earlier h network few (form, inl e, fits) =
     let f = as_form h form (head (codes "q4") 1 yes []) e fits in
     same_facts net earlier 4 h (codes "q4" ∷ yes) [] f.0 f.1 (weak_facts net earlier network)
-by_weak net earlier h network few pairs (form, inr (inl e), fits) =
+by_weak net earlier h network few (form, inr (inl e), fits) =
     let f = as_form h form (head (codes "q4") 2 no (small 1 1 (length net.reactions) ∷ [])) e fits in
     let k = one_number 1 (length net.reactions) h.numbers (one_field (small 1 1 (length net.reactions)) h.numbers f.1) in
     same_facts net earlier 4 h (codes "q4" ∷ no) (pos k.0 ∷ []) f.0 k.1 (not_weak_facts net earlier k.0 network k.2)

@@ -1,5 +1,5 @@
 -- What the heads of questions 14 and 15 say.
-use Rattle.crn_document.proofs.Prelude.{◌≡◌, ◌≤◌, ◌+◌, ℕ, List, [], ◌∷◌, length, refl, inl, inr, arith, ℤ, pos, codes, Net, IsNetwork, MAX_BUDGET, zip_long, Earlier, Record, Form, AreRising, small, free_form, head, yes, no, wide, spent, open_by}
+use Rattle.crn_document.proofs.Prelude.{◌≡◌, ◌≤◌, ◌+◌, ℕ, List, [], ◌∷◌, length, refl, inl, inr, arith, ℤ, pos, codes, Net, IsNetwork, MAX_BUDGET, zip_long, head, yes, no, wide, spent, open_by, Earlier, Record, Form, AreRising, small, free_form}
 use Rattle.crn_document.proofs.Fields.{one_field, one_number}
 use Rattle.crn_document.proofs.HeadFacts.{Facts, one_small, wide_numbers, wide_small, wide_basis, same_facts, as_form, FactsAt}
 
@@ -120,35 +120,35 @@ strongly_spent_facts net earlier k range = record {
 }
 
 pub by_concordance : (net : Net) (earlier : Earlier) (h : Record) → FactsAt net earlier h 14
-by_concordance net earlier h network few pairs (form, inr (inr (inr (inr none))), fits) = absurd none
-by_concordance net earlier h network few pairs (form, inl e, fits) =
+by_concordance net earlier h network few (form, inr (inr (inr (inr none))), fits) = absurd none
+by_concordance net earlier h network few (form, inl e, fits) =
     let f = as_form h form (head (codes "q14") 1 yes []) e fits in
     same_facts net earlier 14 h (codes "q14" ∷ yes) [] f.0 f.1 (concordance_facts net earlier)
-by_concordance net earlier h network few pairs (form, inr (inl e), fits) =
+by_concordance net earlier h network few (form, inr (inl e), fits) =
     let f = as_form h form (head (codes "q14") 2 no []) e fits in
     same_facts net earlier 14 h (codes "q14" ∷ no) [] f.0 f.1 (no_concordance_facts net earlier)
-by_concordance net earlier h network few pairs (form, inr (inr (inl e)), fits) =
+by_concordance net earlier h network few (form, inr (inr (inl e)), fits) =
     let f = as_form h form (wide (codes "q14") 3 2 (length net.reactions) (length net.names)) e fits in
     let w = wide_numbers 2 (length net.reactions) (length net.names) h.numbers f.1 in
     same_facts net earlier 14 h (codes "q14" ∷ open_by (codes "wide")) (pos 2 ∷ pos 0 ∷ pos w.index ∷ w.basis) f.0 w.is (concordance_wide_facts net earlier w.index w.basis network w.low w.high w.long w.rising)
-by_concordance net earlier h network few pairs (form, inr (inr (inr (inl e))), fits) =
+by_concordance net earlier h network few (form, inr (inr (inr (inl e))), fits) =
     let f = as_form h form (spent (codes "q14") 4) e fits in
     let k = one_number 1 MAX_BUDGET h.numbers (one_field (small 1 1 MAX_BUDGET) h.numbers f.1) in
     same_facts net earlier 14 h (codes "q14" ∷ open_by (codes "budget")) (pos k.0 ∷ []) f.0 k.1 (concordance_spent_facts net earlier k.0 k.2)
 
 pub by_strongly : (net : Net) (earlier : Earlier) (h : Record) → FactsAt net earlier h 15
-by_strongly net earlier h network few pairs (form, inr (inr (inr (inr none))), fits) = absurd none
-by_strongly net earlier h network few pairs (form, inl e, fits) =
+by_strongly net earlier h network few (form, inr (inr (inr (inr none))), fits) = absurd none
+by_strongly net earlier h network few (form, inl e, fits) =
     let f = as_form h form (head (codes "q15") 1 yes []) e fits in
     same_facts net earlier 15 h (codes "q15" ∷ yes) [] f.0 f.1 (strongly_facts net earlier)
-by_strongly net earlier h network few pairs (form, inr (inl e), fits) =
+by_strongly net earlier h network few (form, inr (inl e), fits) =
     let f = as_form h form (head (codes "q15") 2 no []) e fits in
     same_facts net earlier 15 h (codes "q15" ∷ no) [] f.0 f.1 (no_strongly_facts net earlier)
-by_strongly net earlier h network few pairs (form, inr (inr (inl e)), fits) =
+by_strongly net earlier h network few (form, inr (inr (inl e)), fits) =
     let f = as_form h form (wide (codes "q15") 3 2 (length net.reactions) (length net.names)) e fits in
     let w = wide_numbers 2 (length net.reactions) (length net.names) h.numbers f.1 in
     same_facts net earlier 15 h (codes "q15" ∷ open_by (codes "wide")) (pos 2 ∷ pos 0 ∷ pos w.index ∷ w.basis) f.0 w.is (strongly_wide_facts net earlier w.index w.basis network w.low w.high w.long w.rising)
-by_strongly net earlier h network few pairs (form, inr (inr (inr (inl e))), fits) =
+by_strongly net earlier h network few (form, inr (inr (inr (inl e))), fits) =
     let f = as_form h form (spent (codes "q15") 4) e fits in
     let k = one_number 1 MAX_BUDGET h.numbers (one_field (small 1 1 MAX_BUDGET) h.numbers f.1) in
     same_facts net earlier 15 h (codes "q15" ∷ open_by (codes "budget")) (pos k.0 ∷ []) f.0 k.1 (strongly_spent_facts net earlier k.0 k.2)

@@ -1,8 +1,8 @@
 -- What the heads of questions 11 and 12 say.
-use Rattle.crn_document.proofs.Prelude.{◌≡◌, ◌≢◌, ◌≤◌, ◌<◌, ◌+◌, ◌-◌, ◌^◌, ◌++◌, ◌∙◌, ℕ, suc, List, [], ◌∷◌, drop, length, map, replicate, refl, sym, subst, ap, ap₂, inl, inr, arith, ℤ, pos, codes, slice_index_or, AllZip, ints, append-nil, length-map, length-replicate, Net, IsNetwork, MAX_COMPLEXES, zip_long, Earlier, linkage, linkage_count, pair_places, side_tests, tie_tests, AreFree, AreFreeRows, Record, Form, AreRising, Several, TwoOf, Fits, AreBetween, small, just, record_form, free_form, Sizes, head, yes, no_by, none_by, wide, rests, open_by, side_form, later_numbers, lists, row, sizes_of, AreSmall, forms_below, Row, Side, Tie, row_form, known_of}
+use Rattle.crn_document.proofs.Prelude.{◌≡◌, ◌≢◌, ◌≤◌, ◌<◌, ◌+◌, ◌-◌, ◌^◌, ◌++◌, ◌∙◌, ℕ, suc, List, [], ◌∷◌, drop, length, map, replicate, refl, sym, subst, ap, ap₂, inl, inr, arith, ℤ, pos, codes, slice_index_or, AllZip, ints, append-nil, length-map, length-replicate, Net, IsNetwork, MAX_COMPLEXES, zip_long, head, yes, no_by, none_by, wide, rests, open_by, Earlier, linkage, linkage_count, pair_places, side_tests, tie_tests, AreFree, AreFreeRows, Record, Form, AreRising, Several, TwoOf, Fits, AreBetween, small, just, record_form, free_form, Sizes, side_form, later_numbers, lists, row, sizes_of, AreSmall, forms_below, Row, Side, Tie, row_form, known_of}
 use Rattle.crn_document.proofs.Fields.{PartsWithin, one_field, one_number, small_list}
 use Rattle.crn_document.proofs.Ranks.{drop_none, free_row, free_rows, map_replicate}
-use Rattle.crn_document.proofs.HeadFacts.{Facts, one_small, IsWide, wide_numbers, wide_small, wide_basis, counts_long, ArePairs, same_facts, as_form, FactsAt, class_and_number}
+use Rattle.crn_document.proofs.HeadFacts.{Facts, one_small, IsWide, wide_numbers, wide_small, wide_basis, same_facts, as_form, FactsAt, class_and_number}
 
 sides_are : (net : Net) (labels : List ℕ) (z : Sizes) (ps : List ℕ) → z.complexes ≡ length net.complexes → map (side_form z) ps ≡ map (row_form net labels 0) (map (λ (r : ℕ). Side r) ps)
 sides_are net labels z [] e = refl
@@ -13,8 +13,8 @@ side_parts net earlier part k [] sides le = tt
 side_parts net earlier part k (r ∷ rs) [] le = (omega (arith, le), tt)
 side_parts net earlier part k (r ∷ rs) (s ∷ ss) le = (omega (arith, le), side_parts net earlier (suc part) k rs ss (omega (arith, le)))
 
-regular_facts : (net : Net) (earlier : Earlier) → ArePairs net earlier → Facts net earlier 11 (codes "q11" ∷ yes) []
-regular_facts net earlier pairs =
+regular_facts : (net : Net) (earlier : Earlier) → Facts net earlier 11 (codes "q11" ∷ yes) []
+regular_facts net earlier =
     let z : Sizes = sizes_of (known_of net earlier) in
     let labels = linkage earlier in
     let ps = pair_places net earlier in
@@ -28,7 +28,7 @@ regular_facts net earlier pairs =
       ranks = λ long. tt;
       few = omega arith;
       may = tt;
-      below_is = ap (λ (xs : List ℕ). map (side_form z) xs) pairs ∙ rows_are;
+      below_is = rows_are;
       shown = λ rs. refl;
       head_parts = (omega arith, tt);
       fit = λ rs hold zz. (tt, tt);
@@ -103,9 +103,6 @@ regular_rests_facts net earlier = record {
 abbrev tie_forms : Net → Earlier → ℕ → List Form
 tie_forms net earlier n = replicate n (free_form (codes "tie") (length net.names + linkage_count earlier))
 
-ties_by : (net : Net) (earlier : Earlier) (n : ℕ) → replicate n (free_form (codes "tie") (length net.names + length (sizes_of (known_of net earlier)).class_reactions)) ≡ tie_forms net earlier n
-ties_by net earlier n = ap (λ (k : ℕ). replicate n (free_form (codes "tie") (length net.names + k))) (counts_long net earlier)
-
 ties_are : (net : Net) (earlier : Earlier) (n : ℕ) → tie_forms net earlier n ≡ map (row_form net (linkage earlier) 0) (replicate n (Tie (linkage_count earlier)) ++ [])
 ties_are net earlier n =
     let f : Row → Form = row_form net (linkage earlier) 0 in
@@ -137,7 +134,7 @@ confluence_facts net earlier =
       ranks = λ long. tt;
       few = omega arith;
       may = tt;
-      below_is = ap (λ (fs : List Form). vector ∷ fs) (ties_by net earlier n) ∙ rows_are;
+      below_is = rows_are;
       shown = λ rs. refl;
       head_parts = (omega arith, tt);
       fit = λ rs hold zz. (tt, tt);
@@ -175,7 +172,7 @@ only_zero_facts net earlier =
       ranks = λ long. tt;
       few = omega arith;
       may = tt;
-      below_is = ties_by net earlier c ∙ rows_are;
+      below_is = rows_are;
       shown = λ rs. refl;
       head_parts = (omega arith, tt);
       fit = λ rs hold zz. (tt, tt);
@@ -232,51 +229,50 @@ confluence_rests_facts net earlier = record {
 }
 
 pub by_regular : (net : Net) (earlier : Earlier) (h : Record) → FactsAt net earlier h 11
-by_regular net earlier h network few pairs (form, inr (inr (inr (inr (inr none)))), fits) = absurd none
-by_regular net earlier h network few pairs (form, inl e, fits) =
+by_regular net earlier h network few (form, inr (inr (inr (inr (inr none)))), fits) = absurd none
+by_regular net earlier h network few (form, inl e, fits) =
     let f = as_form h form (head (codes "q11") 1 yes []) e fits in
-    same_facts net earlier 11 h (codes "q11" ∷ yes) [] f.0 f.1 (regular_facts net earlier (pairs (inl refl)))
-by_regular net earlier h network few pairs (form, inr (inl e), fits) =
-    let f = as_form h form (head (codes "q11") 2 (no_by (codes "terminal")) (small 1 1 (length (sizes_of (known_of net earlier)).class_reactions) ∷ small 1 2 (length net.complexes) ∷ [])) e fits in
+    same_facts net earlier 11 h (codes "q11" ∷ yes) [] f.0 f.1 (regular_facts net earlier)
+by_regular net earlier h network few (form, inr (inl e), fits) =
+    let f = as_form h form (head (codes "q11") 2 (no_by (codes "terminal")) (small 1 1 (linkage_count earlier) ∷ small 1 2 (length net.complexes) ∷ [])) e fits in
     let k = class_and_number net earlier h.numbers f.1 in
     same_facts net earlier 11 h (codes "q11" ∷ no_by (codes "terminal")) (pos k.0 ∷ pos k.1 ∷ []) f.0 k.2 (regular_split_facts net earlier k.0 k.1 network few k.3 k.4)
-by_regular net earlier h network few pairs (form, inr (inr (inl e)), fits) =
+by_regular net earlier h network few (form, inr (inr (inl e)), fits) =
     let f = as_form h form (head (codes "q11") 3 (no_by (codes "dependence")) []) e fits in
     same_facts net earlier 11 h (codes "q11" ∷ no_by (codes "dependence")) [] f.0 f.1 (regular_dependence_facts net earlier)
-by_regular net earlier h network few pairs (form, inr (inr (inr (inl e))), fits) =
+by_regular net earlier h network few (form, inr (inr (inr (inl e))), fits) =
     let f = as_form h form (head (codes "q11") 4 (no_by (codes "cycle")) (small 1 1 (length net.reactions) ∷ [])) e fits in
     let k = one_number 1 (length net.reactions) h.numbers (one_field (small 1 1 (length net.reactions)) h.numbers f.1) in
     same_facts net earlier 11 h (codes "q11" ∷ no_by (codes "cycle")) (pos k.0 ∷ []) f.0 k.1 (regular_cycle_facts net earlier k.0 network k.2)
-by_regular net earlier h network few pairs (form, inr (inr (inr (inr (inl e)))), fits) =
+by_regular net earlier h network few (form, inr (inr (inr (inr (inl e)))), fits) =
     let f = as_form h form (rests (codes "q11") 7 7) e fits in
     let k = one_number 7 7 h.numbers (one_field (just 7) h.numbers f.1) in
     let seven : k.0 ≡ 7 = (let a = k.2.0 in let b = k.2.1 in omega (arith, a, b)) in
     same_facts net earlier 11 h (codes "q11" ∷ open_by (codes "rests")) (pos 7 ∷ []) f.0 (k.1 ∙ ap (λ (m : ℕ). pos m ∷ []) seven) (regular_rests_facts net earlier)
 
 pub by_confluence : (net : Net) (earlier : Earlier) (h : Record) → FactsAt net earlier h 12
-by_confluence net earlier h network few pairs (form, inr (inr (inr (inr (inr (inr none))))), fits) = absurd none
-by_confluence net earlier h network few pairs (form, inl e, fits) =
+by_confluence net earlier h network few (form, inr (inr (inr (inr (inr (inr none))))), fits) = absurd none
+by_confluence net earlier h network few (form, inl e, fits) =
     let f = as_form h form (head (codes "q12") 1 yes []) e fits in
     same_facts net earlier 12 h (codes "q12" ∷ yes) [] f.0 f.1 (confluence_facts net earlier)
-by_confluence net earlier h network few pairs (form, inr (inl e), fits) =
+by_confluence net earlier h network few (form, inr (inl e), fits) =
     let f = as_form h form (head (codes "q12") 2 (none_by (codes "regular")) []) e fits in
     same_facts net earlier 12 h (codes "q12" ∷ none_by (codes "regular")) [] f.0 f.1 (irregular_facts net earlier)
-by_confluence net earlier h network few pairs (form, inr (inr (inl e)), fits) =
+by_confluence net earlier h network few (form, inr (inr (inl e)), fits) =
     let f = as_form h form (head (codes "q12") 3 (none_by (codes "zero")) []) e fits in
     same_facts net earlier 12 h (codes "q12" ∷ none_by (codes "zero")) [] f.0 f.1 (only_zero_facts net earlier)
-by_confluence net earlier h network few pairs (form, inr (inr (inr (inl e))), fits) =
+by_confluence net earlier h network few (form, inr (inr (inr (inl e))), fits) =
     let f = as_form h form (head (codes "q12") 4 (none_by (codes "plane")) (TwoOf (length net.complexes) ∷ [])) e fits in
     let p = one_field (TwoOf (length net.complexes)) h.numbers f.1 in
     let t = p.0 in
     let each = subst (λ (zs : List ℤ). AreBetween (pos 1) (pos (length net.complexes)) zs) t.2 t.4 in
     same_facts net earlier 12 h (codes "q12" ∷ none_by (codes "plane")) (pos t.0 ∷ pos t.1 ∷ []) f.0 t.2
     (plane_facts net earlier t.0 t.1 network (omega (arith, ints, each.0.0), omega (arith, ints, each.0.1)) (omega (arith, ints, each.1.0.0), omega (arith, ints, each.1.0.1)) t.3)
-by_confluence net earlier h network few pairs (form, inr (inr (inr (inr (inl e)))), fits) =
-    let classes = length (sizes_of (known_of net earlier)).class_reactions in
-    let f = as_form h form (wide (codes "q12") 5 4 (length net.complexes) (length net.names + classes)) e fits in
-    let w : IsWide 4 (length net.complexes) (length net.names + linkage_count earlier) h.numbers = subst (λ (k : ℕ). IsWide 4 (length net.complexes) (length net.names + k) h.numbers) (counts_long net earlier) (wide_numbers 4 (length net.complexes) (length net.names + classes) h.numbers f.1) in
+by_confluence net earlier h network few (form, inr (inr (inr (inr (inl e)))), fits) =
+    let f = as_form h form (wide (codes "q12") 5 4 (length net.complexes) (length net.names + linkage_count earlier)) e fits in
+    let w : IsWide 4 (length net.complexes) (length net.names + linkage_count earlier) h.numbers = wide_numbers 4 (length net.complexes) (length net.names + linkage_count earlier) h.numbers f.1 in
     same_facts net earlier 12 h (codes "q12" ∷ open_by (codes "wide")) (pos 4 ∷ pos 0 ∷ pos w.index ∷ w.basis) f.0 w.is (confluence_wide_facts net earlier w.index w.basis network few w.low w.high w.long w.rising)
-by_confluence net earlier h network few pairs (form, inr (inr (inr (inr (inr (inl e))))), fits) =
+by_confluence net earlier h network few (form, inr (inr (inr (inr (inr (inl e))))), fits) =
     let f = as_form h form (rests (codes "q12") 7 11) e fits in
     let k = one_number 11 11 h.numbers (one_field (just 11) h.numbers f.1) in
     let same : k.0 ≡ 11 = (let a = k.2.0 in let b = k.2.1 in omega (arith, a, b)) in

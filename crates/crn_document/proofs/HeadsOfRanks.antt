@@ -1,10 +1,10 @@
 -- What the heads of questions 5 and 6 say.
-use Rattle.crn_document.proofs.Prelude.{◌≡◌, ◌≤◌, ◌<◌, ◌+◌, ◌++◌, ◌∙◌, ℕ, zero, suc, List, [], ◌∷◌, length, map, refl, sym, subst, ap, ap₂, inl, inr, arith, ℤ, pos, negsuc, codes, nat_abs, min, slice_index, AllZip, range_with_len, ints, append-nil, length-map, length-range_with_len, IsIn, class_members, Wide, Unknown, Ranks, RankProof, Net, IsNetwork, MAX_COMPLEXES, MAX_REACTIONS, HeadMayBe, zip_long, Earlier, Q6, linkage, linkage_count, class_places, class_rank_tests, Record, Form, AreRising, ClassWide, Fits, AreOf, AreBetween, small, just, Sizes, head, wide, rests, open_by, class_forms, rank_forms, lengths, nums, lists, sizes_of, shapes_of, class_proofs, part_proofs, class_parts, forms_below, Row, part_rows, row_form, known_of}
+use Rattle.crn_document.proofs.Prelude.{◌≡◌, ◌≤◌, ◌<◌, ◌+◌, ◌++◌, ◌∙◌, ℕ, zero, suc, List, [], ◌∷◌, length, map, refl, sym, subst, ap, ap₂, inl, inr, arith, ℤ, pos, negsuc, codes, nat_abs, min, slice_index, AllZip, range_with_len, ints, append-nil, length-map, length-range_with_len, length-map-range_with_len, IsIn, class_members, Wide, Unknown, Ranks, RankProof, Net, IsNetwork, MAX_COMPLEXES, MAX_REACTIONS, HeadMayBe, zip_long, head, wide, rests, open_by, Earlier, Q6, linkage, linkage_count, class_places, class_rank_tests, Record, Form, AreRising, ClassWide, Fits, AreOf, AreBetween, small, just, Sizes, class_forms, rank_forms, lengths, nums, lists, sizes_of, shapes_of, class_proofs, part_proofs, class_parts, forms_below, Row, part_rows, row_form, known_of}
 use Rattle.crn_cert.specs.declared.answer.Verdict.TheVariants.{Deficiency}
 use Rattle.crn_document.proofs.Fields.{Holds, PartsWithin, naturals, one_field, one_number, small_list}
 use Rattle.crn_document.proofs.Linkages.{members_all, members_few, member_few}
 use Rattle.crn_document.proofs.Ranks.{class_fit, class_ranks, class_formed, class_parts_within, class_proofs_are, class_rows_are, forms_from, members_are, proofs_from, rank_formed, rank_length, rank_parts, rank_rows_are, rank_small, sizes_are}
-use Rattle.crn_document.proofs.HeadFacts.{Facts, one_small, few_rows, rising_small, wide_numbers, wide_small, wide_basis, counts_long, same_facts, as_form, FactsAt}
+use Rattle.crn_document.proofs.HeadFacts.{Facts, one_small, few_rows, rising_small, wide_numbers, wide_small, wide_basis, same_facts, as_form, FactsAt}
 
 rank_wide_facts : (net : Net) (earlier : Earlier) (index : ℕ) (basis : List ℤ) → IsNetwork net → 1 ≤ index → index ≤ length net.names + length net.reactions → length basis ≡ length net.names → AreRising (length net.names + length net.reactions) basis → Facts net earlier 5 (codes "q5" ∷ open_by (codes "wide")) (pos 1 ∷ pos 0 ∷ pos index ∷ basis)
 rank_wide_facts net earlier index basis network low high long rising = record {
@@ -44,7 +44,7 @@ rank_facts net earlier k network range =
       row_parts = λ rs hold z0. let zz = subst (λ (fs : List Form). AllZip Fits fs rs) (sym below_is) z0 in let l = zip_long forms rs zz in rank_parts net all 1 (suc (length rs)) k _ (rank_formed net z k all rs refl zz) (omega (arith, l, long, count, le));
     }
 
-place_at : (net : Net) (earlier : Earlier) (a n i : ℕ) → i < n → slice_index (lengths (map (λ k. class_places net earlier k) (range_with_len a n))) i ≡ length (class_places net earlier (a + i))
+place_at : (net : Net) (earlier : Earlier) (a n i : ℕ) → i < n → slice_index (map (λ k. length (class_places net earlier k)) (range_with_len a n)) i ≡ length (class_places net earlier (a + i))
 place_at net earlier a zero i lt = absurd (omega (arith, lt))
 place_at net earlier a (suc n) zero lt = ap (λ (m : ℕ). length (class_places net earlier m)) (omega arith)
 place_at net earlier a (suc n) (suc i) lt = place_at net earlier (a + 1) n i (omega (arith, lt)) ∙ ap (λ (m : ℕ). length (class_places net earlier m)) (omega arith)
@@ -87,7 +87,7 @@ record IsClassWide (net : Net) (earlier : Earlier) (zs : List ℤ) : Type 0 wher
   long : length basis ≡ length net.names
   rising : AreRising (length net.names + length (class_places net earlier (suc class))) basis
 
-class_numbers : (net : Net) (earlier : Earlier) (zs : List ℤ) → AreOf Holds (just 3 ∷ ClassWide (length net.names) (sizes_of (known_of net earlier)).class_reactions ∷ []) zs → IsClassWide net earlier zs
+class_numbers : (net : Net) (earlier : Earlier) (zs : List ℤ) → AreOf Holds (just 3 ∷ ClassWide (length net.names) (map (λ k. length (class_places net earlier k)) (range_with_len 1 (linkage_count earlier))) ∷ []) zs → IsClassWide net earlier zs
 class_numbers net earlier zs p =
     let first = one_number 3 3 p.0 p.3 in
     let s1 : first.0 ≡ 3 = (let a = first.2.0 in let b = first.2.1 in omega (arith, a, b)) in
@@ -95,8 +95,8 @@ class_numbers net earlier zs p =
     let q = p.4 in
     let w = q.3.0 in
     let rest : p.1 ≡ pos (suc w.0) ∷ pos w.1 ∷ w.2 = q.2 ∙ ap (λ (t : List ℤ). q.0 ++ t) q.4 ∙ append-nil q.0 ∙ w.3 in
-    let lt : w.0 < linkage_count earlier = (let l = counts_long net earlier in let k = w.4 in omega (arith, l, k)) in
-    let at : slice_index (sizes_of (known_of net earlier)).class_reactions w.0 ≡ length (class_places net earlier (suc w.0)) = place_at net earlier 1 (linkage_count earlier) w.0 lt ∙ ap (λ (m : ℕ). length (class_places net earlier m)) (omega arith) in record {
+    let lt : w.0 < linkage_count earlier = (let l = length-map-range_with_len (λ k. length (class_places net earlier k)) 1 (linkage_count earlier) in let k = w.4 in omega (arith, l, k)) in
+    let at : slice_index (map (λ k. length (class_places net earlier k)) (range_with_len 1 (linkage_count earlier))) w.0 ≡ length (class_places net earlier (suc w.0)) = place_at net earlier 1 (linkage_count earlier) w.0 lt ∙ ap (λ (m : ℕ). length (class_places net earlier m)) (omega arith) in record {
       class = w.0;
       index = w.1;
       basis = w.2;
@@ -145,37 +145,37 @@ deficiency_rests_facts net earlier = record {
 }
 
 pub by_rank : (net : Net) (earlier : Earlier) (h : Record) → FactsAt net earlier h 5
-by_rank net earlier h network few pairs (form, inr (inr none), fits) = absurd none
-by_rank net earlier h network few pairs (form, inl e, fits) =
+by_rank net earlier h network few (form, inr (inr none), fits) = absurd none
+by_rank net earlier h network few (form, inl e, fits) =
     let most = min (length net.names) (length net.reactions) in
     let f = as_form h form (head (codes "q5") 1 [] (small 1 1 most ∷ [])) e fits in
     let k = one_number 1 most h.numbers (one_field (small 1 1 most) h.numbers f.1) in
     same_facts net earlier 5 h (codes "q5" ∷ []) (pos k.0 ∷ []) f.0 k.1 (rank_facts net earlier k.0 network k.2)
-by_rank net earlier h network few pairs (form, inr (inl e), fits) =
+by_rank net earlier h network few (form, inr (inl e), fits) =
     let f = as_form h form (wide (codes "q5") 2 1 (length net.names) (length net.reactions)) e fits in
     let w = wide_numbers 1 (length net.names) (length net.reactions) h.numbers f.1 in
     same_facts net earlier 5 h (codes "q5" ∷ open_by (codes "wide")) (pos 1 ∷ pos 0 ∷ pos w.index ∷ w.basis) f.0 w.is (rank_wide_facts net earlier w.index w.basis network w.low w.high w.long w.rising)
 
-deficiency_numbers : (net : Net) (earlier : Earlier) (zs : List ℤ) → AreOf Holds (small (1 + length (sizes_of (known_of net earlier)).class_reactions) 0 (length net.complexes) ∷ []) zs
+deficiency_numbers : (net : Net) (earlier : Earlier) (zs : List ℤ) → AreOf Holds (small (1 + linkage_count earlier) 0 (length net.complexes) ∷ []) zs
     → (total : ℕ) × (ds : List ℤ) × (zs ≡ pos total ∷ ds) × (total ≤ length net.complexes) × (length ds ≡ linkage_count earlier) × AreBetween (pos 0) (pos (length net.complexes)) ds
-deficiency_numbers net earlier zs p = by zs (one_field (small (1 + length (sizes_of (known_of net earlier)).class_reactions) 0 (length net.complexes)) zs p)
+deficiency_numbers net earlier zs p = by zs (one_field (small (1 + linkage_count earlier) 0 (length net.complexes)) zs p)
   where
-    by : (zs : List ℤ) → Holds (small (1 + length (sizes_of (known_of net earlier)).class_reactions) 0 (length net.complexes)) zs → (total : ℕ) × (ds : List ℤ) × (zs ≡ pos total ∷ ds) × (total ≤ length net.complexes) × (length ds ≡ linkage_count earlier) × AreBetween (pos 0) (pos (length net.complexes)) ds
+    by : (zs : List ℤ) → Holds (small (1 + linkage_count earlier) 0 (length net.complexes)) zs → (total : ℕ) × (ds : List ℤ) × (zs ≡ pos total ∷ ds) × (total ≤ length net.complexes) × (length ds ≡ linkage_count earlier) × AreBetween (pos 0) (pos (length net.complexes)) ds
     by [] p = absurd (let e = p.0.0 in omega (arith, e))
     by (negsuc n ∷ ds) p = absurd (let b = p.0.1.0.0 in omega (arith, ints, b))
-    by (pos n ∷ ds) p = (n, ds, refl, (let b = p.0.1.0.1 in omega (arith, ints, b)), (let e = p.0.0 in let l = counts_long net earlier in omega (arith, e, l)), p.0.1.1)
+    by (pos n ∷ ds) p = (n, ds, refl, (let b = p.0.1.0.1 in omega (arith, ints, b)), (let e = p.0.0 in omega (arith, e)), p.0.1.1)
 
 pub by_deficiency : (net : Net) (earlier : Earlier) (h : Record) → FactsAt net earlier h 6
-by_deficiency net earlier h network few pairs (form, inr (inr (inr none)), fits) = absurd none
-by_deficiency net earlier h network few pairs (form, inl e, fits) =
-    let f = as_form h form (head (codes "q6") 1 [] (small (1 + length (sizes_of (known_of net earlier)).class_reactions) 0 (length net.complexes) ∷ [])) e fits in
+by_deficiency net earlier h network few (form, inr (inr (inr none)), fits) = absurd none
+by_deficiency net earlier h network few (form, inl e, fits) =
+    let f = as_form h form (head (codes "q6") 1 [] (small (1 + linkage_count earlier) 0 (length net.complexes) ∷ [])) e fits in
     let d = deficiency_numbers net earlier h.numbers f.1 in
     same_facts net earlier 6 h (codes "q6" ∷ []) (pos d.0 ∷ d.1) f.0 d.2 (deficiency_facts net earlier d.0 d.1 network few d.3 d.4 d.5)
-by_deficiency net earlier h network few pairs (form, inr (inl e), fits) =
-    let f = as_form h form (head (codes "q6") 2 (open_by (codes "wide")) (just 3 ∷ ClassWide (length net.names) (sizes_of (known_of net earlier)).class_reactions ∷ [])) e fits in
+by_deficiency net earlier h network few (form, inr (inl e), fits) =
+    let f = as_form h form (head (codes "q6") 2 (open_by (codes "wide")) (just 3 ∷ ClassWide (length net.names) (map (λ k. length (class_places net earlier k)) (range_with_len 1 (linkage_count earlier))) ∷ [])) e fits in
     let w = class_numbers net earlier h.numbers f.1 in
     same_facts net earlier 6 h (codes "q6" ∷ open_by (codes "wide")) (pos 3 ∷ pos (suc w.class) ∷ pos w.index ∷ w.basis) f.0 w.is (class_wide_facts net earlier w.class w.index w.basis network few w.inside w.low w.high w.long w.rising)
-by_deficiency net earlier h network few pairs (form, inr (inr (inl e)), fits) =
+by_deficiency net earlier h network few (form, inr (inr (inl e)), fits) =
     let f = as_form h form (rests (codes "q6") 4 5) e fits in
     let k = one_number 5 5 h.numbers (one_field (just 5) h.numbers f.1) in
     let five : k.0 ≡ 5 = (let a = k.2.0 in let b = k.2.1 in omega (arith, a, b)) in

@@ -1,7 +1,7 @@
 -- What the head of question 13 says.
-use Rattle.crn_document.proofs.Prelude.{◌≡◌, ◌≤◌, ◌<◌, ◌+◌, ◌^◌, ◌++◌, ◌∙◌, ℕ, List, [], ◌∷◌, length, map, refl, sym, subst, ap, inl, inr, arith, ℤ, pos, negsuc, codes, nat_abs, IsIn, Net, IsNetwork, MAX_BUDGET, Earlier, pair_places, Record, Form, AreRising, Fits, small, just, record_form, free_form, Sizes, head, yes, no, wide, rests, spent, open_by, lists, pairs_of, proof_by, ranks_of, sizes_of, shapes_of, known_of, head_forms, Bool, true, false, IsWideGap, zip_long, spent_place, rests_place, turn_is, IsTurn, Q2, Q12, Q13, on, terminal_of, Small, Turn, kind_at, rows, wide_signal, place_of, has_vector}
+use Rattle.crn_document.proofs.Prelude.{◌≡◌, ◌≤◌, ◌<◌, ◌+◌, ◌^◌, ◌∙◌, ℕ, List, [], ◌∷◌, length, map, refl, sym, subst, ap, inl, inr, arith, ℤ, pos, negsuc, codes, nat_abs, IsIn, Net, IsNetwork, MAX_BUDGET, Earlier, pair_places, Record, Form, AreRising, Fits, small, just, record_form, free_form, lists, proof_by, ranks_of, sizes_of, shapes_of, known_of, head_forms, Bool, true, false, IsWideGap, zip_long, spent_place, rests_place, turn_is, head, yes, no, wide, rests, spent, open_by, last_forms, IsTurn, Q2, Q12, Q13, on, terminal_of, Small, Turn, kind_at, rows, place_of, has_vector}
 use Rattle.crn_document.proofs.Fields.{Holds, one_field, one_number}
-use Rattle.crn_document.proofs.HeadFacts.{Facts, one_small, wide_numbers, wide_small, wide_basis, same_facts, as_form, FactsAt, HeadFacts, head_with, FactsOf, ArePairs, IsWide}
+use Rattle.crn_document.proofs.HeadFacts.{Facts, one_small, wide_numbers, wide_small, wide_basis, same_facts, as_form, FactsAt, HeadFacts, head_with, FactsOf, IsWide}
 use Rattle.crn_document.proofs.Linkages.{pairs_few}
 
 -- ---- a signal
@@ -77,10 +77,6 @@ wide_facts net earlier system columns height index basis fits some many low high
   row_parts = λ rs hold z. tt;
 }
 
--- the forms after those of the first four places, by whether there is a vector
-abbrev last_forms : Bool → Sizes → List Form
-last_forms vector z = wide_signal vector z ++ spent (codes "q13") 5 ∷ rests (codes "q13") 6 12 ∷ []
-
 spent_facts : (net : Net) (earlier : Earlier) (k : ℕ) → (1 ≤ k) × (k ≤ MAX_BUDGET) → Facts net earlier 13 (codes "q13" ∷ open_by (codes "budget")) (pos k ∷ [])
 spent_facts net earlier k range =
     let known = known_of net earlier in
@@ -130,11 +126,11 @@ by_wide net earlier h network f =
     (wide_facts net earlier 2 (length net.reactions) (length net.names) w.index w.basis (omega arith) (omega (arith, r0)) (omega (arith, s0)) w.low w.high w.long w.rising
     (inl (refl, refl, wide_basis (length net.reactions) (length net.names) w.index w.basis w.low w.high w.long w.rising), tt))
 
-by_shelves : (net : Net) (earlier : Earlier) (h : Record) → IsNetwork net → ArePairs net earlier → has_vector (on earlier Q12) ≡ true → Fits (wide (codes "q13") 4 5 (length net.names + 1) (length net.complexes + length (pairs_of (known_of net earlier)))) h → FactsOf net earlier 13 h
-by_shelves net earlier h network pairs vector f =
+by_shelves : (net : Net) (earlier : Earlier) (h : Record) → IsNetwork net → has_vector (on earlier Q12) ≡ true → Fits (wide (codes "q13") 4 5 (length net.names + 1) (length net.complexes + length (pair_places net earlier))) h → FactsOf net earlier 13 h
+by_shelves net earlier h network vector f =
     let columns = length net.names + 1 in
     let many = length net.complexes + length (pair_places net earlier) in
-    let w : IsWide 5 columns many h.numbers = subst (λ (k : ℕ). IsWide 5 columns (length net.complexes + k) h.numbers) (ap (λ (x : List ℕ). length x) pairs) (wide_numbers 5 columns (length net.complexes + length (pairs_of (known_of net earlier))) h.numbers f.1) in
+    let w : IsWide 5 columns many h.numbers = wide_numbers 5 columns many h.numbers f.1 in
     let s0 = network.partial.species_limit in
     let c0 = network.partial.complexes_limit in
     let r0 = network.partial.reactions_limit in
@@ -155,23 +151,23 @@ by_closed net earlier h form (inr (inl e)) fits =
     same_facts net earlier 13 h (codes "q13" ∷ open_by (codes "rests")) (pos 12 ∷ []) f.0 (k.1 ∙ ap (λ (m : ℕ). pos m ∷ []) same) (rests_facts net earlier)
 by_closed net earlier h form (inr (inr none)) fits = absurd none
 
-by_last : (net : Net) (earlier : Earlier) (h : Record) (vector : Bool) → has_vector (on earlier Q12) ≡ vector → IsNetwork net → ArePairs net earlier → (form : Form) → IsIn form (last_forms vector (sizes_of (known_of net earlier))) → Fits form h → FactsOf net earlier 13 h
-by_last net earlier h true v network pairs form (inl e) fits =
-    by_shelves net earlier h network pairs v (as_form h form (wide (codes "q13") 4 5 (length net.names + 1) (length net.complexes + length (pairs_of (known_of net earlier)))) e fits)
-by_last net earlier h true v network pairs form (inr more) fits = by_closed net earlier h form more fits
-by_last net earlier h false v network pairs form more fits = by_closed net earlier h form more fits
+by_last : (net : Net) (earlier : Earlier) (h : Record) (vector : Bool) → has_vector (on earlier Q12) ≡ vector → IsNetwork net → (form : Form) → IsIn form (last_forms vector (sizes_of (known_of net earlier))) → Fits form h → FactsOf net earlier 13 h
+by_last net earlier h true v network form (inl e) fits =
+    by_shelves net earlier h network v (as_form h form (wide (codes "q13") 4 5 (length net.names + 1) (length net.complexes + length (pair_places net earlier))) e fits)
+by_last net earlier h true v network form (inr more) fits = by_closed net earlier h form more fits
+by_last net earlier h false v network form more fits = by_closed net earlier h form more fits
 
 pub by_signal : (net : Net) (earlier : Earlier) (h : Record) → FactsAt net earlier h 13
-by_signal net earlier h network few pairs (form, inl e, fits) =
+by_signal net earlier h network few (form, inl e, fits) =
     let f = as_form h form (head (codes "q13") 1 yes (Turn ∷ [])) e fits in
     let t = one_turn h.numbers (one_field Turn h.numbers f.1) in
     same_facts net earlier 13 h (codes "q13" ∷ yes) (t.0 ∷ []) f.0 t.2 (signal_facts net earlier t.0 t.1)
-by_signal net earlier h network few pairs (form, inr (inl e), fits) =
+by_signal net earlier h network few (form, inr (inl e), fits) =
     let f = as_form h form (head (codes "q13") 2 no []) e fits in
     same_facts net earlier 13 h (codes "q13" ∷ no) [] f.0 f.1 (no_signal_facts net earlier)
-by_signal net earlier h network few pairs (form, inr (inr (inl e)), fits) =
+by_signal net earlier h network few (form, inr (inr (inl e)), fits) =
     let f = as_form h form (head (codes "q13") 3 (codes "none" ∷ []) []) e fits in
     same_facts net earlier 13 h (codes "q13" ∷ codes "none" ∷ []) [] f.0 f.1 (none_facts net earlier)
-by_signal net earlier h network few pairs (form, inr (inr (inr (inl e))), fits) =
+by_signal net earlier h network few (form, inr (inr (inr (inl e))), fits) =
     by_wide net earlier h network (as_form h form (wide (codes "q13") 4 2 (length net.reactions) (length net.names)) e fits)
-by_signal net earlier h network few pairs (form, inr (inr (inr (inr more))), fits) = by_last net earlier h (has_vector (on earlier Q12)) refl network (pairs (inr refl)) form more fits
+by_signal net earlier h network few (form, inr (inr (inr (inr more))), fits) = by_last net earlier h (has_vector (on earlier Q12)) refl network form more fits

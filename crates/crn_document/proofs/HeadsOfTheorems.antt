@@ -1,5 +1,5 @@
 -- What the heads of questions 9 and 10 say.
-use Rattle.crn_document.proofs.Prelude.{◌≡◌, ◌≤◌, ◌∙◌, ℕ, zero, suc, [], ◌∷◌, length, refl, ap, inl, inr, arith, pos, codes, Net, IsNetwork, MAX_COMPLEXES, Earlier, linkage_count, Record, small, just, head, yes, no, no_by, rests, open_by, sizes_of, known_of}
+use Rattle.crn_document.proofs.Prelude.{◌≡◌, ◌≤◌, ◌∙◌, ℕ, zero, suc, [], ◌∷◌, length, refl, ap, inl, inr, arith, pos, codes, Net, IsNetwork, MAX_COMPLEXES, Earlier, linkage_count, Record, small, just, head, yes, no, no_by, rests, open_by}
 use Rattle.crn_document.proofs.Fields.{one_field, one_number}
 use Rattle.crn_document.proofs.HeadFacts.{Facts, one_small, same_facts, as_form, FactsAt, class_and_number}
 
@@ -135,39 +135,39 @@ zero_case net earlier (suc zero) le = zero_yes_facts net earlier
 zero_case net earlier (suc (suc k)) le = absurd (omega (arith, le))
 
 pub by_zero : (net : Net) (earlier : Earlier) (h : Record) → FactsAt net earlier h 9
-by_zero net earlier h network few pairs (form, inr (inr (inr none)), fits) = absurd none
-by_zero net earlier h network few pairs (form, inl e, fits) =
+by_zero net earlier h network few (form, inr (inr (inr none)), fits) = absurd none
+by_zero net earlier h network few (form, inl e, fits) =
     let f = as_form h form (head (codes "q9") 1 yes (small 1 0 1 ∷ [])) e fits in
     let k = one_number 0 1 h.numbers (one_field (small 1 0 1) h.numbers f.1) in
     same_facts net earlier 9 h (codes "q9" ∷ yes) (pos k.0 ∷ []) f.0 k.1 (zero_case net earlier k.0 k.2.1)
-by_zero net earlier h network few pairs (form, inr (inl e), fits) =
+by_zero net earlier h network few (form, inr (inl e), fits) =
     let f = as_form h form (head (codes "q9") 2 no (small 1 1 (length net.complexes) ∷ [])) e fits in
     let k = one_number 1 (length net.complexes) h.numbers (one_field (small 1 1 (length net.complexes)) h.numbers f.1) in
     same_facts net earlier 9 h (codes "q9" ∷ no) (pos k.0 ∷ []) f.0 k.1 (zero_no_facts net earlier k.0 network k.2)
-by_zero net earlier h network few pairs (form, inr (inr (inl e)), fits) =
+by_zero net earlier h network few (form, inr (inr (inl e)), fits) =
     let f = as_form h form (rests (codes "q9") 5 5) e fits in
     let k = one_number 5 5 h.numbers (one_field (just 5) h.numbers f.1) in
     let five : k.0 ≡ 5 = (let a = k.2.0 in let b = k.2.1 in omega (arith, a, b)) in
     same_facts net earlier 9 h (codes "q9" ∷ open_by (codes "rests")) (pos 5 ∷ []) f.0 (k.1 ∙ ap (λ (m : ℕ). pos m ∷ []) five) (zero_rests_facts net earlier)
 
 pub by_one : (net : Net) (earlier : Earlier) (h : Record) → FactsAt net earlier h 10
-by_one net earlier h network few pairs (form, inr (inr (inr (inr (inr none)))), fits) = absurd none
-by_one net earlier h network few pairs (form, inl e, fits) =
+by_one net earlier h network few (form, inr (inr (inr (inr (inr none)))), fits) = absurd none
+by_one net earlier h network few (form, inl e, fits) =
     let f = as_form h form (head (codes "q10") 1 yes []) e fits in
     same_facts net earlier 10 h (codes "q10" ∷ yes) [] f.0 f.1 (one_yes_facts net earlier)
-by_one net earlier h network few pairs (form, inr (inl e), fits) =
-    let f = as_form h form (head (codes "q10") 2 (no_by (codes "terminal")) (small 1 1 (length (sizes_of (known_of net earlier)).class_reactions) ∷ small 1 2 (length net.complexes) ∷ [])) e fits in
+by_one net earlier h network few (form, inr (inl e), fits) =
+    let f = as_form h form (head (codes "q10") 2 (no_by (codes "terminal")) (small 1 1 (linkage_count earlier) ∷ small 1 2 (length net.complexes) ∷ [])) e fits in
     let k = class_and_number net earlier h.numbers f.1 in
     same_facts net earlier 10 h (codes "q10" ∷ no_by (codes "terminal")) (pos k.0 ∷ pos k.1 ∷ []) f.0 k.2 (one_split_facts net earlier k.0 k.1 network few k.3 k.4)
-by_one net earlier h network few pairs (form, inr (inr (inl e)), fits) =
-    let f = as_form h form (head (codes "q10") 3 (no_by (codes "class")) (small 1 1 (length (sizes_of (known_of net earlier)).class_reactions) ∷ small 1 2 (length net.complexes) ∷ [])) e fits in
+by_one net earlier h network few (form, inr (inr (inl e)), fits) =
+    let f = as_form h form (head (codes "q10") 3 (no_by (codes "class")) (small 1 1 (linkage_count earlier) ∷ small 1 2 (length net.complexes) ∷ [])) e fits in
     let k = class_and_number net earlier h.numbers f.1 in
     same_facts net earlier 10 h (codes "q10" ∷ no_by (codes "class")) (pos k.0 ∷ pos k.1 ∷ []) f.0 k.2 (one_large_facts net earlier k.0 k.1 network few k.3 k.4)
-by_one net earlier h network few pairs (form, inr (inr (inr (inl e))), fits) =
+by_one net earlier h network few (form, inr (inr (inr (inl e))), fits) =
     let f = as_form h form (head (codes "q10") 4 (no_by (codes "sum")) (small 1 0 (length net.complexes) ∷ [])) e fits in
     let k = one_number 0 (length net.complexes) h.numbers (one_field (small 1 0 (length net.complexes)) h.numbers f.1) in
     same_facts net earlier 10 h (codes "q10" ∷ no_by (codes "sum")) (pos k.0 ∷ []) f.0 k.1 (one_sum_facts net earlier k.0 network k.2)
-by_one net earlier h network few pairs (form, inr (inr (inr (inr (inl e)))), fits) =
+by_one net earlier h network few (form, inr (inr (inr (inr (inl e)))), fits) =
     let f = as_form h form (rests (codes "q10") 7 6) e fits in
     let k = one_number 6 6 h.numbers (one_field (just 6) h.numbers f.1) in
     let six : k.0 ≡ 6 = (let a = k.2.0 in let b = k.2.1 in omega (arith, a, b)) in

@@ -87,27 +87,27 @@ no_law_facts net earlier = record {
 }
 
 pub by_dependence : (net : Net) (earlier : Earlier) (h : Record) → FactsAt net earlier h 7
-by_dependence net earlier h network few pairs (form, inr (inr (inr none)), fits) = absurd none
-by_dependence net earlier h network few pairs (form, inl e, fits) =
+by_dependence net earlier h network few (form, inr (inr (inr none)), fits) = absurd none
+by_dependence net earlier h network few (form, inl e, fits) =
     let f = as_form h form (head (codes "q7") 1 yes []) e fits in
     same_facts net earlier 7 h (codes "q7" ∷ yes) [] f.0 f.1 (dependence_facts net earlier)
-by_dependence net earlier h network few pairs (form, inr (inl e), fits) =
+by_dependence net earlier h network few (form, inr (inl e), fits) =
     let f = as_form h form (head (codes "q7") 2 no []) e fits in
     same_facts net earlier 7 h (codes "q7" ∷ no) [] f.0 f.1 (no_dependence_facts net earlier)
-by_dependence net earlier h network few pairs (form, inr (inr (inl e)), fits) =
+by_dependence net earlier h network few (form, inr (inr (inl e)), fits) =
     let f = as_form h form (wide (codes "q7") 3 2 (length net.reactions) (length net.names)) e fits in
     let w = wide_numbers 2 (length net.reactions) (length net.names) h.numbers f.1 in
     same_facts net earlier 7 h (codes "q7" ∷ open_by (codes "wide")) (pos 2 ∷ pos 0 ∷ pos w.index ∷ w.basis) f.0 w.is (dependence_wide_facts net earlier w.index w.basis network w.low w.high w.long w.rising)
 
 pub by_law : (net : Net) (earlier : Earlier) (h : Record) → FactsAt net earlier h 8
-by_law net earlier h network few pairs (form, inr (inr (inr none)), fits) = absurd none
-by_law net earlier h network few pairs (form, inl e, fits) =
+by_law net earlier h network few (form, inr (inr (inr none)), fits) = absurd none
+by_law net earlier h network few (form, inl e, fits) =
     let f = as_form h form (head (codes "q8") 1 yes []) e fits in
     same_facts net earlier 8 h (codes "q8" ∷ yes) [] f.0 f.1 (law_facts net earlier)
-by_law net earlier h network few pairs (form, inr (inl e), fits) =
+by_law net earlier h network few (form, inr (inl e), fits) =
     let f = as_form h form (head (codes "q8") 2 no []) e fits in
     same_facts net earlier 8 h (codes "q8" ∷ no) [] f.0 f.1 (no_law_facts net earlier)
-by_law net earlier h network few pairs (form, inr (inr (inl e)), fits) =
+by_law net earlier h network few (form, inr (inr (inl e)), fits) =
     let f = as_form h form (wide (codes "q8") 3 1 (length net.names) (length net.reactions)) e fits in
     let w = wide_numbers 1 (length net.names) (length net.reactions) h.numbers f.1 in
     same_facts net earlier 8 h (codes "q8" ∷ open_by (codes "wide")) (pos 1 ∷ pos 0 ∷ pos w.index ∷ w.basis) f.0 w.is (law_wide_facts net earlier w.index w.basis network w.low w.high w.long w.rising)

@@ -1,8 +1,8 @@
 -- The linkage classes that are known before a block, by the verdicts on all questions before it.
-use Rattle.crn_document.proofs.Prelude.{◌≡◌, ◌≤◌, ◌+◌, ◌-◌, ◌++◌, ◌∙◌, ℕ, zero, suc, Bool, List, [], ◌∷◌, length, map, drop, take, refl, sym, subst, ap, inl, inr, arith, codes, filter, ap₂, append_assoc, Result, Ok, Err, OnOk, Bor, AllByRecursion, range_with_len, filter-append, length-range_with_len, length-map-range_with_len, length-replicate, IsIn, IsAscending, Net, MAX_COMPLEXES, MAX_REACTIONS, filter_few, above_ascending, filter_above, range_above, filter_from, range_bounds, all_from, range_more, Wide, Verdict, Unknown, built, Earlier, Question, Q1, Q2, number, on, labels_of, count_of, terminal_of, IsFormedVerdict, some_number, Members, record_form, DueBase, KeptFacts, HoldsNoneFrom, HoldsOn, HoldsNeeds, IsBuilt, built_at, formed_on, terminal_fits, Linkage, IsKnownFor, IsKnown, IsLinkage, before, class_counts, is_in_class, members_of, FitsCounts, HasClassSizes, known_of, IsOwnDue, ends_at, is_least_of_pair, is_within_terminal, linkage, linkage_count, class_places, pair_places, Known, lengths, pairs_by, pairs_of}
+use Rattle.crn_document.proofs.Prelude.{◌≡◌, ◌≤◌, ◌+◌, ◌-◌, ◌++◌, ◌∙◌, ℕ, zero, suc, Bool, List, [], ◌∷◌, length, map, drop, take, refl, sym, subst, ap, inl, inr, arith, codes, filter, ap₂, append_assoc, Result, Ok, Err, OnOk, Bor, AllByRecursion, range_with_len, filter-append, length-range_with_len, length-map-range_with_len, length-replicate, IsIn, IsAscending, Net, MAX_COMPLEXES, MAX_REACTIONS, filter_few, above_ascending, filter_above, range_above, filter_from, range_bounds, all_from, range_more, Wide, Verdict, Unknown, built, Earlier, Question, Q1, Q2, number, on, labels_of, count_of, terminal_of, IsFormedVerdict, some_number, Members, record_form, DueBase, KeptFacts, HoldsNoneFrom, HoldsOn, HoldsNeeds, IsBuilt, built_at, formed_on, terminal_fits, Linkage, IsKnownFor, IsKnown, IsLinkage, before, class_counts, is_in_class, members_of, FitsCounts, HasClassSizes, IsOwnDue, ends_at, is_least_of_pair, is_within_terminal, linkage, linkage_count, class_places, pair_places}
 use Rattle.std.specs.Prelude.{replicate, ◌&&◌, ◌⊎◌}
 use Rattle.crn_cert.specs.declared.answer.Gap.TheVariants.{Budget, Rests}
-use Rattle.crn_cert.specs.declared.answer.Verdict.TheVariants.{Classes, Strong}
+use Rattle.crn_cert.specs.declared.answer.Verdict.TheVariants.{Classes}
 use Rattle.crn_document.proofs.Places.{place_of_built, needs_at, none_later}
 
 -- the number of classes and the labels that a verdict on linkage classes says
@@ -69,19 +69,6 @@ linkage_is net n facts v l built differs k is labels count =
 pub holds_second : (net : Net) (n : ℕ) (facts : KeptFacts) → (n ≡ 11) ⊎ (n ≡ 13) → IsKnownFor net n facts → HoldsOn facts.earlier 2
 holds_second net n facts (inl e) k = (subst (λ (m : ℕ). HoldsNeeds facts.earlier m) e k.needs).1.0
 holds_second net n facts (inr e) k = (subst (λ (m : ℕ). HoldsNeeds facts.earlier m) e k.needs).0
-
-strong_pairs : (net : Net) (e : Earlier) (known : Known) (v : Verdict) → IsFormedVerdict net e Q2 v → pairs_by known v ≡ pair_places known.net known.earlier
-strong_pairs net e known (Strong count terminal label exit) h = refl
-strong_pairs net e known (Unknown (Wide system class index basis)) h = absurd h.0
-strong_pairs net e known (Unknown (Budget nodes)) h = absurd h.0
-strong_pairs net e known (Unknown (Rests question)) h = absurd h.0
-strong_pairs net e known v h = absurd h.0
-
--- before questions 11 and 13 the strong classes are known, and so are the linked pairs within terminal ones
-pub pairs_known : (net : Net) (n : ℕ) (facts : KeptFacts) → IsKnownFor net n facts → (n ≡ 11) ⊎ (n ≡ 13) → pairs_of (known_of net facts.earlier) ≡ pair_places net facts.earlier
-pairs_known net n facts k e =
-    let f = formed_on net [] facts.earlier Q2 k.facts_of.formed (holds_second net n facts e k) in
-    strong_pairs net f.0 (known_of net facts.earlier) (on facts.earlier Q2) f.1
 
 -- and there are few terminal classes
 pub terminal_few : (net : Net) (n : ℕ) (facts : KeptFacts) → IsKnownFor net n facts → n ≡ 13 → terminal_of (on facts.earlier Q2) ≤ MAX_COMPLEXES
@@ -180,13 +167,13 @@ counts_few net labels count few most =
     let l = length-map-range_with_len (λ j. length (members_of net labels j)) 1 count in
     (omega (arith, l, most), each_few net labels (range_with_len 1 count) few)
 
-counts_are : (net : Net) (earlier : Earlier) (k n : ℕ) → class_counts net (linkage earlier) (suc k) n ≡ lengths (map (λ j. class_places net earlier j) (range_with_len (suc k) n))
+counts_are : (net : Net) (earlier : Earlier) (k n : ℕ) → class_counts net (linkage earlier) (suc k) n ≡ map (λ j. length (class_places net earlier j)) (range_with_len (suc k) n)
 counts_are net earlier k zero = refl
 counts_are net earlier k (suc n) =
     let m : suc k + 1 ≡ suc (suc k) = omega arith in
-    ap (λ (t : List ℕ). length (class_places net earlier (suc k)) ∷ t) (ap (λ (j : ℕ). class_counts net (linkage earlier) j n) m ∙ counts_are net earlier (suc k) n ∙ ap (λ (j : ℕ). lengths (map (λ j. class_places net earlier j) (range_with_len j n))) (sym m))
+    ap (λ (t : List ℕ). length (class_places net earlier (suc k)) ∷ t) (ap (λ (j : ℕ). class_counts net (linkage earlier) j n) m ∙ counts_are net earlier (suc k) n ∙ ap (λ (j : ℕ). map (λ i. length (class_places net earlier i)) (range_with_len j n)) (sym m))
 
-counts_same : (net : Net) (earlier : Earlier) (l : Linkage) (counts : List ℕ) → IsLinkage earlier l → counts ≡ class_counts net l.labels.now 1 l.count → counts ≡ lengths (map (λ j. class_places net earlier j) (range_with_len 1 (linkage_count earlier)))
+counts_same : (net : Net) (earlier : Earlier) (l : Linkage) (counts : List ℕ) → IsLinkage earlier l → counts ≡ class_counts net l.labels.now 1 l.count → counts ≡ map (λ k. length (class_places net earlier k)) (range_with_len 1 (linkage_count earlier))
 counts_same net earlier l counts k is = is ∙ ap₂ (λ (ls : List ℕ) (c : ℕ). class_counts net ls 1 c) k.labels_are k.count_is ∙ counts_are net earlier 0 (linkage_count earlier)
 
 -- the numbers of reactions that are counted are those on which the forms of a head rest
@@ -196,7 +183,7 @@ counts_fit net earlier question l counts few k is =
     record {
       few = subst (λ (x : List ℕ). length x ≤ MAX_COMPLEXES) (sym is) b.0;
       each = subst (λ (x : List ℕ). AllByRecursion (λ r. r ≤ MAX_REACTIONS) x) (sym is) b.1;
-      many = λ asks. ap length (counts_same net earlier l counts k is);
+      many = λ asks. ap length is ∙ length-map-range_with_len (λ j. length (members_of net l.labels.now j)) 1 l.count ∙ k.count_is;
       are = λ six. counts_same net earlier l counts k is;
     }
 
@@ -204,11 +191,10 @@ counts_fit net earlier question l counts few k is =
 pub zeros_fit : (net : Net) (earlier : Earlier) (question : ℕ) (l : Linkage) (counts : List ℕ) → IsLinkage earlier l → counts ≡ replicate l.count 0 → (question ≡ 6 → ⊥) → FitsCounts net earlier question counts
 zeros_fit net earlier question l counts k is never =
     let long : length counts ≡ l.count = ap length is ∙ length-replicate l.count 0 in
-    let same = ap length (counts_same net earlier l (class_counts net l.labels.now 1 l.count) k refl) in
     record {
       few = omega (arith, long, k.few);
       each = subst (λ (x : List ℕ). AllByRecursion (λ r. r ≤ MAX_REACTIONS) x) (sym is) (all_zeros l.count);
-      many = λ asks. long ∙ sym (length-map-range_with_len (λ j. length (members_of net l.labels.now j)) 1 l.count) ∙ same;
+      many = λ asks. long ∙ k.count_is;
       are = λ six. absurd (never six);
     }
   where

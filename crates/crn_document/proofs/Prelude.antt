@@ -14,6 +14,7 @@ pub use Rattle.crn_cert.specs.Questions.{Earlier, IsYes, Q1, Q11, Q12, Q13, Q14,
 pub use Rattle.crn_cert.specs.Ranges.{AreFree, AreFreeRows, AreFrom, IsNarrow}
 pub use Rattle.crn_cert.specs.RankTests.{comb_tests, dual_tests, rank_tests}
 pub use Rattle.crn_cert.specs.Says.{IsTrueOf, IsTurn, by_turn}
+pub use Rattle.crn_cert.specs.Table.{Sizes}
 pub use Rattle.crn_cert.specs.Tests.{AllHold, FailsFirst, Test}
 pub use Rattle.crn_cert.specs.Valid.{AreClassNumbers, HasVector, IsNodeOf, OfVector, class_places, class_rank_tests, confluence_head, ends_at, exits, head_tests, is_least_of_pair, is_within_terminal, linkage, linkage_count, pair_places, row_tests, side_tests, strong, tests_of}
 pub use Rattle.crn_cert.specs.Verdicts.{tight}
@@ -30,7 +31,7 @@ pub use Rattle.crn_check.proofs.CallerLemmas.{answer_treeless, built_at, classes
 pub use Rattle.crn_check.specs.Check.{AsksForTree, HoldsNeeds, HoldsNoSignal, IsBuilt, IsShapeFor, Judges, shown_by_tree, tree_place}
 pub use Rattle.crn_check.specs.Facts.{AreFactsOf, HoldsNoneFrom, HoldsOn, KeptFacts, asked}
 pub use Rattle.crn_check.specs.declared.fault.CheckFault.{CheckFault}
-pub use Rattle.crn_ctext.proofs.CallerLemmas.{AreShort, HoldTogether, IsLike, PairsFor, awaited_open, awaits_before, awaits_parts, awaits_then, fails_before, fails_then, fails_with_a_code, gives_parts, gives_then, read_true, record_is, records_formed, rests_place, settled, spent_place, split_known, step_awaits_like, step_fails_like, step_fails_then, step_gives_like, step_then, text_says, trees_like, turn_is, zip_long}
+pub use Rattle.crn_ctext.proofs.CallerLemmas.{AreShort, HoldTogether, IsLike, awaited_open, awaits_before, awaits_parts, awaits_then, fails_before, fails_then, fails_with_a_code, given_back, gives_parts, gives_then, head, last_forms, no, no_by, none_by, open_by, read_true, record_is, records_formed, rests, rests_place, settled, spent, spent_place, split_known, step_awaits_like, step_fails_like, step_fails_then, step_gives_like, step_then, text_says, trees_like, turn_is, wide, wide_signal, yes, zip_long}
 pub use Rattle.crn_ctext.specs.Blocks.{AfterBlocks, CutA, CutB, Flat, IsNetworkOf, Node, Problem, ReadOf, Split, after_sections, asks, asks_block, asks_leaf, asks_lines, asks_node, asks_table, below, either, goes_on, has_tree, leaf, lists_of, node_of, place_of, reads, sections, word_of}
 unfoldable pub use Rattle.crn_ctext.specs.Blocks.{asks_all, asks_blocks, asks_tree, asks_trees, claims}
 pub use Rattle.crn_ctext.specs.Course.{Course, End, Give, IsReported, Line, due, find, test, ◌>>=◌}
@@ -41,8 +42,8 @@ pub use Rattle.crn_ctext.specs.Expect.{AreSizes, IsReadAs, MayBeDue, due_forms, 
 pub use Rattle.crn_ctext.specs.Judged.{IsReadOf}
 pub use Rattle.crn_ctext.specs.Kinds.{end_form, free_form, head_words, just, known_words, node_forms, record_form, row_words, section_form, small, small_form, table_form, tree_words, vector_form}
 pub use Rattle.crn_ctext.specs.Linked.{AreSound}
-pub use Rattle.crn_ctext.specs.Meaning.{Known, class_proofs, has_vector, is_yes, sizes_of as known_sizes, learn_of, lengths, lists, meaning, nums, pairs_by, pairs_of, problem_with, problems_by, proof_by, proof_of, rank_proof, ranks_of, row, shapes_of, signal_problem, signal_problems, sizes_of, verdict_by, verdict_of, verdicts_said}
-pub use Rattle.crn_ctext.specs.Questions.{Sizes, class_forms, decided, first_number, head, heads, kind_at, later_numbers, no, no_by, none_by, open_by, open_kinds, opens, rank_forms, rests, rows, side_form, spent, wide, wide_signal, yes}
+pub use Rattle.crn_ctext.specs.Meaning.{Known, class_proofs, has_vector, is_yes, sizes_of as known_sizes, learn_of, lengths, lists, meaning, nums, pairs_of, problem_with, problems_by, proof_by, proof_of, rank_proof, ranks_of, row, shapes_of, signal_problem, signal_problems, sizes_of, verdict_by, verdict_of, verdicts_said}
+pub use Rattle.crn_ctext.specs.Questions.{class_forms, decided, first_number, heads, kind_at, later_numbers, open_kinds, opens, rank_forms, rows, side_form}
 pub use Rattle.crn_ctext.specs.Records.{AreBetween, AreNarrow, AreOf, AreRising, BeginsWith, ClassWide, CountAndPart, Field, Fits, Form, Free, FreeSeveral, IsShaped, Members, Record, Rising, Says, Several, Small, Takes, Turn, TwoOf, kind_of, record_text}
 pub use Rattle.crn_ctext.specs.Steps.{StepFails, StepGives, cut}
 unfoldable pub use Rattle.crn_ctext.specs.Steps.{Awaits}

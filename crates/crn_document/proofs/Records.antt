@@ -52,7 +52,7 @@ pub row_untagged : (c : ℕ) (form : Form) (d : Due) → IsRowDue c form d → (
 row_untagged c form d i z r = let f = due_facts c form d i in let u = f.untagged in u z r
 
 -- the row that is due
-pub row_expects : (version c : ℕ) (form : Form) (e : Expect) → IsVersion version → e.version ≡ version → e.after_tree ≡ false → AreSizes (sizes_of e.sizes) → (sizes_of e.sizes).complexes ≡ c → IsRowDue c form e.due → Expects e version false (form ∷ [])
+pub row_expects : (version c : ℕ) (form : Form) (e : Expect) → IsVersion version → e.version ≡ version → e.after_tree ≡ false → AreSizes e.sizes → (sizes_of e.sizes).complexes ≡ c → IsRowDue c form e.due → Expects e version false (form ∷ [])
 row_expects version c form e v same none sizes many i =
     let f = due_facts c form e.due i in record {
       may = record { version = subst (λ (k : ℕ). IsVersion k) (sym same) v; sizes = sizes; due = (let m = f.may in m e.version) };

@@ -2,7 +2,6 @@
 use Rattle.crn_document.proofs.Prelude.{◌≡◌, ◌∙◌, ◌+◌, ◌-◌, ℕ, true, List, [], length, refl, sym, ap, ap₂, subst, inl, inr, ℤ, pos, negsuc, Some, None, AllByRecursion, IsSome, IsSomeAnd, Net, IsWeaklyReversible, IsRegular, HasConfluenceLine, IsNormalVector, negative, Shape, HasNoSignal, IsShapeOf, opposite_shape, length-scale, negatives_have_opposite_shapes, reaction_in, shapes_are_one, weakly_reversible_by_reactions, Verdict, No, Yes, YesVec, Earlier, Q2, Q4, Q12, Q13, on, terminal_of, vector_given, IsNarrow, IsFormedVerdict, IsTrueOrOpen, IsTrueOf, IsTurn, by_turn, HasVector, OfVector, shape_count, shapes_exist, none_at_all, is_yes, pairs_of, HoldsOn, KeptFacts, formed_on, sound_on, strong_true, weak_true, known_of, IsKnownFor, vector_or_none}
 use Rattle.std.specs.Prelude.{Option}
 use Rattle.crn_cert.specs.declared.answer.Verdict.TheVariants.{NoReaction}
-use Rattle.crn_document.proofs.Linkages.{pairs_known}
 
 -- the verdicts at which question 13 looks are known
 pub record Held (es : Earlier) : Type 0 where
@@ -73,7 +72,7 @@ sizes net facts turn s k some is sh =
     let same : s ≡ x.shape = shapes_are_one net (by_turn turn g) s x.shape sh x.is in
     record {
       choices = ap₂ (λ (a b : ℕ). a + b) (shape_count net earlier (by_turn turn g) s known sh) sh.shape.species;
-      rows = ap₂ (λ (a b : ℕ). a + b) (ap (λ (xs : List (List ℤ)). length xs) sh.shape.complexes) (ap (λ (u : Shape). length u.pairs) same ∙ x.pairs ∙ ap (λ (xs : List ℕ). length xs) (sym (pairs_known net 13 facts k (inr refl))));
+      rows = ap₂ (λ (a b : ℕ). a + b) (ap (λ (xs : List (List ℤ)). length xs) sh.shape.complexes) (ap (λ (u : Shape). length u.pairs) same ∙ x.pairs);
     }
 
 -- ---- a no

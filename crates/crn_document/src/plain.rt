@@ -31,7 +31,7 @@ fn plain_due(plain: Plain) -> Due<'static>
 
 // The sizes of nothing.
 fn no_sizes() -> Sizes<'static>
-    ensures { AreSizes (sizes_of result) }
+    ensures { AreSizes result }
 {
     Sizes {
         species: 0,

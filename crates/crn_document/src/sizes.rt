@@ -1,7 +1,7 @@
 ghost use Rattle.std.specs.Prelude.{◌≡◌, ◌≤◌, length};
 ghost use Rattle.std.specs.List.{AllByRecursion};
 ghost use Rattle.crn_vec.specs.declared.limits.TheConstants.{MAX_COMPLEXES, MAX_REACTIONS};
-ghost use Rattle.crn_ctext.specs.Expect.{AreSizes, sizes_of};
+ghost use Rattle.crn_ctext.specs.Expect.{AreSizes};
 
 use crn_ctext::Sizes;
 use crn_net::Network;
@@ -17,7 +17,7 @@ pub(crate) fn head_sizes<'a>(
     requires few { length class_reactions.now ≤ MAX_COMPLEXES }
     requires each { AllByRecursion (λ r. r ≤ MAX_REACTIONS) class_reactions.now }
     requires pairs { pairs ≤ MAX_REACTIONS }
-    ensures within { AreSizes (sizes_of result) }
+    ensures within { AreSizes result }
     ensures species { result.species ≡ length net.now.names }
     ensures complexes { result.complexes ≡ length net.now.complexes }
     ensures reactions { result.reactions ≡ length net.now.reactions }
@@ -39,7 +39,7 @@ pub(crate) fn head_sizes<'a>(
 
 // The sizes of a network alone, on which the forms of all other records depend.
 pub(crate) fn net_sizes(net: &Network) -> Sizes<'static>
-    ensures within { AreSizes (sizes_of result) }
+    ensures within { AreSizes result }
     ensures complexes { result.complexes ≡ length net.now.complexes }
 {
     head_sizes(net, &[], 0, false)

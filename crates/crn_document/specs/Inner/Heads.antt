@@ -1,11 +1,12 @@
 -- For the contracts of private functions alone.
 -- The head of a question, and what the records below it rest on.
 -- Source: this project's own format. Shapes: questions and the places of forms count from 1.
-use Rattle.std.specs.Prelude.{◌≡◌, ◌≤◌, ◌⊎◌, ◌==◌, ◌||◌, if◌then◌else◌, true, ℕ, ℤ, pos, List, ◌∷◌, length}
+use Rattle.std.specs.Prelude.{◌≡◌, ◌≤◌, ◌⊎◌, ◌==◌, ◌||◌, if◌then◌else◌, true, ℕ, ℤ, pos, List, ◌∷◌, length, map}
 use Rattle.std.specs.List.{AllByRecursion}
 use Rattle.crn_vec.specs.Network.{Net}
 use Rattle.crn_vec.specs.declared.limits.TheConstants.{MAX_COMPLEXES, MAX_REACTIONS}
 use Rattle.crn_cert.specs.Questions.{Earlier}
+use Rattle.crn_cert.specs.Valid.{class_places, classes_to, linkage_count}
 use Rattle.crn_ctext.specs.Records.{Record, Form}
 use Rattle.crn_ctext.specs.Questions.{heads}
 use Rattle.crn_ctext.specs.Blocks.{place_of}
@@ -56,5 +57,6 @@ pub record FitsCounts (net : Net) (earlier : Earlier) (question : ℕ) (counts :
     pub few : length counts ≤ MAX_COMPLEXES
     pub each : AllByRecursion (λ r. r ≤ MAX_REACTIONS) counts
     pub many : HasClassSizes question
-        → length counts ≡ length (sizes_of (known_of net earlier)).class_reactions
-    pub are : question ≡ 6 → counts ≡ (sizes_of (known_of net earlier)).class_reactions
+        → length counts ≡ linkage_count earlier
+    pub are : question ≡ 6 → counts
+        ≡ map (λ k. length (class_places net earlier k)) (classes_to (linkage_count earlier))

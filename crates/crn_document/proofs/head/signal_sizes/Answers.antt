@@ -1,5 +1,5 @@
 use Rattle.crn_document.proofs.Prelude.{◌≡◌, ◌∙◌, ℕ, List, length, ap, ap₂, arith, inr, sym, pair_places, pairs_to, IsKnownFor, subst, false≢true}
-use Rattle.crn_document.proofs.Linkages.{holds_second, pairs_few, pairs_known}
+use Rattle.crn_document.proofs.Linkages.{holds_second, pairs_few}
 use Rattle.crn_document.proofs.SignalsKnown.{held}
 use Rattle.crn_document.proofs.head.signal_sizes.Goals.{else-question-eq13-via-then-question-eq13+else-gives_vector, else-question-eq13-via-else-question-eq13}
 use Rattle.crn_document.proofs.head.signal_sizes.Goals as goal
@@ -32,7 +32,7 @@ returns-then-gives_vector c =
     let most = c.requires.known.network.partial.reactions_limit in
     record {
       few = omega (arith, long, few, most);
-      pairs = λ is has. long ∙ sym (ap (λ (x : List ℕ). length x) (pairs_known net c.args.question c.args.facts.now c.requires.known (inr is)));
+      pairs = λ is has. long;
       vector = λ is. sym c.if-gives_vector.true ∙ c.gives_vector.ensures;
     }
 
