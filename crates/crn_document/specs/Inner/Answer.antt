@@ -2,11 +2,11 @@
 -- and of the records below it.
 -- Source: this project's own format. Shapes: the numbers of a head follow the place of its form,
 -- which counts from 1.
-use Rattle.std.specs.Prelude.{◌<◌, ◌^◌, ℕ, ℤ, nat_abs, List, [], ◌∷◌}
+use Rattle.std.specs.Prelude.{◌≡◌, ◌⊎◌, ◌<◌, ◌^◌, ℕ, ℤ, nat_abs, List, [], ◌∷◌}
 use Rattle.std.specs.List.{AllByRecursion}
 use Rattle.crn_cert.specs.declared.answer.Verdict.{Verdict}
 use Rattle.crn_cert.specs.declared.head_kind.HeadKind.{HeadKind}
-use Rattle.crn_cert.specs.declared.head_kind.HeadKind.TheVariants.{Classes, Strong, Rank, NoCycle}
+use Rattle.crn_cert.specs.declared.head_kind.HeadKind.TheVariants.{Classes, Strong, Rank, Deficiency, YesVec, YesSignal, NoVec, NoCycle, NoPair, Plane, Wide, Budget, Rests}
 use Rattle.crn_cert.specs.Questions.{Question}
 use Rattle.crn_ctext.specs.Records.{Record}
 use Rattle.crn_ctext.specs.Meaning.{lists, number, row, verdict_by}
@@ -31,6 +31,18 @@ kept Strong = 0 ∷ 6 ∷ []
 kept Rank = 0 ∷ []
 kept NoCycle = 0 ∷ []
 kept kind = []
+
+-- a verdict of this kind has lists of naturals
+abbrev pub HasNums : HeadKind → Type 0
+HasNums kind = (kind ≡ Classes) ⊎ (kind ≡ Strong) ⊎ (kind ≡ Rank) ⊎ (kind ≡ Deficiency) ⊎ (kind ≡ NoCycle)
+
+-- a verdict of this kind has lists of integers
+abbrev pub HasInts : HeadKind → Type 0
+HasInts kind = (kind ≡ YesVec) ⊎ (kind ≡ YesSignal) ⊎ (kind ≡ NoVec) ⊎ (kind ≡ NoPair) ⊎ (kind ≡ Plane)
+
+-- a verdict of this kind is open
+abbrev pub IsOpen : HeadKind → Type 0
+IsOpen kind = (kind ≡ Wide) ⊎ (kind ≡ Budget) ⊎ (kind ≡ Rests)
 
 -- the kind of a head by the place of its form, its first number
 abbrev pub kind_of : Question → (head : List ℤ) → HeadKind
