@@ -26,7 +26,7 @@ blocks_formed net budget (a ∷ []) h = absurd h
 blocks_formed net budget (a ∷ b ∷ []) h = absurd h
 blocks_formed net budget (a ∷ b ∷ c ∷ []) h = absurd h
 blocks_formed net budget (a ∷ b ∷ c ∷ d ∷ []) h = absurd h
-blocks_formed net budget (a ∷ b ∷ c ∷ d ∷ e ∷ more) (linkage, strong, rank, between) = (linkage.formed, (strong.formed, (rank.formed, tt)))
+blocks_formed net budget (a ∷ b ∷ c ∷ d ∷ e ∷ more) (linkage, strong, rank, third, fourth, none) = (linkage.formed, (strong.formed, (rank.formed, tt)))
 
 pub blocks_valid : (net : Net) (budget : ℕ) (answers : List Answer) → AreRankAnswers net budget answers → AreValid net [] rests_on (blocks_of answers)
 blocks_valid net budget [] h = absurd h
@@ -34,7 +34,7 @@ blocks_valid net budget (a ∷ []) h = absurd h
 blocks_valid net budget (a ∷ b ∷ []) h = absurd h
 blocks_valid net budget (a ∷ b ∷ c ∷ []) h = absurd h
 blocks_valid net budget (a ∷ b ∷ c ∷ d ∷ []) h = absurd h
-blocks_valid net budget (a ∷ b ∷ c ∷ d ∷ e ∷ more) (linkage, strong, rank, between) = (linkage.valid, (strong.valid, (rank.valid, tt)))
+blocks_valid net budget (a ∷ b ∷ c ∷ d ∷ e ∷ more) (linkage, strong, rank, third, fourth, none) = (linkage.valid, (strong.valid, (rank.valid, tt)))
 
 -- what licenses an open rank is not about other questions
 licensed_alone : (net : Net) (budget : ℕ) (earlier : Earlier) (v : Verdict) → IsTrueOrLicensed net budget earlier Q5 v → IsTrueOrLicensed net budget [] Q5 (tight v)
@@ -50,7 +50,7 @@ rank_licensed net budget (a ∷ []) robust n h = absurd h
 rank_licensed net budget (a ∷ b ∷ []) robust n h = absurd h
 rank_licensed net budget (a ∷ b ∷ c ∷ []) robust n h = absurd h
 rank_licensed net budget (a ∷ b ∷ c ∷ d ∷ []) robust n h = absurd h
-rank_licensed net budget (a ∷ b ∷ c ∷ d ∷ e ∷ more) robust n (linkage, strong, rank, between) =
+rank_licensed net budget (a ∷ b ∷ c ∷ d ∷ e ∷ more) robust n (linkage, strong, rank, third, fourth, none) =
     let learned_is = blocks_learned net (a ∷ b ∷ e ∷ []) (linkage.formed, (strong.formed, (rank.formed, tt))) in
     subst (λ (earlier : Earlier). IsTrueOrLicensed net budget [] Q5 (on earlier Q5)) (sym learned_is)
     (licensed_alone net budget ((Q1, tight a.verdict) ∷ (Q2, tight b.verdict) ∷ []) e.verdict rank.answered)
