@@ -1,4 +1,7 @@
-use Rattle.crn_page.proofs.Prelude.{◌∙◌, Ok, ap, lit<, map, map_from_collect, YieldsList-from_str_split, take_all}
+use Rattle.std.proofs.Common.{◌∙◌, Ok, ap, lit<, map}
+use Rattle.std.proofs.lemmas.Iterator.Consumers.{map_from_collect}
+use Rattle.std.proofs.lemmas.Iterator.Splits.{YieldsList-from_str_split}
+use Rattle.std.proofs.lemmas.List.{take_all}
 use Rattle.crn_page.proofs.words.separated.Goals as goal
 
 -- all parts have become words, and the parts are those of the line

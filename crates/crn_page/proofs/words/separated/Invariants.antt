@@ -1,4 +1,4 @@
-use Rattle.crn_page.proofs.Prelude.{◌≡◌, map, string_bytes, take}
+use Rattle.std.proofs.Common.{◌≡◌, map, string_bytes, take}
 use Rattle.crn_page.proofs.words.separated.Given as goal
 
 abbrev pub invariant-loop-part : goal.invariant-loop-part
