@@ -126,7 +126,8 @@ def few(hostile):
     """Each read and each write of one input for each command fails in turn."""
     sites = (NETWORKS / "two_site_futile_cycle.crn").read_bytes()
     for name, words, text, most in [
-        ("report on the two-site futile cycle", ["report"], sites, 7), ("report on one reaction", ["report"], b"A -> B\n", 1), ("check of A <-> B", ["check"], joined(ends.ENDS), 64),
+        ("report on the two-site futile cycle", ["report"], sites, 7), ("report on one reaction", ["report"], b"A -> B\n", 1),
+        ("check of A <-> B", ["check"], joined(ends.ENDS), 64),
         ("certify on one reaction", ["certify"], b"A -> B\n", 7), ("verify persist of A <-> B", ["verify", "persist"], PROOF, 7),
         ("prove persist on the two-site futile cycle", ["prove", "persist"], sites, 7),
     ]:
@@ -138,8 +139,8 @@ def few(hostile):
         ("check of A <-> B", ["check"], joined(ends.ENDS), 7), ("no command", ["frobnicate"], b"", 7),
         ("prove persist on A <-> B", ["prove", "persist"], b"A <-> B\n", 7), ("verify persist of A <-> B", ["verify", "persist"], PROOF, 7),
     ]:
-        bound = {"MOST_WRITTEN": most}
-        yield from hostile.each(f"writes of at most {most}, {name}", words, text, "FAIL_WRITE", is_write_fault_after(most), **bound)
+        may_be = is_write_fault_after(most)
+        yield from hostile.each(f"writes of at most {most}, {name}", words, text, "FAIL_WRITE", may_be, MOST_WRITTEN=most)
 
 
 def pieces(hostile):

@@ -1,12 +1,13 @@
 #!/usr/bin/env python3
-"""Checks that the proofs of a crate import once what is of other crates and of specs: in `proofs/Prelude.antt`, of which each
-file takes what it uses by one line. Crates whose proofs have no lemmas, and so no `Lib.antt`, have none.
+"""Checks that the proofs of a crate import names of other crates and of specs once, in `proofs/Prelude.antt`, from which each
+file takes names by one line. Crates whose proofs have no lemmas, and so no `Lib.antt`, have none.
 
-    preludes.py                     checks all crates
+    preludes.py [ROOT]              checks all crates; ROOT is the top of the repository that is read: this one, if none is given
     preludes.py --write CRATE..     writes the Preludes of these crates, and the lines that take names of them, anew
 
-A name that means two things in a crate is the Prelude's in one of them, and is imported from its place in the other. What a
-proof unfolds is passed on by `unfoldable pub use`. The doors, `CallerLemmas.antt`, pass lemmas on, and are not read."""
+A name that means two things in a crate is the Prelude's in one of them, and is imported from its place in the other. A module
+that is imported whole, by `as`, stays in its file. What a proof unfolds is passed on by `unfoldable pub use`. The doors,
+`CallerLemmas.antt`, pass lemmas on, and are not read."""
 
 import re
 import sys
@@ -18,6 +19,7 @@ from tally import Tally
 ROOT = Path(__file__).resolve().parent.parent
 HEAD = "-- What this crate's proofs use of other crates and of its specs.\n"
 LINE = re.compile(r"((?:unfoldable )?(?:pub )?)use (Rattle\.[^\s{]+)\.\{(.*)\}\n")
+OTHER = re.compile(r"use [^\s{]+(?:\.\{[^{}]*\}| as \S+)?\n")
 UNFOLDED = re.compile(r"unfolding (.*)\n")
 
 
@@ -69,8 +71,10 @@ class Proofs:
         found = []
         for line in filter(self.is_from_outside, lines):
             module, items = items_of(line)
-            is_prelude = module == f"{self.own}Prelude"
-            found += [(name, self.prelude[of] if is_prelude else (module, of)) for name, of in items.items()]
+            if module == f"{self.own}Prelude":
+                found += [(name, self.prelude[of]) for name, of in items.items() if of in self.prelude]
+            else:
+                found += [(name, (module, of)) for name, of in items.items()]
         return list(dict.fromkeys(found))
 
     def chosen(self):
@@ -84,6 +88,13 @@ class Proofs:
             first = min(count, key=lambda place: (-count[place], place))
             places[name] = self.prelude[name] if self.prelude.get(name) in count else first
         return places
+
+    def unread(self):
+        """The imports that are of no form that is read: those of more than one line, say."""
+        for path, lines in self.files.items():
+            for line in lines:
+                if line.startswith("use ") and not LINE.fullmatch(line) and not OTHER.fullmatch(line):
+                    yield path, line.strip()
 
     def unfolded(self, places):
         """The names of the Prelude, with these places, that a proof unfolds."""
@@ -124,19 +135,26 @@ class Proofs:
             listed.write_text(f"{listed.read_text().rstrip()}\nmod Prelude\n".lstrip())
 
 
+def check(root):
+    tally = Tally("preludes")
+    crates = [listed.parts[-3] for listed in sorted(root.glob("crates/*/proofs/Lib.antt"))]
+    tally.count(f"{root} has crates with proofs", crates)
+    for crate in crates:
+        proofs = Proofs(root, crate)
+        for path, line in proofs.unread():
+            tally.count(f"{path.relative_to(root)} imports by one line: {line}", False)
+        for path, text in proofs.written():
+            is_so = path.exists() and lines_of(path.read_text()) == lines_of(text)
+            tally.count(f"{path.relative_to(root)} is as preludes.py --write {crate} has it", is_so)
+    return tally.end()
+
+
 def main():
     if sys.argv[1:2] == ["--write"]:
         for crate in sys.argv[2:]:
             Proofs(ROOT, crate).write()
         return 0
-    root = Path(sys.argv[1]).resolve() if len(sys.argv) > 1 else ROOT
-    tally = Tally("preludes")
-    for listed in sorted(root.glob("crates/*/proofs/Lib.antt")):
-        crate = listed.parts[-3]
-        for path, text in Proofs(root, crate).written():
-            is_so = path.exists() and lines_of(path.read_text()) == lines_of(text)
-            tally.count(f"{path.relative_to(root)} is as preludes.py --write {crate} has it", is_so)
-    return tally.end()
+    return check(Path(sys.argv[1]).resolve() if len(sys.argv) > 1 else ROOT)
 
 
 if __name__ == "__main__":
