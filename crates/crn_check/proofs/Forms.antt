@@ -1,5 +1,5 @@
 -- What the form of an answer gives for the tests of its question, and for what is kept of it.
-use Rattle.crn_check.proofs.Prelude.{◌≡◌, ◌≤◌, ◌⊎◌, inl, inr, ◌==◌, true, false, ℕ, List, [], ◌∷◌, ◌++◌, length, map, refl, sym, ap, ap₂, subst, ◌∙◌, arith, AllByRecursion, cases_eq, eq-eqb, ne_eqb, append-nil, append_assoc, Net, KeptNums, Answer, Wide, Budget, Rests, Verdict, Classes, Strong, Unknown, Proof, Earlier, Question, Q1, Q2, Q3, Q4, Q5, Q6, Q7, Q8, Q9, Q10, Q11, Q12, Q13, Q14, Q15, number, on, labels_of, count_of, exits_of, terminal_of, IsOpen, AreFrom, strong, exits, linkage, linkage_count, IsFormed, IsFormedVerdict, AreFormedVerdicts, IsTrueOf, IsTrueOrOpen, formed_answers_have_formed_verdicts, same_question, all_tight_then, tight_twice, true_tight, tight, all_tight, AsksForTree, shown_by_tree, KeptFacts, AreFactsOf, asked, HoldsOn}
+use Rattle.crn_check.proofs.Prelude.{◌≡◌, ◌≤◌, inl, inr, ◌==◌, true, false, ℕ, List, [], ◌∷◌, ◌++◌, length, map, refl, sym, ap, ap₂, subst, ◌∙◌, arith, AllByRecursion, cases_eq, eq-eqb, ne_eqb, append-nil, append_assoc, Net, KeptNums, Answer, Wide, Budget, Rests, Verdict, Classes, Strong, Unknown, Earlier, Question, Q1, Q2, Q3, Q4, Q5, Q6, Q7, Q8, Q9, Q10, Q11, Q12, Q13, Q14, Q15, number, on, labels_of, count_of, exits_of, terminal_of, AreFrom, strong, exits, linkage, linkage_count, IsFormed, IsFormedVerdict, AreFormedVerdicts, IsTrueOf, IsTrueOrOpen, formed_answers_have_formed_verdicts, same_question, all_tight_then, tight_twice, true_tight, tight, all_tight, AsksForTree, shown_by_tree, KeptFacts, AreFactsOf, asked, HoldsOn}
 
 -- ---- what is kept
 

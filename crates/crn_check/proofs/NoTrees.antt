@@ -1,5 +1,5 @@
 -- A formed answer to a question that trees answer holds no tree, if its verdict is not the one that trees show.
-use Rattle.crn_check.proofs.Prelude.{◌≡◌, [], inl, inr, ℕ, refl, sym, subst, AllZip, Net, Answer, Wide, Budget, Rests, Proof, One, Two, Verdict, Yes, No, Unknown, IsFormed, IsFormedOf, FitsTree, trees_of, Earlier, Q13, Q14, Q15, asked, AsksForTree, HoldsNoTree, shown_by_tree}
+use Rattle.crn_check.proofs.Prelude.{◌≡◌, [], inl, inr, ℕ, refl, subst, AllZip, Net, Answer, Wide, Budget, Rests, Proof, One, Two, Verdict, Yes, No, Unknown, IsFormed, IsFormedOf, FitsTree, trees_of, Earlier, Q13, Q14, Q15, asked, AsksForTree, HoldsNoTree, shown_by_tree}
 
 no_trees : (p : Proof) → AllZip FitsTree [] (trees_of p) → HoldsNoTree p
 no_trees (One tree) f = absurd f

@@ -9,7 +9,7 @@ pub use Rattle.crn_cert.specs.Formed.{IsFormed, IsFormedOf}
 pub use Rattle.crn_cert.specs.FormedVerdicts.{AreFormedVerdicts, IsFormedVerdict}
 pub use Rattle.crn_cert.specs.Law.{AreTrue, AreTrueOrOpen, IsTrueOrOpen, known_for, rests_for}
 pub use Rattle.crn_cert.specs.Parts.{AreClassProofs, IsRankProof}
-pub use Rattle.crn_cert.specs.Questions.{Earlier, IsOpen, Q1, Q10, Q11, Q12, Q13, Q14, Q15, Q2, Q3, Q4, Q5, Q6, Q7, Q8, Q9, Question, count_of, exits_of, labels_of, number, on, questions, terminal_of, vector_given}
+pub use Rattle.crn_cert.specs.Questions.{Earlier, Q1, Q10, Q11, Q12, Q13, Q14, Q15, Q2, Q3, Q4, Q5, Q6, Q7, Q8, Q9, Question, count_of, exits_of, labels_of, number, on, questions, terminal_of, vector_given}
 pub use Rattle.crn_cert.specs.Ranges.{AreBits, AreFree, AreFrom, IsFrom, IsNarrow}
 pub use Rattle.crn_cert.specs.RankTests.{IsComb, IsDual, comb_tests, dual_tests, outside, rank_tests, vector_of, vectors_of}
 pub use Rattle.crn_cert.specs.Says.{HasNoReverse, IsTrueOf, WalkLeads, by_turn, from_zero}

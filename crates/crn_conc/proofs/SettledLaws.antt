@@ -1,5 +1,5 @@
 -- Which kinds one choice more leaves as they are.
-use Rattle.crn_conc.proofs.Prelude.{◌≡◌, ◌≢◌, ℕ, zero, suc, ◌+◌, ◌-◌, ◌<◌, inl, inr, List, [], ◌∷◌, ◌++◌, length, get_or, refl, sym, ap, subst, ◌∙◌, arith, range_with_len, get_or-range_with_len, length-range_with_len, Sign, Kind, Mat, IsIn, width, kind_at, kinds_b_of, row_kinds, in_range, lt_or, column_in_b, row_in_b, SettlesOnly, row_kept}
+use Rattle.crn_conc.proofs.Prelude.{◌≡◌, ◌≢◌, ℕ, ◌+◌, ◌-◌, ◌<◌, inl, inr, List, [], ◌∷◌, ◌++◌, length, get_or, sym, ap, subst, ◌∙◌, arith, range_with_len, get_or-range_with_len, length-range_with_len, Sign, Kind, Mat, IsIn, width, kind_at, kinds_b_of, in_range, lt_or, column_in_b, row_in_b, SettlesOnly, row_kept}
 
 -- all coordinates may be settled
 pub all_settle : (kinds : List Sign → List Kind) (n choices : ℕ) (list : List ℕ) → list ≡ range_with_len 0 n → SettlesOnly kinds n choices list

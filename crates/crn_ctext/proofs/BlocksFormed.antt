@@ -1,5 +1,5 @@
 -- Blocks with their trees: the records of one that fits are formed, and formed records are of one that fits.
-use Rattle.crn_ctext.proofs.Prelude.{◌≡◌, ◌+◌, ◌++◌, ◌∙◌, ℕ, suc, Bool, true, false, List, [], ◌∷◌, length, map, refl, sym, ap, ap₂, subst, AllZip, flat_map, append-nil, Sign, Question, Q1, Q2, Q3, Q4, Q5, Q6, Q7, Q8, Q9, Q10, Q11, Q12, Q13, Q14, Q15, on, pair_places, Plan, IsFormedTree, Proof, Gap, RankProof, KeptNums, tight, tight_proof, tight_nums, tight_gap, tight_rank, Record, Problem, nodes, proof_nodes, records, IsOneOf, IsTree, AreTrees, Parts, leaf_forms, Known, has_vector, pairs_of, is_yes, sizes_of, problems_by, meaning, signal_problems, HeadKind, Classes, Strong, Rank, Deficiency, Yes, YesWeak, YesVec, YesSignal, No, NoReaction, NoVec, NoNumber, NoTerminal, NoClass, NoSum, NoDependence, NoCycle, NoPair, NotRegular, OnlyZero, Plane, NotApplicable, Rests, Datum, Nums, Led, Basis, TreeRow, fields, trees, one_or_two, signal_tree, others, rank_in, IsFormedOf, Block, FitsBlock, FitsHead, FitsTree, SaysAnswer, trees_of, proof_of, proof_by, rank_proof, class_proofs, class_length, at, nat_in, second_in, nums_in, list_in, gap_in, head_back, blocks_are_of_answers}
+use Rattle.crn_ctext.proofs.Prelude.{◌≡◌, ◌+◌, ◌++◌, ◌∙◌, ℕ, suc, Bool, true, false, List, [], ◌∷◌, map, refl, sym, ap, ap₂, subst, AllZip, flat_map, append-nil, Sign, Question, Q1, Q2, Q3, Q4, Q5, Q6, Q7, Q8, Q9, Q10, Q11, Q12, Q13, Q14, Q15, on, Plan, IsFormedTree, Proof, Gap, RankProof, KeptNums, tight, tight_proof, tight_nums, tight_gap, tight_rank, Record, Problem, nodes, proof_nodes, IsOneOf, IsTree, AreTrees, Parts, leaf_forms, Known, has_vector, is_yes, sizes_of, problems_by, meaning, signal_problems, HeadKind, Classes, Strong, Rank, Deficiency, Yes, YesWeak, YesVec, YesSignal, No, NoReaction, NoVec, NoNumber, NoTerminal, NoClass, NoSum, NoDependence, NoCycle, NoPair, NotRegular, OnlyZero, Plane, NotApplicable, Rests, Datum, Nums, Led, Basis, TreeRow, fields, trees, one_or_two, signal_tree, others, rank_in, IsFormedOf, Block, FitsBlock, FitsHead, FitsTree, SaysAnswer, trees_of, proof_of, proof_by, rank_proof, class_proofs, class_length, at, nat_in, second_in, nums_in, list_in, gap_in, head_back, blocks_are_of_answers}
 use Rattle.std.specs.Prelude.{take, drop}
 use Rattle.crn_cert.specs.declared.head_kind.HeadKind.TheVariants.{Wide, Budget}
 use Rattle.crn_cert.specs.Blocks.{verdict_of}

@@ -1,5 +1,5 @@
 -- The strong classes are known after question 2, and so are the linked pairs within terminal classes.
-use Rattle.crn_ctext.proofs.Prelude.{◌≡◌, ◌==◌, ◌++◌, ◌∙◌, ℕ, Bool, true, false, if◌then◌else◌, List, [], ◌∷◌, length, refl, sym, ap, subst, inl, inr, slice_index, AllByRecursion, filter, range_with_len, cases_Bool, Net, Wide, Budget, Verdict, Unknown, Proof, Earlier, Question, Q2, number, on, labels_of, exits_of, IsFormedOf, IsTrueOf, IsTrueOrOpen, of_class, ends_at, is_least_of_pair, pair_places, IsValid, tight, strong_law, is_true_tight, Known, pairs_of}
+use Rattle.crn_ctext.proofs.Prelude.{◌≡◌, ◌==◌, ◌++◌, ℕ, Bool, true, false, if◌then◌else◌, List, [], ◌∷◌, length, refl, sym, ap, subst, inl, inr, slice_index, AllByRecursion, filter, range_with_len, cases_Bool, Net, Wide, Budget, Verdict, Unknown, Proof, Earlier, Question, Q2, number, on, labels_of, exits_of, IsFormedOf, IsTrueOf, IsTrueOrOpen, of_class, ends_at, is_least_of_pair, IsValid, tight, strong_law, is_true_tight, Known, pairs_of}
 use Rattle.std.specs.Prelude.{◌||◌, ◌&&◌}
 use Rattle.crn_cert.specs.declared.answer.Gap.TheVariants.{Rests}
 use Rattle.crn_cert.specs.declared.answer.Verdict.TheVariants.{Strong}

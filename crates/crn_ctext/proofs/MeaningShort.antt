@@ -1,7 +1,7 @@
 -- The forms of the built questions are bounded.
 use Rattle.crn_ctext.proofs.Prelude.{◌≡◌, ◌==◌, ◌≤◌, ◌+◌, ◌-◌, ◌++◌, ◌∙◌, ℕ, zero, suc, Bool, true, false, cond, if◌then◌else◌, List, [], ◌∷◌, length, map, refl, sym, ap, subst, inl, inr, arith, ℤ, pos, negsuc, nat_abs, codes, replicate, slice_index, slice_index_or, min-le_right, cases_Bool, ints, append-nil, length-append, length-map, length-range_with_len, length-map-range_with_len, AllByRecursion, AllZip, filter, range_with_len, Net, IsNetwork, class_members, MAX_SPECIES, MAX_COMPLEXES, MAX_REACTIONS, filter_few, all_range, Gap, Spent, RestsOn, Rests, Verdict, Unknown, Earlier, Question, Q1, Q2, Q3, Q4, Q5, Q6, Q7, Q8, Q9, Q10, Q11, Q12, Q13, Q14, Q15, number, on, count_of, terminal_of, labels_of, linkage, linkage_count, class_places, ends_at, is_within_terminal, is_least_of_pair, Record, Form, CountAndPart, AreBetween, Fits, open_kinds, kind_at, heads, rows, rank_forms, class_forms, class_rank, side_form, first_number, later_numbers, small, small_form, free_form, place_of, IsOneOf, Known, lists, wide_gap, said_number, is_yes, has_vector, signal_problems, pairs_of, lengths, reactions_by_class, complexes_by_class, shapes_of, sizes_of, verdict_by, verdict_of, problems_by, meaning, built}
 use Rattle.std.specs.Prelude.{◌&&◌, min}
-use Rattle.crn_cert.specs.declared.answer.Verdict.TheVariants.{NotApplicable, Strong}
+use Rattle.crn_cert.specs.declared.answer.Verdict.TheVariants.{NotApplicable}
 use Rattle.crn_ctext.proofs.Forms.{head, yes, no, no_by, none_by, wide, wide_signal, spent, rests, open_by}
 use Rattle.crn_ctext.proofs.Bounded.{IsSlim, IsBounded, words_fit}
 use Rattle.crn_ctext.proofs.ShortAnswers.{IsShortFor, AreFewProblems}

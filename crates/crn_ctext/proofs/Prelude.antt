@@ -120,7 +120,7 @@ pub use Rattle.std.proofs.Math.Nat.{min-le_right}
 pub use Rattle.std.proofs.lemmas.Bool.{cases_Bool, cases_lt, eqb-true, le-ltb, lt-ltb}
 pub use Rattle.std.proofs.lemmas.Bool.Decides.{eqb_tells, nat_tests}
 pub use Rattle.std.proofs.lemmas.Fmt.{decimal_by_steps_wide, decimal_digit, decimal_injective, decimal_is_IsNumeral_wide, decimal_step, decimal_step_wide, length-decimal-le_wide}
-pub use Rattle.std.proofs.lemmas.Int.{ints, to_z-of_z}
+pub use Rattle.std.proofs.lemmas.Int.{ints}
 pub use Rattle.std.proofs.lemmas.Int.Digits.{digits_more, digits_value_more}
 pub use Rattle.std.proofs.lemmas.List.{append-nil, append_cancel_left, append_cancel_right, drop-drop, drop-map, drop_all, drop_at, drop_more, get_or-map, get_or_append_left, length-append, length-map, length-replicate, length-set, length_push, map-append, take-append-drop, take-map, take_at, take_more, take_more_set}
 pub use Rattle.std.proofs.lemmas.List.Concat.{flat_map-append}

@@ -1,5 +1,5 @@
 -- The formed records of a block are those of a formed answer, which they say.
-use Rattle.crn_ctext.proofs.Prelude.{◌≡◌, ◌∙◌, Bool, true, List, [], ◌∷◌, sym, ap, ap₂, subst, flat_map, head_is, tail_is, Verdict, Proof, Question, Q11, Q13, Block, proof_of, block_of, IsFormedOf, blocks_are_of_answers, Record, Parts, nodes, head_of, records_below, proof_nodes, Known, shapes_of, sizes_of, said_verdict, meaning}
+use Rattle.crn_ctext.proofs.Prelude.{◌≡◌, ◌∙◌, Bool, true, List, [], ◌∷◌, sym, ap, ap₂, flat_map, head_is, tail_is, Verdict, Proof, Question, Q11, Q13, Block, proof_of, block_of, IsFormedOf, blocks_are_of_answers, Record, Parts, nodes, head_of, records_below, proof_nodes, Known, shapes_of, sizes_of, said_verdict, meaning}
 use Rattle.crn_cert.specs.Blocks.{verdict_of}
 use Rattle.crn_cert.specs.Table as table
 use Rattle.crn_ctext.specs.Documents as documents

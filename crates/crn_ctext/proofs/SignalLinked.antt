@@ -1,5 +1,5 @@
 -- Answers on signals that have trees, one or two, and their records.
-use Rattle.crn_ctext.proofs.Prelude.{◌≡◌, ◌⊎◌, ◌<◌, ◌+◌, ◌++◌, ◌∙◌, ℕ, Bool, true, false, List, [], ◌∷◌, length, refl, sym, ap, ap₂, subst, inl, inr, arith, ℤ, pos, negsuc, Option, Some, None, IsSomeAnd, append-nil, Net, reaction_system, Shape, signals, IsShapeOf, Sign, Wide, Budget, Verdict, Unknown, Proof, Nothing, One, Two, Earlier, Q2, Q4, Q12, Q13, on, terminal_of, vector_given, IsYes, AllHold, Plan, node_count, IsFormedTree, Said, Splits, Flats, CutsA, CutsB, FitsNode, tree_tests, IsTrueOf, by_turn, IsFormedOf, IsSignalTree, AreSignalTrees, IsSignalNode, IsNodeOf, IsValid, shape_count, hold_append, hold_parts, signal_trees_formed, Record, Problem, IsTree, AreTrees, IsGoodLeaf, proof_nodes, records, nodes, Known, is_yes, shapes_of, signal_problem, signal_problems, meaning}
+use Rattle.crn_ctext.proofs.Prelude.{◌≡◌, ◌⊎◌, ◌<◌, ◌+◌, ◌++◌, ◌∙◌, ℕ, Bool, true, false, List, [], ◌∷◌, length, refl, sym, ap, ap₂, subst, inl, inr, arith, ℤ, pos, negsuc, Option, Some, None, IsSomeAnd, append-nil, Net, reaction_system, Shape, signals, IsShapeOf, Sign, Wide, Budget, Verdict, Unknown, Proof, Nothing, One, Two, Earlier, Q2, Q4, Q12, Q13, on, terminal_of, vector_given, IsYes, AllHold, Plan, node_count, Said, Splits, Flats, CutsA, CutsB, FitsNode, tree_tests, IsTrueOf, by_turn, IsFormedOf, IsSignalTree, AreSignalTrees, IsSignalNode, IsNodeOf, IsValid, shape_count, hold_append, hold_parts, signal_trees_formed, Record, Problem, IsTree, AreTrees, IsGoodLeaf, proof_nodes, records, nodes, Known, is_yes, shapes_of, signal_problem, signal_problems, meaning}
 use Rattle.crn_cert.specs.declared.answer.Gap.TheVariants.{Rests}
 use Rattle.crn_cert.specs.declared.answer.Verdict.TheVariants.{Yes, YesVec, YesSignal, No, NotApplicable}
 use Rattle.crn_ctext.specs.Documents as documents

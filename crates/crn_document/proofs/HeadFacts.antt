@@ -1,5 +1,5 @@
 -- What the form of a head says of its numbers, of the records below it and of the answer.
-use Rattle.crn_document.proofs.Prelude.{◌≡◌, ◌≤◌, ◌<◌, ◌+◌, ◌^◌, ◌⊎◌, ◌++◌, ◌∙◌, ℕ, zero, suc, List, [], ◌∷◌, length, map, refl, sym, subst, ap, ap₂, arith, ℤ, pos, nat_abs, AllZip, range_with_len, append-nil, length-map, length-map-range_with_len, IsAscending, Net, IsNetwork, MAX_COMPLEXES, abs_back, HeadMayBe, zip_long, record_is, Earlier, IsBasisOf, head_tests, row_tests, linkage, linkage_count, class_places, pair_places, AreFrom, Record, Form, AreRising, Rising, Fits, AreOf, small, just, small_form, below, IsOneOf, row, lists, sizes_of, shapes_of, proof_of, asked, AreSmall, AreSmallAt, verdict_of_head, FitAnswer, proof_of_head, HeadHolds, forms_below, parts_after, known_of, head_forms, tagged, class_count}
+use Rattle.crn_document.proofs.Prelude.{◌≡◌, ◌≤◌, ◌<◌, ◌+◌, ◌^◌, ◌++◌, ◌∙◌, ℕ, zero, suc, List, [], ◌∷◌, length, map, refl, sym, subst, ap, ap₂, arith, ℤ, pos, nat_abs, AllZip, append-nil, length-map, IsAscending, Net, IsNetwork, MAX_COMPLEXES, abs_back, HeadMayBe, zip_long, record_is, Earlier, IsBasisOf, head_tests, row_tests, linkage, linkage_count, AreFrom, Record, Form, AreRising, Rising, Fits, AreOf, small, just, small_form, below, IsOneOf, row, lists, shapes_of, proof_of, asked, AreSmall, AreSmallAt, verdict_of_head, FitAnswer, proof_of_head, HeadHolds, forms_below, parts_after, known_of, head_forms, tagged, class_count}
 use Rattle.crn_document.proofs.Fields.{Holds, PartsWithin, form_small, naturals, one_field, one_number, small_list}
 use Rattle.crn_document.proofs.Ranks.{AreRanks}
 

@@ -1,5 +1,5 @@
 -- What the head of question 13 says.
-use Rattle.crn_document.proofs.Prelude.{◌≡◌, ◌≤◌, ◌<◌, ◌+◌, ◌^◌, ◌++◌, ◌∙◌, ℕ, List, [], ◌∷◌, length, map, refl, sym, subst, ap, inl, inr, arith, ℤ, pos, negsuc, codes, nat_abs, IsIn, Net, IsNetwork, MAX_BUDGET, Earlier, pair_places, Record, Form, AreRising, Fits, small, just, record_form, free_form, Sizes, lists, proof_by, ranks_of, sizes_of, shapes_of, known_of, head_forms, Bool, true, false, IsWideGap, zip_long, spent_place, rests_place, turn_is, head, yes, no, wide, rests, spent, open_by, last_forms, IsTurn, Q2, Q12, Q13, on, terminal_of, Small, Turn, kind_at, rows, place_of, has_vector}
+use Rattle.crn_document.proofs.Prelude.{◌≡◌, ◌≤◌, ◌<◌, ◌+◌, ◌^◌, ◌∙◌, ℕ, List, [], ◌∷◌, length, map, refl, sym, subst, ap, inl, inr, arith, ℤ, pos, negsuc, codes, nat_abs, IsIn, Net, IsNetwork, MAX_BUDGET, Earlier, pair_places, Record, Form, AreRising, Fits, small, just, record_form, free_form, lists, proof_by, ranks_of, sizes_of, shapes_of, known_of, head_forms, Bool, true, false, IsWideGap, zip_long, spent_place, rests_place, turn_is, head, yes, no, wide, rests, spent, open_by, last_forms, IsTurn, Q2, Q12, Q13, on, terminal_of, Small, Turn, kind_at, rows, place_of, has_vector}
 use Rattle.crn_document.proofs.Fields.{Holds, one_field, one_number}
 use Rattle.crn_document.proofs.HeadFacts.{Facts, one_small, wide_numbers, wide_small, wide_basis, same_facts, as_form, FactsAt, HeadFacts, head_with, FactsOf, IsWide}
 use Rattle.crn_document.proofs.Linkages.{pairs_few}

@@ -1,5 +1,5 @@
 -- What the heads of questions 9 and 10 say.
-use Rattle.crn_document.proofs.Prelude.{◌≡◌, ◌≤◌, ◌∙◌, ℕ, zero, suc, [], ◌∷◌, length, refl, ap, inl, inr, arith, pos, codes, Net, IsNetwork, MAX_COMPLEXES, Earlier, linkage_count, Record, small, just, head, yes, no, no_by, rests, open_by, sizes_of, known_of}
+use Rattle.crn_document.proofs.Prelude.{◌≡◌, ◌≤◌, ◌∙◌, ℕ, zero, suc, [], ◌∷◌, length, refl, ap, inl, inr, arith, pos, codes, Net, IsNetwork, MAX_COMPLEXES, Earlier, linkage_count, Record, small, just, head, yes, no, no_by, rests, open_by}
 use Rattle.crn_document.proofs.Fields.{one_field, one_number}
 use Rattle.crn_document.proofs.HeadFacts.{Facts, one_small, same_facts, as_form, FactsAt, class_and_number}
 

@@ -1,8 +1,8 @@
 -- The linkage classes that are known before a block, by the verdicts on all questions before it.
-use Rattle.crn_document.proofs.Prelude.{◌≡◌, ◌≤◌, ◌+◌, ◌-◌, ◌++◌, ◌∙◌, ℕ, zero, suc, Bool, List, [], ◌∷◌, length, map, drop, take, refl, sym, subst, ap, inl, inr, arith, codes, filter, ap₂, append_assoc, Result, Ok, Err, OnOk, Bor, AllByRecursion, range_with_len, filter-append, length-range_with_len, length-map-range_with_len, length-replicate, IsIn, IsAscending, Net, MAX_COMPLEXES, MAX_REACTIONS, filter_few, above_ascending, filter_above, range_above, filter_from, range_bounds, all_from, range_more, Wide, Verdict, Unknown, built, Earlier, Question, Q1, Q2, number, on, labels_of, count_of, terminal_of, IsFormedVerdict, some_number, Members, record_form, DueBase, KeptFacts, HoldsNoneFrom, HoldsOn, HoldsNeeds, IsBuilt, built_at, formed_on, terminal_fits, Linkage, IsKnownFor, IsKnown, IsLinkage, before, class_counts, is_in_class, members_of, FitsCounts, HasClassSizes, known_of, IsOwnDue, ends_at, is_least_of_pair, is_within_terminal, linkage, linkage_count, class_places, pair_places, Known}
+use Rattle.crn_document.proofs.Prelude.{◌≡◌, ◌≤◌, ◌+◌, ◌-◌, ◌++◌, ◌∙◌, ℕ, zero, suc, Bool, List, [], ◌∷◌, length, map, drop, take, refl, sym, subst, ap, inl, inr, arith, codes, filter, ap₂, append_assoc, Result, Ok, Err, OnOk, Bor, AllByRecursion, range_with_len, filter-append, length-range_with_len, length-map-range_with_len, length-replicate, IsIn, IsAscending, Net, MAX_COMPLEXES, MAX_REACTIONS, filter_few, above_ascending, filter_above, range_above, filter_from, range_bounds, all_from, range_more, Wide, Verdict, Unknown, built, Earlier, Question, Q1, Q2, number, on, labels_of, count_of, terminal_of, IsFormedVerdict, some_number, Members, record_form, DueBase, KeptFacts, HoldsNoneFrom, HoldsOn, HoldsNeeds, IsBuilt, built_at, formed_on, terminal_fits, Linkage, IsKnownFor, IsKnown, IsLinkage, before, class_counts, is_in_class, members_of, FitsCounts, HasClassSizes, IsOwnDue, ends_at, is_least_of_pair, is_within_terminal, linkage, linkage_count, class_places, pair_places}
 use Rattle.std.specs.Prelude.{replicate, ◌&&◌, ◌⊎◌}
 use Rattle.crn_cert.specs.declared.answer.Gap.TheVariants.{Budget, Rests}
-use Rattle.crn_cert.specs.declared.answer.Verdict.TheVariants.{Classes, Strong}
+use Rattle.crn_cert.specs.declared.answer.Verdict.TheVariants.{Classes}
 use Rattle.crn_document.proofs.Places.{place_of_built, needs_at, none_later}
 
 -- the number of classes and the labels that a verdict on linkage classes says

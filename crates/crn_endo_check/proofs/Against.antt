@@ -1,5 +1,5 @@
 -- A slope is against a reaction if and only if some full prefix of the reaction's problem is feasible.
-use Rattle.crn_endo_check.proofs.Prelude.{◌≡◌, ◌≢◌, ℕ, zero, suc, ◌≤◌, ◌<◌, ◌⊎◌, inl, inr, List, [], ◌∷◌, length, get_or, map, Bool, true, false, cond, refl, sym, ap, subst, ◌∙◌, arith, eqb, ℤ, pos, negsuc, neg_ℤ, ◌-ℤ◌, ◌≤ℤ◌, ◌<ℤ◌, not, ◌==◌, ◌||◌, AllZip, range_with_len, list_any, ints, by_lt_z, false≢true, eqb-true, eqb-false, eq-eqb, length-map, length-range_with_len, get_or-range_with_len, Sign, Zero, Plus, Minus, Pos, Neg, Free, IsIn, Net, IsNetwork, JoinsTwo, HasKind, IsFull, IsFeasible, SolvesA, sign, row_kinds, is_plus, is_minus, all_at, at_in, below_or, dot-neg, filter_has, length-neg, map_twice, vector_long, Plan, IsValid, leaves_nothing, complex_at, height, reaction_at, rise, HasLowerRise, IsAgainst, IsEndotactic, IsEndotacticAt, reactants, others, option_of, is_reactant, slope_matrix, at_least_zero_if, rise_kind, fall_kind, slopes, FeasiblePrefixesDecideEndotactic, AgainstIfFeasible, slope_by, minus-dot, rows_have, row_signs_are}
+use Rattle.crn_endo_check.proofs.Prelude.{◌≡◌, ◌≢◌, ℕ, zero, suc, ◌≤◌, ◌<◌, ◌⊎◌, inl, inr, List, [], ◌∷◌, length, get_or, map, Bool, true, false, cond, refl, sym, ap, subst, ◌∙◌, arith, eqb, ℤ, pos, negsuc, neg_ℤ, ◌-ℤ◌, ◌≤ℤ◌, ◌<ℤ◌, not, ◌==◌, ◌||◌, AllZip, range_with_len, list_any, ints, by_lt_z, false≢true, eqb-true, eqb-false, eq-eqb, length-map, length-range_with_len, get_or-range_with_len, Sign, Zero, Plus, Minus, Pos, Neg, Free, IsIn, Net, IsNetwork, JoinsTwo, HasKind, IsFull, IsFeasible, SolvesA, sign, row_kinds, is_plus, is_minus, all_at, at_in, below_or, dot-neg, filter_has, length-neg, map_twice, vector_long, Plan, IsValid, leaves_nothing, complex_at, height, reaction_at, rise, HasLowerRise, IsAgainst, IsEndotacticAt, reactants, others, option_of, is_reactant, slope_matrix, at_least_zero_if, rise_kind, fall_kind, slopes, FeasiblePrefixesDecideEndotactic, AgainstIfFeasible, slope_by, minus-dot, rows_have, row_signs_are}
 use Rattle.crn_endo_check.proofs.SlopeRows.{above, Has, solution_by, has_by, free_solution}
 use Rattle.crn_endo_check.proofs.SlopeLawful.{slopes_are_steady, rise-neg}
 

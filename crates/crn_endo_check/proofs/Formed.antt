@@ -1,5 +1,5 @@
 -- Valid trees of narrow numbers have the form that lines may have.
-use Rattle.crn_endo_check.proofs.Prelude.{◌≡◌, ◌≢◌, ℕ, zero, suc, ◌+◌, ◌<◌, ◌≤◌, inl, inr, List, [], ◌∷◌, ◌++◌, length, get_or, replicate, true, refl, sym, ap, subst, ◌∙◌, arith, not, ◌==◌, AllByRecursion, filter, range_with_len, false≢true, eq-eqb, Sign, Zero, Plus, Minus, Free, IsIn, IsAscending, NamesWide, width, Net, IsNetwork, is_signed, kind_at, above_ascending, above_in, all_at, eq_or, filter_ascending, first_goes, first_stays, range_ascending, IsBasisOf, Plan, Both, Three, RulesA, RulesB, Level, IsFormedTree, IsValid, AreNarrow, formed_tree, wide_basis, reaction_at, IsSmallEnough, is_reactant, others, reactants, slope_matrix, slopes, AreFormedTrees, AreValidTrees, CutsPartA, row_count}
+use Rattle.crn_endo_check.proofs.Prelude.{◌≡◌, ◌≢◌, ℕ, zero, suc, ◌+◌, ◌<◌, inl, inr, List, [], ◌∷◌, ◌++◌, length, get_or, replicate, true, refl, sym, ap, subst, ◌∙◌, arith, not, ◌==◌, AllByRecursion, filter, range_with_len, false≢true, eq-eqb, Sign, Zero, Plus, Minus, Free, IsIn, IsAscending, NamesWide, width, Net, IsNetwork, is_signed, kind_at, above_ascending, above_in, all_at, eq_or, filter_ascending, first_goes, first_stays, range_ascending, IsBasisOf, Plan, Both, Three, RulesA, RulesB, Level, IsFormedTree, IsValid, AreNarrow, formed_tree, wide_basis, reaction_at, is_reactant, others, reactants, slope_matrix, slopes, AreFormedTrees, AreValidTrees, CutsPartA, row_count}
 use Rattle.crn_endo_check.proofs.Against.{in_reactants, not_eqb}
 use Rattle.crn_endo_check.proofs.SlopeLawful.{slope_width}
 

@@ -9,7 +9,7 @@ pub use Rattle.crn_ctree.specs.Gives.{said_by}
 pub use Rattle.crn_ctree.specs.declared.node.Node.{Node}
 pub use Rattle.crn_ctree.specs.declared.node.Node.TheVariants.{CutA}
 pub use Rattle.crn_endo_check.specs.Endo.{AreFormedTrees, AreValidTrees, CutsPartA, ValidEndosAreTrue, row_count}
-pub use Rattle.crn_endo_check.specs.Endotactic.{HasLowerRise, IsAgainst, IsEndotactic, IsEndotacticAt, complex_at, height, reaction_at, rise}
+pub use Rattle.crn_endo_check.specs.Endotactic.{HasLowerRise, IsAgainst, IsEndotacticAt, complex_at, height, reaction_at, rise}
 pub use Rattle.crn_endo_check.specs.Inner.Entries.{itself}
 pub use Rattle.crn_endo_check.specs.Inner.Weights.{weights_of}
 pub use Rattle.crn_endo_check.specs.Kept.{KeptCheck, KeptSlopes}

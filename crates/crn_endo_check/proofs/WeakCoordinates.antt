@@ -1,5 +1,5 @@
 -- Which coordinates of a reaction's problem are at least 0 at some prefix.
-use Rattle.crn_endo_check.proofs.Prelude.{◌≡◌, ◌≢◌, ◌⊎◌, ℕ, zero, suc, ◌+◌, ◌-◌, ◌<◌, ◌≤◌, inl, inr, List, [], ◌∷◌, length, Bool, true, false, cond, sym, ap, subst, ◌∙◌, refl, arith, ◌==◌, ◌&&◌, eqb-true, eq-eqb, Sign, Zero, Plus, Minus, Kind, NonNeg, Free, Net, kind_at, is_minus, is_plus, kind_of_sign, row_kinds, eq_or, lt_or, reaction_at, AtLeastZeroOrFree, NeverAtLeastZero, at_least_zero_if, fall_kind, later, option_of, others, rise_kind, slope_kinds}
+use Rattle.crn_endo_check.proofs.Prelude.{◌≡◌, ◌≢◌, ◌⊎◌, ℕ, zero, suc, ◌+◌, ◌-◌, ◌<◌, ◌≤◌, inl, inr, List, [], ◌∷◌, length, Bool, true, false, cond, sym, subst, refl, arith, ◌==◌, ◌&&◌, eqb-true, eq-eqb, Sign, Zero, Plus, Minus, Kind, NonNeg, Free, Net, kind_at, is_minus, is_plus, kind_of_sign, row_kinds, eq_or, lt_or, reaction_at, AtLeastZeroOrFree, NeverAtLeastZero, at_least_zero_if, fall_kind, later, option_of, others, rise_kind, slope_kinds}
 use Rattle.crn_endo_check.proofs.SlopeCoordinates.{fall_row, height_row, rise_row, species_kind}
 
 abbrev IsEither : Kind → Type 0

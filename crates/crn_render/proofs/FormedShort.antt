@@ -1,6 +1,6 @@
 -- Formed answers have short verdicts, so their reports are short.
-use Rattle.crn_render.proofs.Prelude.{◌≡◌, ◌⊎◌, ◌+◌, ◌-◌, ◌*◌, ◌^◌, ◌<◌, ◌≤◌, ◌==◌, ◌++◌, ◌&&◌, ℕ, zero, suc, inl, inr, List, [], ◌∷◌, length, get_or, refl, ap, ◌∙◌, arith, min, ℤ, pos, negsuc, ◌*ℤ◌, ◌+ℤ◌, ◌-ℤ◌, unsigned_abs, AllByRecursion, range_with_len, cases_Bool, eqb-true, ints, length-map, length-range_with_len, suc-mul, MAX_BUDGET, Net, IsNetwork, IsAmount, IsVector, minus, reaction_vector, entry, dot, column, vectors, all_from, all_given, all_in, entry-column, filter_few, length-column, lt_or, past_end, product_within, range_bounds, sum_within, vector_at, vectors_count, Earlier, Question, Q1, Q2, Q3, Q4, Q5, Q6, Q7, Q8, Q9, Q10, Q11, Q12, Q13, Q14, Q15, number, on, count_of, terminal_of, has_vector, IsFrom, IsNarrow, AreFrom, AreFree, IsTurn, linkage, linkage_count, class_places, pair_places, ends_at, is_within_terminal, is_least_of_pair, Num, IsBasisOf, sizes_of, FitsHead, AreSignalRows, HeadMayBe, IsWideGap, AreFormed, IsBaseList, ListsMayBe, formed_answers_have_formed_verdicts, verdicts_of, tight, built, Gap, Wide, Budget, Rests, Verdict, Classes, Strong, Rank, Deficiency, Yes, YesWeak, YesVec, YesSignal, No, NoReaction, NoVec, NoNumber, NoTerminal, NoClass, NoSum, NoDependence, NoCycle, NoPair, NotRegular, OnlyZero, Plane, NotApplicable, Unknown, Answer, sigma, ReportsAreShort}
-use Rattle.std.proofs.Common.{Bool, true, false, map}
+use Rattle.crn_render.proofs.Prelude.{◌≡◌, ◌⊎◌, ◌+◌, ◌-◌, ◌*◌, ◌^◌, ◌≤◌, ◌==◌, ◌++◌, ◌&&◌, ℕ, zero, suc, inl, inr, List, [], ◌∷◌, length, get_or, refl, ap, ◌∙◌, arith, min, ℤ, pos, ◌*ℤ◌, unsigned_abs, AllByRecursion, range_with_len, cases_Bool, eqb-true, ints, length-map, length-range_with_len, suc-mul, Net, IsNetwork, IsAmount, IsVector, minus, reaction_vector, entry, dot, column, vectors, all_from, all_given, entry-column, filter_few, length-column, lt_or, past_end, product_within, range_bounds, sum_within, vector_at, vectors_count, Earlier, Question, Q1, Q2, Q3, Q4, Q5, Q6, Q7, Q8, Q9, Q10, Q11, Q12, Q13, Q14, Q15, number, on, count_of, terminal_of, has_vector, IsFrom, IsNarrow, AreFrom, AreFree, IsTurn, linkage, linkage_count, class_places, pair_places, ends_at, is_within_terminal, is_least_of_pair, Num, IsBasisOf, sizes_of, FitsHead, AreSignalRows, HeadMayBe, IsWideGap, AreFormed, IsBaseList, ListsMayBe, formed_answers_have_formed_verdicts, verdicts_of, tight, built, Gap, Wide, Budget, Rests, Verdict, Classes, Strong, Rank, Deficiency, Yes, YesWeak, YesVec, YesSignal, No, NoReaction, NoVec, NoNumber, NoTerminal, NoClass, NoSum, NoDependence, NoCycle, NoPair, NotRegular, OnlyZero, Plane, NotApplicable, Unknown, Answer, sigma, ReportsAreShort}
+use Rattle.std.proofs.Common.{true, map}
 use Rattle.crn_cert.specs.declared.head_kind.HeadKind.TheVariants as head
 use Rattle.crn_render.proofs.SumEntries.{sigma_count, sigma_entry}
 use Rattle.crn_render.proofs.Lengths.{AreShort, AreShortCounts, IsShort, IsShortGap, IsShortNumber, short_reports}

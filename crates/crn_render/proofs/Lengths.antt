@@ -1,5 +1,5 @@
 -- Lines of short verdicts are short, and so is a report of them.
-use Rattle.crn_render.proofs.Prelude.{◌≡◌, ◌+◌, ◌-◌, ◌*◌, ◌^◌, ◌<◌, ◌≤◌, ◌==◌, ◌++◌, ℕ, zero, suc, inl, inr, List, [], ◌∷◌, length, get_or, refl, sym, ap, subst, ◌∙◌, arith, ℤ, pos, negsuc, decimal, filter, unsigned_abs, if◌then◌else◌, AllByRecursion, flat_map, zip, signed_decimal, cases_Bool, length-decimal-le_wide, length-append, length-map, suc-mul, Net, IsNetwork, IsPartialNetwork, IsVector, IsAmount, IsName, all_at, joined, side, complex_text, side_held, good_terms, side_length, held_length, Question, Q1, Q2, Q3, Q4, Q5, Q6, Q7, Q8, Q9, Q10, Q11, Q12, Q13, Q14, Q15, Gap, Wide, Budget, Rests, Verdict, Classes, Strong, Rank, Deficiency, Yes, YesWeak, YesVec, YesSignal, No, NoReaction, NoVec, NoNumber, NoTerminal, NoClass, NoSum, NoDependence, NoCycle, NoPair, NotRegular, OnlyZero, Plane, NotApplicable, Unknown, title, numbers_text, gap_words, yes_words, weak_words, no_words, verdict_words, question_line, vector_text, complex_texts, walk_text, arrow_text, reaction_text, titled_line, of_label, members_text, class_line, terminal_text, strong_line, lines_from, vector_title, shelf, shelves_text, class_text, system_line, index_line, gap_details, sigma, signal_details, details, MAX_DOCUMENT, question_lines, all_lines, first_line, species_line, complexes_line, reactions_line, head, one_if_open, open_count, open_line, render}
+use Rattle.crn_render.proofs.Prelude.{◌≡◌, ◌+◌, ◌-◌, ◌*◌, ◌^◌, ◌<◌, ◌≤◌, ◌==◌, ◌++◌, ℕ, zero, suc, inl, inr, List, [], ◌∷◌, length, get_or, ap, arith, ℤ, pos, negsuc, decimal, unsigned_abs, AllByRecursion, flat_map, signed_decimal, cases_Bool, length-decimal-le_wide, length-append, length-map, suc-mul, Net, IsNetwork, IsVector, IsAmount, IsName, joined, side, complex_text, side_held, good_terms, side_length, held_length, Question, Q1, Q2, Q3, Q4, Q5, Q6, Q7, Q8, Q9, Q10, Q11, Q12, Q13, Q14, Q15, Gap, Wide, Budget, Rests, Verdict, Classes, Strong, Rank, Deficiency, Yes, YesWeak, YesVec, YesSignal, No, NoReaction, NoVec, NoNumber, NoTerminal, NoClass, NoSum, NoDependence, NoCycle, NoPair, NotRegular, OnlyZero, Plane, NotApplicable, Unknown, title, numbers_text, gap_words, yes_words, weak_words, no_words, verdict_words, question_line, vector_text, complex_texts, walk_text, arrow_text, reaction_text, titled_line, of_label, members_text, class_line, terminal_text, strong_line, lines_from, vector_title, shelf, shelves_text, class_text, system_line, index_line, gap_details, sigma, signal_details, details, MAX_DOCUMENT, question_lines, all_lines, first_line, species_line, complexes_line, reactions_line, head, one_if_open, open_count, open_line, render}
 use Rattle.std.proofs.Common.{Bool, true, false, map}
 use Rattle.std.specs.Prelude.{codes}
 use Rattle.crn_text.proofs.CallerLemmas.{held}

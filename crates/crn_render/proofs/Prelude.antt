@@ -31,7 +31,7 @@ pub use Rattle.crn_render.specs.Inner.Reading.{IsReadable, question_at}
 pub use Rattle.crn_render.specs.Length.{FaultLinesAreShort, ReportsAreShort, SummariesAreShort}
 pub use Rattle.crn_render.specs.Report.{all_lines, head, one_if_open, open_count, question_lines, render}
 unfoldable pub use Rattle.crn_render.specs.Report.{complexes_line, first_line, open_line, reactions_line, species_line}
-pub use Rattle.crn_render.specs.Summary.{brief, briefs, summary}
+pub use Rattle.crn_render.specs.Summary.{brief, briefs}
 unfoldable pub use Rattle.crn_render.specs.Summary.{accepted_line, sample_line, verdicts_line}
 pub use Rattle.crn_render.specs.Titles.{AreTwoReasons, TrueVerdictsHaveOneLine}
 pub use Rattle.crn_render.specs.Words.{gap_words, no_words, numbers_text, question_line, title, verdict_words, weak_words, yes_words}
@@ -41,19 +41,19 @@ unfoldable pub use Rattle.crn_text.specs.Canonical.{side}
 pub use Rattle.crn_text.specs.Codes.{code_name, code_number}
 pub use Rattle.crn_text.specs.declared.fault.TextCode.{TextCode}
 pub use Rattle.crn_text.specs.declared.fault.TextCode.TheVariants.{BadName, CoefficientTooLarge, EmptySide, NameTooLong, NoArrow, NoMemory, NotAscii, SelfReaction, StrayMark, TextTooLong, TooManyComplexes, TooManyReactions, TooManySpecies, ZeroCoefficient}
-pub use Rattle.crn_vec.proofs.CallerLemmas.{all_at, all_from, all_given, all_in, class_back, class_then, column_long, deficiency_is_one, dot_step, entry-column, filter_few, held, length-column, lt_or, next_sum, number_is_one, past_end, product_within, range_bounds, rank_is_one_number, reaction_in, strong_back, strong_then, sum_within, vector_at, vectors_count, within_at}
+pub use Rattle.crn_vec.proofs.CallerLemmas.{all_at, all_from, all_given, class_back, class_then, column_long, deficiency_is_one, dot_step, entry-column, filter_few, held, length-column, lt_or, next_sum, number_is_one, past_end, product_within, range_bounds, rank_is_one_number, reaction_in, strong_back, strong_then, sum_within, vector_at, vectors_count, within_at}
 pub use Rattle.crn_vec.specs.Concordance.{sign}
 pub use Rattle.crn_vec.specs.Confluence.{HasConfluenceLine, HasNoConfluence}
 pub use Rattle.crn_vec.specs.Deficiency.{AreAtMostOne, AreDeficiencies, HasOneTerminalEach, HasOtherSum, HasTerminalClasses, IsClassDeficiency, IsComplex, IsDeficiencyOne, IsFirstLargeClass, IsFirstSplitClass, IsLabelled, class_vectors, vectors}
 pub use Rattle.crn_vec.specs.Elementary.{AreProportional}
 pub use Rattle.crn_vec.specs.Kept.{KeptInts, KeptNums}
 pub use Rattle.crn_vec.specs.Linkage.{SameClass}
-pub use Rattle.crn_vec.specs.Network.{IsAmount, IsName, IsNetwork, IsPartialNetwork, IsVector, Net, minus, reaction_vector}
+pub use Rattle.crn_vec.specs.Network.{IsAmount, IsName, IsNetwork, IsVector, Net, minus, reaction_vector}
 pub use Rattle.crn_vec.specs.Rank.{IsZero}
 pub use Rattle.crn_vec.specs.Strong.{IsReversible, IsTerminal, ReactsTo, SameStrong, StaysStrong}
 pub use Rattle.crn_vec.specs.Vectors.{column, dot, entry}
 pub use Rattle.crn_vec.specs.Walks.{IsNumberOf}
-pub use Rattle.crn_vec.specs.declared.limits.TheConstants.{MAX_AMOUNT, MAX_BUDGET, WIDE_SOLUTION}
+pub use Rattle.crn_vec.specs.declared.limits.TheConstants.{MAX_AMOUNT, WIDE_SOLUTION}
 pub use Rattle.std.proofs.Common.{List, Some, [], add-one, add-zero, ap, append_assoc, ap₂, arith, codes, drop, get_or, inl, inr, length, refl, rules, subst, suc, sym, take, take_all, to_z, zero, zero-add, ℕ, ◌&&◌, ◌*◌, ◌++◌, ◌+◌, ◌-◌, ◌<◌, ◌==◌, ◌^◌, ◌∙◌, ◌∷◌, ◌≡◌, ◌≢◌, ◌≤◌, ◌⊎◌}
 pub use Rattle.std.proofs.Math.IntN.{*ℤ_comm}
 pub use Rattle.std.proofs.Math.Nat.{suc-mul}
@@ -71,4 +71,4 @@ pub use Rattle.std.specs.Fmt.{signed_decimal}
 unfoldable pub use Rattle.std.specs.Fmt.{digits}
 pub use Rattle.std.specs.Int.{w128}
 pub use Rattle.std.specs.List.{AllByRecursion, flat_map, range_with_len, zip}
-pub use Rattle.std.specs.Prelude.{Bool, IsTrue, decimal, false, filter, if◌then◌else◌, map, min, negsuc, pos, slice_get, slice_index, sum, true, unsigned_abs, ℤ, ◌*ℤ◌, ◌+ℤ◌, ◌-ℤ◌, ◌↔◌}
+pub use Rattle.std.specs.Prelude.{Bool, IsTrue, decimal, false, if◌then◌else◌, map, min, negsuc, pos, slice_get, slice_index, sum, true, unsigned_abs, ℤ, ◌*ℤ◌, ◌+ℤ◌, ◌↔◌}

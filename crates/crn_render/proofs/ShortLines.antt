@@ -1,5 +1,5 @@
 -- Summaries of formed answers and lines of faults are short.
-use Rattle.crn_render.proofs.Prelude.{◌≡◌, ◌+◌, ◌*◌, ◌^◌, ◌<◌, ◌≤◌, ◌==◌, ◌++◌, ℕ, inl, inr, List, [], ◌∷◌, length, rules, arith, decimal, AllByRecursion, cases_Bool, length-append, Net, IsNetwork, MAX_DOCUMENT, TextCode, SelfReaction, TooManySpecies, TooManyComplexes, TooManyReactions, NoMemory, NotAscii, NoArrow, EmptySide, BadName, NameTooLong, ZeroCoefficient, CoefficientTooLarge, StrayMark, TextTooLong, code_number, code_name, verdicts_of, Verdict, Classes, Strong, Rank, Deficiency, Yes, YesWeak, YesVec, YesSignal, No, NoReactionVerdict, NoVec, NoNumber, NoTerminal, NoClass, NoSum, NoDependence, NoCycle, NoPair, NotRegular, OnlyZero, Plane, NotApplicable, Unknown, fault_line, document_codes, document_name, name_beside, FaultLinesAreShort, SummariesAreShort, accepted_line, brief, briefs, sample_line, summary, verdicts_line}
+use Rattle.crn_render.proofs.Prelude.{◌≡◌, ◌+◌, ◌*◌, ◌^◌, ◌<◌, ◌≤◌, ◌==◌, ◌++◌, ℕ, inl, inr, List, [], ◌∷◌, length, rules, arith, decimal, AllByRecursion, cases_Bool, length-append, Net, IsNetwork, MAX_DOCUMENT, TextCode, SelfReaction, TooManySpecies, TooManyComplexes, TooManyReactions, NoMemory, NotAscii, NoArrow, EmptySide, BadName, NameTooLong, ZeroCoefficient, CoefficientTooLarge, StrayMark, TextTooLong, code_number, code_name, verdicts_of, Verdict, Classes, Strong, Rank, Deficiency, Yes, YesWeak, YesVec, YesSignal, No, NoReactionVerdict, NoVec, NoNumber, NoTerminal, NoClass, NoSum, NoDependence, NoCycle, NoPair, NotRegular, OnlyZero, Plane, NotApplicable, Unknown, fault_line, document_codes, document_name, name_beside, FaultLinesAreShort, SummariesAreShort, accepted_line, brief, briefs, sample_line, verdicts_line}
 use Rattle.std.specs.Prelude.{codes}
 use Rattle.crn_text.specs.declared.fault.TextCode.TheVariants.{NoReaction}
 use Rattle.crn_render.proofs.FormedShort.{verdicts_short}

@@ -1,5 +1,5 @@
 -- What is written for a document that is accepted, whose verdicts are formed.
-use Rattle.crn_run.proofs.Prelude.{◌≡◌, ℕ, List, [], ◌∷◌, Option, Some, None, refl, sym, subst, ◌∙◌, inl, Err, IfSome, Net, Verdict, built, AreFormedVerdicts, Record, AreFormedOf, IsGood, IsReadOf, ReadDocumentsAreGood, AreSound, FormedRecordsAreOfAnswers, records_of, records_formed, Has32Bits, render, Accepts, CheckGives, Rejects, IsTextOf, Accepted, Devices, IsCheckOf, RunGives, rejected_line, verdicts_in, IsCommand, LineGives, Check, Verify, Status, Done, ReadFault, Rejected}
+use Rattle.crn_run.proofs.Prelude.{◌≡◌, ℕ, List, [], Option, Some, None, refl, sym, subst, ◌∙◌, inl, Err, IfSome, Net, Verdict, built, AreFormedVerdicts, Record, AreFormedOf, IsGood, IsReadOf, ReadDocumentsAreGood, AreSound, FormedRecordsAreOfAnswers, records_of, records_formed, Has32Bits, render, Accepts, CheckGives, Rejects, IsTextOf, Accepted, Devices, IsCheckOf, RunGives, rejected_line, verdicts_in, IsCommand, LineGives, Check, Verify, Status, Done, ReadFault, Rejected}
 use Rattle.crn_reading.specs.declared.fault.CheckStop.TheVariants.{Failed}
 use Rattle.crn_run.proofs.WordsSaid.{one_command}
 use Rattle.crn_run.proofs.Runs.{output_ends, read_out}

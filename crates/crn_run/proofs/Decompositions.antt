@@ -1,5 +1,5 @@
 -- Verdicts of the part `parts` are short.
-use Rattle.crn_run.proofs.Prelude.{◌≡◌, ◌+◌, ◌*◌, ◌^◌, ◌<◌, ◌≤◌, ◌==◌, ◌++◌, ℕ, List, [], ◌∷◌, length, map, arith, pos, decimal, filter, AllByRecursion, range_with_len, length-decimal-le_wide, length-append, length-range_with_len, length-map-range_with_len, Net, IsNetwork, filter_few, MAX_DOCUMENT, numbers_text, Parts, Split, label_of, IsFormedParts, greatest, part_ranks, seen_of, parts_verdict, ranks_line}
+use Rattle.crn_run.proofs.Prelude.{◌≡◌, ◌+◌, ◌*◌, ◌<◌, ◌≤◌, ◌==◌, ◌++◌, ℕ, List, [], ◌∷◌, length, map, arith, pos, decimal, filter, AllByRecursion, range_with_len, length-decimal-le_wide, length-append, length-range_with_len, length-map-range_with_len, Net, IsNetwork, filter_few, MAX_DOCUMENT, numbers_text, Parts, Split, label_of, IsFormedParts, greatest, seen_of, parts_verdict, ranks_line}
 use Rattle.std.specs.Prelude.{codes}
 use Rattle.crn_indep_check.specs.declared.parts.Parts.TheVariants.{Wide}
 

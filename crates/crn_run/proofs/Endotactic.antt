@@ -1,5 +1,5 @@
 -- Proofs and verdicts of the part `endo`.
-use Rattle.crn_run.proofs.Prelude.{◌+◌, ◌<◌, ◌≤◌, ◌^◌, ◌++◌, ℕ, List, length, arith, decimal, length-decimal-le_wide, length-append, Net, IsNetwork, MAX_BUDGET, MAX_DOCUMENT, IsPartDocument, part_document, IsEndoAnswer, IsLicensedEndo, IsFormedEndo, Large, endo_verdict}
+use Rattle.crn_run.proofs.Prelude.{◌+◌, ◌<◌, ◌≤◌, ◌++◌, ℕ, length, arith, decimal, length-decimal-le_wide, length-append, Net, IsNetwork, MAX_BUDGET, MAX_DOCUMENT, IsPartDocument, part_document, IsEndoAnswer, IsLicensedEndo, IsFormedEndo, Large, endo_verdict}
 use Rattle.std.specs.Prelude.{codes}
 use Rattle.crn_endo_check.specs.declared.endo.Endo.{Endo}
 use Rattle.crn_endo_check.specs.declared.endo.Endo.TheVariants.{Yes, No, Wide, Spent}

@@ -50,7 +50,7 @@ pub use Rattle.crn_endo_text.proofs.CallerLemmas.{endo_is_answered, course_settl
 pub use Rattle.crn_endo_text.specs.Document.{IsSeenOf}
 pub use Rattle.crn_indep_check.specs.Finest.{label_of}
 pub use Rattle.crn_indep_check.specs.Parts.{IsFormedParts}
-pub use Rattle.crn_indep_check.specs.Shown.{greatest, part_ranks}
+pub use Rattle.crn_indep_check.specs.Shown.{greatest}
 pub use Rattle.crn_indep_check.specs.declared.parts.Parts.{Parts}
 pub use Rattle.crn_indep_check.specs.declared.parts.Parts.TheVariants.{Split}
 pub use Rattle.crn_indep_text.proofs.CallerLemmas.{parts_is_answered, course_settled as parts_settled}
@@ -78,7 +78,7 @@ pub use Rattle.crn_robust.specs.Pick.{IsPicked}
 pub use Rattle.crn_robust.specs.Robust.{IsCase}
 pub use Rattle.crn_robust.specs.declared.robust.Robust.TheVariants.{Number, Rests}
 pub use Rattle.crn_robust_text.proofs.CallerLemmas.{blocks_learned, blocks_true, course_settled, robust_is_answered, course_settled as robust_settled}
-pub use Rattle.crn_robust_text.specs.Document.{AreInside, IsFormed, IsReadAs, IsValid, ValidAreTrue, ValidLinesAreTrue, blocks_of, earlier_of, rests_on, said_of}
+pub use Rattle.crn_robust_text.specs.Document.{AreInside, IsFormed, IsReadAs, IsValid, ValidAreTrue, ValidLinesAreTrue, blocks_of, rests_on, said_of}
 pub use Rattle.crn_run.specs.Inner.Network.{NetworkRead}
 pub use Rattle.crn_run.specs.Inner.Parse.{Means, MeansBudget, MeansNumber, MeansPart, is_two_dashes}
 unfoldable pub use Rattle.crn_run.specs.Inner.Parse.{Gives, IsRead, crnt_app}
@@ -112,7 +112,7 @@ pub use Rattle.crn_text.specs.declared.fault.TextCode.TheVariants.{TextTooLong}
 pub use Rattle.crn_vec.proofs.CallerLemmas.{all_at, filter_few, head_is, some_is, tail_is}
 pub use Rattle.crn_vec.specs.Network.{IsName, IsNetwork, Net}
 pub use Rattle.crn_vec.specs.declared.limits.TheConstants.{DEFAULT_BUDGET, MAX_BUDGET, MAX_TEXT}
-pub use Rattle.std.proofs.Common.{Bool, Err, List, None, Ok, Option, Result, Some, [], ap, ap₂, arith, codes, cond, drop, eqb-true, false, inl, inr, length, map, ne_eqb, not, one-add, refl, rules, subst, suc, sym, take, tests, true, zero, ℕ, ℤ, ◌&&◌, ◌*◌, ◌++◌, ◌+◌, ◌-◌, ◌<◌, ◌==◌, ◌^◌, ◌||◌, ◌∙◌, ◌∷◌, ◌≡◌, ◌≤◌, ◌⊎◌}
+pub use Rattle.std.proofs.Common.{Bool, Err, List, None, Ok, Option, Result, Some, [], ap, ap₂, arith, codes, cond, drop, eqb-true, false, inl, inr, length, map, ne_eqb, not, one-add, refl, rules, subst, suc, sym, take, tests, true, zero, ℕ, ℤ, ◌&&◌, ◌*◌, ◌++◌, ◌+◌, ◌-◌, ◌<◌, ◌==◌, ◌||◌, ◌∙◌, ◌∷◌, ◌≡◌, ◌≤◌, ◌⊎◌}
 pub use Rattle.std.proofs.lemmas.Bool.{cases_Bool, cases_eq}
 pub use Rattle.std.proofs.lemmas.Fmt.{length-decimal-le_wide}
 pub use Rattle.std.proofs.lemmas.Iterator.{YieldsList-from_slice}
@@ -123,9 +123,9 @@ pub use Rattle.std.proofs.lemmas.Option.{same_Some}
 pub use Rattle.std.proofs.lemmas.Result.{IfOk-weaker, err_from_is_err_and}
 pub use Rattle.std.proofs.lemmas.Slice.Eq.{bytes_eq-Decides}
 pub use Rattle.std.specs.Char.{digit_value}
-pub use Rattle.std.specs.List.{AllByRecursion, before_first, list_all, list_any, onto_first, position_or_len, range_with_len, slice_split}
+pub use Rattle.std.specs.List.{AllByRecursion, before_first, list_all, list_any, onto_first, position_or_len, range_with_len}
 pub use Rattle.std.specs.Option.{option_map_or}
-pub use Rattle.std.specs.Prelude.{IfSome, IsTrue, MatchOption, OnOk, String, decimal, encode_utf8, filter, fold, if◌then◌else◌, is_some, option_and_then, pos, slice_get, slice_index_or, string_bytes, unwrap_or, ◌↔◌}
+pub use Rattle.std.specs.Prelude.{IfSome, IsTrue, MatchOption, String, decimal, encode_utf8, filter, fold, if◌then◌else◌, is_some, option_and_then, pos, slice_get, slice_index_or, string_bytes, unwrap_or, ◌↔◌}
 pub use Rattle.std.specs.Str.{bytes_eq, chars}
 pub use Rattle.std.specs.Str.Parse.{IsNumeral, digits_value}
 pub use Rattle.std.specs.declared.alloc.Global.{Global}

@@ -1,6 +1,6 @@
 -- Proofs and verdicts of the part `robust`.
-use Rattle.crn_run.proofs.Prelude.{◌≡◌, ◌⊎◌, ◌≤◌, ◌<◌, ◌+◌, ◌-◌, ◌^◌, ◌++◌, ℕ, List, [], ◌∷◌, length, inl, inr, subst, sym, ◌∙◌, arith, OnOk, decimal, slice_get, slice_index_or, same_Some, length-decimal-le_wide, length-append, Net, IsNetwork, IsName, all_at, MAX_DOCUMENT, Earlier, IsOpen, Q5, on, IsPartRead, CasesDecideRobustness, IsTrueOf, IsPicked, IsCase, Number, Rests, AreInside, IsFormed, IsValid, ValidAreTrue, ValidLinesAreTrue, blocks_of, earlier_of, rests_on, said_of, blocks_learned, course_settled, robust_is_answered, AreFormed, AreValid, IsTrueOrLicensed, Q1, Q2, tight, Answer, Verdict, is_true_tight, documents_are_judged, AreRankAnswers, AreTrueOnRobustness, IsLicensedOnRobustness, robust_verdict, IsTrueOrOpen, open_tight, verdicts_on, blocks_true}
-use Rattle.std.specs.Prelude.{Option, Some, Result, Ok, Err, codes}
+use Rattle.crn_run.proofs.Prelude.{◌≡◌, ◌⊎◌, ◌≤◌, ◌<◌, ◌+◌, ◌-◌, ◌++◌, ℕ, List, [], ◌∷◌, length, inl, inr, subst, sym, ◌∙◌, arith, decimal, slice_get, slice_index_or, same_Some, length-decimal-le_wide, length-append, Net, IsNetwork, IsName, all_at, MAX_DOCUMENT, Earlier, Q5, on, IsPartRead, CasesDecideRobustness, IsTrueOf, IsPicked, IsCase, Number, Rests, AreInside, IsFormed, IsValid, ValidAreTrue, ValidLinesAreTrue, blocks_of, rests_on, said_of, blocks_learned, course_settled, robust_is_answered, AreFormed, AreValid, IsTrueOrLicensed, Q1, Q2, tight, Answer, Verdict, is_true_tight, documents_are_judged, AreRankAnswers, AreTrueOnRobustness, IsLicensedOnRobustness, robust_verdict, IsTrueOrOpen, open_tight, verdicts_on, blocks_true}
+use Rattle.std.specs.Prelude.{Some, codes}
 use Rattle.crn_robust.specs.declared.robust.Robust.{Robust}
 use Rattle.crn_robust.specs.declared.robust.Robust.TheVariants.{Yes, None}
 use Rattle.crn_robust_text.specs.Document.{Said, meant, part}

@@ -1,5 +1,5 @@
 -- What may be written is shorter than a document may be.
-use Rattle.crn_run.proofs.Prelude.{◌≡◌, ℕ, ◌+◌, ◌<◌, ◌≤◌, ◌==◌, inl, inr, List, [], ◌∷◌, length, cond, sym, ap, subst, ◌∙◌, arith, slice_split, onto_first, cases_Bool, Net, MAX_DOCUMENT, Fault, lines, TextCode, built, verdicts_of, Answer, Verdict, answers_formed, records_answered, usage_line, Has32Bits, render, summary, fault_lines_are_short, reports_are_short, summaries_are_short, IsAllowed, IsCertificateOf, IsCheckOf, IsOutput, IsRefusalOf, IsRejectionOf, IsReportOf, IsSummaryOf, refused_line, rejected_line, verdicts_in, IsCommand, Say, Command, Report, Certify, Check, Sample, Prove, Verify, PartName, IsVerdictOf, IsPartRejectionOf, subject_of, Status}
+use Rattle.crn_run.proofs.Prelude.{ℕ, ◌+◌, ◌<◌, ◌≤◌, ◌==◌, inl, inr, List, [], ◌∷◌, length, sym, subst, arith, onto_first, cases_Bool, MAX_DOCUMENT, Fault, lines, TextCode, built, Answer, Verdict, answers_formed, records_answered, usage_line, Has32Bits, render, fault_lines_are_short, reports_are_short, summaries_are_short, IsAllowed, IsCertificateOf, IsCheckOf, IsOutput, IsRefusalOf, IsRejectionOf, IsReportOf, IsSummaryOf, IsCommand, Command, Report, Certify, Check, Sample, Prove, Verify, PartName, IsVerdictOf, IsPartRejectionOf, subject_of, Status}
 use Rattle.crn_ctext.specs.Judged.{records_of}
 use Rattle.crn_run.proofs.PartFacts.{facts}
 use Rattle.crn_run.proofs.Statuses.{refused_or, rejected_or}

@@ -1,5 +1,5 @@
 -- From what was read of a document of a part to a whole run.
-use Rattle.crn_run.proofs.Prelude.{◌≡◌, ℕ, List, Result, Err, refl, sym, ap, subst, ◌∙◌, inl, Net, IsNetwork, SourceSeen, IsPartRead, PullsAwaited, ReadingGives, ReadsAll, CheckStop, IsVerdictOf, Subject, course_of, subject_of, Devices, RunGives, rejected_line, IsCommand, DocumentStopGives, HasNamedCode, LineGives, Command, Check, Verify, PartName, Status, Done, Rejected}
+use Rattle.crn_run.proofs.Prelude.{◌≡◌, ℕ, List, Err, refl, sym, ap, subst, inl, Net, IsNetwork, SourceSeen, IsPartRead, PullsAwaited, ReadingGives, ReadsAll, CheckStop, IsVerdictOf, Subject, course_of, subject_of, Devices, RunGives, rejected_line, IsCommand, DocumentStopGives, HasNamedCode, LineGives, Check, Verify, PartName, Status, Done, Rejected}
 use Rattle.crn_reading.specs.declared.fault.CheckStop.TheVariants as document
 use Rattle.crn_run.proofs.Checked.{left_of}
 use Rattle.crn_run.proofs.PartFacts.{facts, fault_named}

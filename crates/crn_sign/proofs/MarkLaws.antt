@@ -1,5 +1,5 @@
 -- What is known of the signs of sums of vectors (x, Ax), and that suitable signs make a solution.
-use Rattle.crn_sign.proofs.Prelude.{◌≡◌, ℕ, zero, suc, ◌+◌, ◌<◌, ◌≤◌, inl, inr, List, [], ◌∷◌, length, map, get_or, take, refl, sym, ap, ap₂, subst, ◌∙◌, arith, pos, negsuc, ◌*ℤ◌, ◌+ℤ◌, ◌≤ℤ◌, unsigned_abs, range_with_len, ints, get_or-map, length-map, get_or-range_with_len, length-range_with_len, Sign, ZeroSign, PlusSign, MinusSign, Kind, Free, Mat, entry, dot, scale, HasSign, width, InRowSpace, HasKind, IsSolution, kind_at, eq_or, zip_from, zip_at, plus, zeros, entry-plus, length-zeros, entry-zeros, take-zeros, dot-zeros, entry-scale, length-scale, row_scaled, row_plus, Bits, Mark, Zero, Plus, Minus, Any, AreRowSigns, IsMarked, mark_at, word_count, AreMadeBy, AreMet, AreOpposite, AreRowMarks, AreSuited, HasMark, kind_there, united, kind_of_mark, kinds_of, laid, negative, sign_mark, sign_there}
+use Rattle.crn_sign.proofs.Prelude.{◌≡◌, ℕ, zero, suc, ◌+◌, ◌<◌, ◌≤◌, inl, inr, List, [], ◌∷◌, length, map, get_or, take, refl, sym, ap, ap₂, subst, ◌∙◌, arith, pos, negsuc, ◌*ℤ◌, ◌+ℤ◌, ◌≤ℤ◌, unsigned_abs, range_with_len, ints, get_or-map, length-map, get_or-range_with_len, length-range_with_len, Sign, ZeroSign, PlusSign, MinusSign, Kind, Free, Mat, entry, dot, scale, HasSign, width, InRowSpace, HasKind, IsSolution, kind_at, eq_or, zip_from, zip_at, plus, zeros, entry-plus, length-zeros, entry-zeros, take-zeros, dot-zeros, entry-scale, length-scale, row_scaled, row_plus, Bits, Mark, Zero, Plus, Minus, Any, AreRowSigns, IsMarked, mark_at, word_count, AreMadeBy, AreMet, AreOpposite, AreRowMarks, AreSuited, HasMark, kind_there, united, kinds_of, laid, negative, sign_mark, sign_there}
 use Rattle.std.specs.Prelude.{ℤ}
 use lib.IntN.{*ℤ-zero}
 

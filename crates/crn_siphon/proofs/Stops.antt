@@ -1,5 +1,5 @@
 -- Reactions that stop a prefix, and void prefixes, by words of bits.
-use Rattle.crn_siphon.proofs.Prelude.{◌≡◌, ℕ, suc, ◌+◌, ◌-◌, ◌<◌, ◌≤◌, ◌⊎◌, ◌≢◌, inl, inr, Bool, List, [], ◌∷◌, ◌++◌, length, get_or, refl, sym, ap, subst, ◌∙◌, arith, get_or-append, false≢true, get_or_push, length-append, ◌↔◌, bit_at, bit_at-zero, Net, Holds, eq_or, all_push, all_at, HoldsMember, IsBad, IsVoid, SpeciesSet, Place, Ends, Holders, Has, HasCommon, IsWithin, IsPlace, AreEnds, AreEndsOf, AreHolders, AreAllHolders, HoldsIn, IsReaction, IsStopping, NoneStops, StopsLast, HasNoBad}
+use Rattle.crn_siphon.proofs.Prelude.{◌≡◌, ℕ, ◌+◌, ◌-◌, ◌<◌, ◌≤◌, ◌⊎◌, ◌≢◌, inl, inr, Bool, List, [], ◌∷◌, ◌++◌, length, get_or, refl, sym, ap, subst, ◌∙◌, arith, get_or-append, false≢true, get_or_push, length-append, ◌↔◌, bit_at, bit_at-zero, Net, Holds, eq_or, all_push, all_at, IsBad, IsVoid, SpeciesSet, Place, Ends, Holders, Has, HasCommon, IsWithin, IsPlace, AreEnds, AreEndsOf, AreHolders, AreAllHolders, HoldsIn, IsReaction, IsStopping, NoneStops, StopsLast, HasNoBad}
 use Rattle.crn_siphon.proofs.Places.{holds_or}
 
 abbrev ends_at : Net → ℕ → ℕ × ℕ

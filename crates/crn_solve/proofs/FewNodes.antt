@@ -1,5 +1,5 @@
 -- Answers to questions 1 to 12 have no trees, so that all trees have few nodes if those of question 13 have.
-use Rattle.crn_solve.proofs.Prelude.{◌≡◌, ℕ, [], ◌∷◌, refl, Net, Answer, Earlier, Question, Q1, Q2, Q3, Q4, Q5, Q6, Q7, Q8, Q9, Q10, Q11, Q12, trees, HeadKind, IsAnswer, HasFewNodes, HaveFewNodes, Verdict, Proof, treeless, treeless_few, AreAnswers, first_questions}
+use Rattle.crn_solve.proofs.Prelude.{◌≡◌, ℕ, [], ◌∷◌, refl, Net, Answer, Earlier, Question, Q1, Q2, Q3, Q4, Q5, Q6, Q7, Q8, Q9, Q10, Q11, Q12, trees, HeadKind, IsAnswer, HasFewNodes, HaveFewNodes, treeless, treeless_few, AreAnswers, first_questions}
 
 -- the answer to a question without trees has few nodes
 one_few : (q : Question) → ((net : Net) (earlier : Earlier) (kind : HeadKind) → trees net earlier q kind ≡ []) → (net : Net) (budget : ℕ) (earlier : Earlier) (a : Answer) → IsAnswer net budget earlier q a → HasFewNodes budget a.proof

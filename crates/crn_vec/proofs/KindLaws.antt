@@ -2,8 +2,8 @@
 -- negative product.
 use Rattle.crn_vec.proofs.Prelude.{◌≡◌, ◌≢◌, ℕ, ◌⊎◌, inl, inr, arith, List, ap, refl, suc, zero, ℤ, pos, negsuc, ◌+ℤ◌, ◌*ℤ◌, ◌≤ℤ◌, ◌<ℤ◌, ints, false≢true, Kind, Pos, Neg, NonNeg, Free, entry, dot, HasKind, MayTake, MayWeigh, is_signed}
 use Rattle.std.specs.Prelude.{true}
-use lib.IntN.{*ℤ_comm, *ℤ-zero, zero-*ℤ}
 use Rattle.crn_vec.specs.declared.signs.Kind.TheVariants.{Zero}
+use lib.IntN.{*ℤ_comm, *ℤ-zero, zero-*ℤ}
 use Rattle.crn_vec.proofs.Entries.{eq_or}
 use Rattle.crn_vec.proofs.Orthogonal.{part, negative_at}
 

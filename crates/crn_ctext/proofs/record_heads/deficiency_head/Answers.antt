@@ -1,4 +1,4 @@
-use Rattle.crn_ctext.proofs.Prelude.{rules, ◌≤◌, ◌<◌, ℕ, List, [], ◌∷◌, refl, ap, arith, Field, ClassWide, just}
+use Rattle.crn_ctext.proofs.Prelude.{ℕ, List, [], ◌∷◌, refl, ap, arith, ClassWide, just}
 use Rattle.crn_ctext.proofs.Forms.{given_back}
 use Rattle.crn_ctext.proofs.record_heads.deficiency_head.Goals as goal
 

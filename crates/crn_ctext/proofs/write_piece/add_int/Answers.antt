@@ -1,6 +1,5 @@
 use Rattle.crn_ctext.proofs.Pieces.{added}
-use Rattle.crn_ctext.proofs.Prelude.{◌∙◌, ◌++◌, ◌≡◌, ap, to_z-of_z, w128, number_text, arith, ints, unsigned_abs}
-use Rattle.std.proofs.Common.{ℤ}
+use Rattle.crn_ctext.proofs.Prelude.{◌≡◌, arith, ints, unsigned_abs}
 use Rattle.crn_ctext.proofs.write_piece.add_int.Goals as goal
 
 pub returns-clause-text : goal.returns-clause-text

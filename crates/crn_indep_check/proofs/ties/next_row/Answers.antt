@@ -1,4 +1,4 @@
-use Rattle.crn_indep_check.proofs.Prelude.{◌≡◌, ◌≤◌, ◌-◌, ◌+◌, ℕ, List, [], length, get_or, sym, ap, subst, ◌∙◌, arith, range_with_len, IsIn, outside, all_reactions}
+use Rattle.crn_indep_check.proofs.Prelude.{◌≤◌, ◌-◌, ◌+◌, ℕ, List, [], length, get_or, sym, ap, subst, ◌∙◌, arith, range_with_len, IsIn, outside, all_reactions}
 use Rattle.crn_indep_check.proofs.Combs.{out_of}
 use Rattle.crn_indep_check.proofs.Outside.{row_is, no_row, combined_in, outside_few, outside_same, outside_more}
 use Rattle.crn_indep_check.proofs.ties.next_row.Goals as goal

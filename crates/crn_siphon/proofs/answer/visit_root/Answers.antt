@@ -1,4 +1,4 @@
-use Rattle.crn_siphon.proofs.Prelude.{[], ℕ, arith, ap, refl, sym, subst, ◌∙◌, Fact, marks, err_from_is_err_and}
+use Rattle.crn_siphon.proofs.Prelude.{[], ℕ, arith, ap, refl, ◌∙◌, Fact, marks, err_from_is_err_and}
 use Rattle.crn_siphon.proofs.Stops.{root_place, root_last}
 use Rattle.crn_siphon.proofs.EndLaws.{siphon_shown, tree_shown, found_end, refuted_end, spent_end, all_put}
 use Rattle.crn_siphon.proofs.answer.visit_root.Goals as goal

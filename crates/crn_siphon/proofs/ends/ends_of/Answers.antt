@@ -1,4 +1,4 @@
-use Rattle.crn_siphon.proofs.Prelude.{◌+◌, List, sym, subst, ap, arith, ℕ, ◌↔◌, Holds, Ends, Has, AreEnds}
+use Rattle.crn_siphon.proofs.Prelude.{◌+◌, List, sym, subst, arith, ℕ, ◌↔◌, Holds, Ends, Has, AreEnds}
 use Rattle.crn_siphon.proofs.Stops.{ends_more}
 use Rattle.crn_siphon.proofs.ends.ends_of.Goals as goal
 

@@ -1,4 +1,4 @@
-use Rattle.crn_siphon.proofs.Prelude.{◌≡◌, ◌+◌, ◌<◌, ◌++◌, ◌∷◌, [], List, Vec, Global, length, sym, ap, subst, ◌∙◌, arith, false≢true, Ends, AreHolders}
+use Rattle.crn_siphon.proofs.Prelude.{◌+◌, ◌<◌, List, Vec, Global, length, sym, ap, subst, ◌∙◌, arith, false≢true, Ends, AreHolders}
 use Rattle.crn_siphon.proofs.Stops.{holders_more, holders_same}
 use Rattle.crn_siphon.proofs.ends.holders_at.Goals as goal
 use Rattle.crn_siphon.proofs.ends.holders_at.Goals.{then-holds+in_ok-push, else-holds}

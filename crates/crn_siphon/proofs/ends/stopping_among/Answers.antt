@@ -1,4 +1,4 @@
-use Rattle.crn_siphon.proofs.Prelude.{◌≡◌, ◌+◌, ◌<◌, ℕ, inl, inr, get_or, sym, ap, subst, ◌∙◌, arith, false≢true, lt_or, any_default, Ends, HasCommon, IsWithin}
+use Rattle.crn_siphon.proofs.Prelude.{◌≡◌, ℕ, inl, inr, get_or, sym, subst, ◌∙◌, arith, false≢true, lt_or, any_default, Ends, HasCommon, IsWithin}
 use Rattle.crn_siphon.proofs.Stops.{bad_among, none_stops}
 use Rattle.crn_siphon.proofs.ends.stopping_among.Goals as goal
 

@@ -1,4 +1,4 @@
-use Rattle.crn_siphon.proofs.Prelude.{◌≡◌, ℕ, List, length, ap, refl, sym, subst, ◌∙◌, arith, ℤ, Mat, entry, width, signed_count, Kind, AreFree, Feasible, Infeasible, Fact, siphon_kinds, AreIncreased, IsCoverIn, IsFactAt, IsLawIn, fact}
+use Rattle.crn_siphon.proofs.Prelude.{◌≡◌, List, length, ap, sym, subst, ◌∙◌, arith, ℤ, Mat, entry, width, signed_count, Kind, AreFree, Feasible, Infeasible, siphon_kinds, AreIncreased, IsCoverIn, IsLawIn, fact}
 use Rattle.crn_siphon.proofs.Nodes.{covers_put, fact_put, laws_put, more_same}
 use Rattle.crn_siphon.proofs.Systems.{kinds_long, few_signed, decided, solution_formed, solution_increases, cut_is_law}
 use Rattle.crn_siphon.proofs.known.ask.Goals as goal

@@ -1,4 +1,4 @@
-use Rattle.crn_siphon.proofs.Prelude.{◌≡◌, List, get_or, sym, subst, Fact, IsWithin, IsCoverOf}
+use Rattle.crn_siphon.proofs.Prelude.{List, get_or, subst, Fact, IsWithin, IsCoverOf}
 use Rattle.crn_siphon.proofs.Nodes.{cover_of_by, more_same}
 use Rattle.crn_siphon.proofs.known.find.Goals as goal
 

@@ -1,4 +1,4 @@
-use Rattle.crn_siphon.proofs.Prelude.{◌≡◌, ◌++◌, ◌+◌, ◌-◌, ◌*◌, ◌<◌, ◌≤◌, ℕ, List, [], ◌∷◌, length, map, true, false, Bool, ap, refl, sym, subst, ◌∙◌, arith, rules, Option, End, mark, marks, EndsAt, IsVisit}
+use Rattle.crn_siphon.proofs.Prelude.{◌≡◌, ◌++◌, ◌+◌, ◌-◌, ◌*◌, ◌<◌, ◌≤◌, ℕ, List, [], ◌∷◌, length, map, true, false, Bool, ap, sym, subst, ◌∙◌, arith, rules, Option, End, mark, marks, EndsAt, IsVisit}
 use Rattle.crn_siphon.proofs.SetLaws.{members_are}
 use Rattle.crn_siphon.proofs.EndLaws.{run_out, leaf_at, found_at, opened_at, first_child, second_child}
 use Rattle.crn_siphon.proofs.Nodes.{grown_same, grown_then}

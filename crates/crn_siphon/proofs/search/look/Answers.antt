@@ -1,4 +1,4 @@
-use Rattle.crn_siphon.proofs.Prelude.{refl, sym, subst, ◌∙◌, ℕ, false≢true, Bad, Law, Finding, IsFinding}
+use Rattle.crn_siphon.proofs.Prelude.{refl, sym, subst, ◌∙◌, false≢true, Bad, Law, Finding, IsFinding}
 use Rattle.crn_siphon_check.specs.Trees.{Void}
 use Rattle.crn_siphon.proofs.Nodes.{more_same}
 use Rattle.crn_siphon.proofs.Places.{bad_leaf, void_leaf, law_leaf, cover_stands}

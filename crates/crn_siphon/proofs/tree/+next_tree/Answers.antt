@@ -1,4 +1,4 @@
-use Rattle.crn_siphon.proofs.Prelude.{◌≡◌, ◌+◌, ◌-◌, ◌<◌, ℕ, length, arith, rules, ap, sym, subst, ◌∙◌, IfOk-weaker, plan_of, Node, Void, IsListed}
+use Rattle.crn_siphon.proofs.Prelude.{◌+◌, ◌-◌, ◌<◌, ℕ, length, arith, rules, sym, subst, ◌∙◌, IfOk-weaker, plan_of, Void, IsListed}
 use Rattle.crn_siphon.proofs.Nodes.{IsRead, listed_inside, first_listed, second_listed, second_after, fork_read, law_listed, by_bad, by_law, by_void}
 use Rattle.crn_siphon.proofs.tree.+next_tree.Goals as goal
 

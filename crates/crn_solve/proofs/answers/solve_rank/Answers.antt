@@ -1,4 +1,4 @@
-use Rattle.crn_solve.proofs.Prelude.{◌≡◌, [], ◌∷◌, List, refl, Answer, Earlier, IsOpen, Q1, Q2, Q5, tight, AreLinkageData, AreStrongData}
+use Rattle.crn_solve.proofs.Prelude.{◌≡◌, [], ◌∷◌, List, refl, Answer, Earlier, IsOpen, Q1, Q2, tight, AreLinkageData, AreStrongData}
 use Rattle.crn_solve.proofs.AllAnswers.{answer_of}
 use Rattle.crn_solve.proofs.answers.solve_rank.Goals as goal
 

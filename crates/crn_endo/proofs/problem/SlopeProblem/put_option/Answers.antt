@@ -1,4 +1,4 @@
-use Rattle.crn_endo.proofs.Prelude.{◌≡◌, ◌<◌, ◌+◌, ℕ, List, ◌∷◌, ◌++◌, [], length, get_or, refl, sym, ap, subst, ◌∙◌, arith, Sign, Plus, is_plus, kind_of_sign, Net, Bits, word_count, at_least_zero_if, others, slope_width, AskFirmly, firm_kind}
+use Rattle.crn_endo.proofs.Prelude.{◌≡◌, ◌<◌, ◌+◌, ℕ, List, ◌∷◌, ◌++◌, [], length, get_or, sym, ap, subst, ◌∙◌, arith, Sign, Plus, is_plus, kind_of_sign, Net, Bits, word_count, at_least_zero_if, others, slope_width, AskFirmly, firm_kind}
 use Rattle.crn_endo.proofs.Steps.{option_plus, option_still}
 use Rattle.crn_endo.proofs.problem.SlopeProblem.put_option.Goals as goal
 

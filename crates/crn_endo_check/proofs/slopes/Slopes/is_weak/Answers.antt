@@ -1,5 +1,4 @@
 use Rattle.crn_endo_check.proofs.Prelude.{◌≡◌, ◌<◌, ◌-◌, length, ap, subst, ◌∙◌, arith, KeptSlopes}
-use Rattle.std.specs.Prelude.{ℕ}
 use Rattle.crn_endo_check.proofs.WeakCoordinates.{either_at, never_at}
 use Rattle.crn_endo_check.proofs.slopes.Slopes.is_weak.Goals as goal
 
