@@ -1,5 +1,5 @@
 -- The scale of a column: the least common multiple of the reduced denominators of its rows.
-use Rattle.crn_tab.proofs.Prelude.{◌≡◌, ℕ, zero, suc, ◌+◌, ◌*◌, ◌/◌, ◌<◌, ◌≤◌, inl, inr, List, sym, subst, arith, ℤ, unsigned_abs, IsGcd, ◌∣◌, dvd-mul_left, dvd-mul_right, div-mul_cancel, mul-dvd-mul_right, dvd_of_mul-dvd-mul_right, mul_comm, pos_of_dvd_of_pos, one-le-mul, one-dvd, dvd_trans, IsLcm, common, lcm_is, entry, eq_or, row_at, IsScale}
+use Rattle.crn_tab.proofs.Prelude.{◌≡◌, ℕ, zero, suc, ◌+◌, ◌*◌, ◌/◌, ◌<◌, ◌≤◌, inl, inr, List, sym, subst, arith, ℤ, pos, unsigned_abs, IsGcd, ◌∣◌, dvd-mul_left, dvd-mul_right, div-mul_cancel, mul-dvd-mul_right, dvd_of_mul-dvd-mul_right, mul_comm, pos_of_dvd_of_pos, one-le-mul, one-dvd, dvd_trans, IsLcm, common, lcm_is, entry, eq_or, row_at, IsScale, dvd-zero, dvd_refl, IsScaledBy, ap}
 use Rattle.crn_tab.proofs.Signs.{gcd_by}
 
 times : (a l k : ℕ) → l ∣ k → a * l ∣ a * k
@@ -74,3 +74,27 @@ scale_of n c rows (suc i) h =
 -- the scale of more rows is a multiple of that of the first ones
 pub scale_grows : (n c : ℕ) (rows : List ℤ) (i m l k : ℕ) → i ≤ m → IsScale n c rows i l → IsScale n c rows m k → l ∣ k
 scale_grows n c rows i m l k le p q = p.least k (λ j lt. q.whole j (omega arith))
+
+-- if its own entry divides the scale, or the fraction is 0, the scale stays
+pub stays : (num den : ℤ) (l : ℕ) → 1 ≤ unsigned_abs den → unsigned_abs den ∣ l → IsScaledBy num den l l
+stays num den l some h =
+    let a = unsigned_abs num in
+    let d = unsigned_abs den in
+    let r = gcd_by d a d (omega arith) in
+    let g = r.0 in
+    let q = d / g in
+    let e : q * g ≡ d = div-mul_cancel g r.1.1 in
+    let D : ℕ → Type 0 = λ k. q ∣ k in
+    record { g = g; gcd = r.1; q = q; reduced = e; is = (dvd_refl l, dvd_trans q (subst D e (dvd-mul_right q g)) h, λ x m n. m) }
+
+pub stays_zero : (num den : ℤ) (l : ℕ) → num ≡ pos 0 → IsScaledBy num den l l
+stays_zero num den l e =
+    let d = unsigned_abs den in
+    let zero_abs : unsigned_abs num ≡ 0 = ap unsigned_abs e in
+    record {
+      g = d;
+      gcd = (subst (λ n. d ∣ n) (sym zero_abs) (dvd-zero d), dvd_refl d, λ k p q. q);
+      q = 1;
+      reduced = omega (arith);
+      is = (dvd_refl l, one-dvd l, λ x m n. m);
+    }

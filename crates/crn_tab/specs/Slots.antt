@@ -60,7 +60,7 @@ pub record IsTableau (a : Mat) (at order : List ℕ) (rows : List ℤ) : Type 0 
   pub each : (i : ℕ) → i < length a.rows → IsRowAt a at i (row_at (a.cols + 1) rows i)
   pub small : AreSmall rows
 
--- the rows make a tableau, and an exchange has lists as long as they
+-- the rows make a tableau, and the lists that an exchange works in are as long as a row
 pub record IsWhole (a : Mat) (at order : List ℕ) (rows : List ℤ) (scratch : ℕ) : Type 0 where
   pub tableau : IsTableau a at order rows
   pub scratch_fits : scratch ≡ a.cols + 1

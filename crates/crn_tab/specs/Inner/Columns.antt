@@ -1,7 +1,8 @@
 -- For the contracts of private functions alone. The vector (x, Ax) that a basis names by a coordinate in it, from the rows of a tableau.
 -- Its entry at the coordinate of row i is minus the row's entry at the slot, times a scale, over the row's own entry.
-use Rattle.std.specs.Int.{◌∣◌}
-use Rattle.std.specs.Prelude.{List, int_div, map, nat_eq, nat_lt, neg_ℤ, pos, unsigned_abs, ℕ, ℤ, ◌*ℤ◌, ◌*◌, ◌+◌, ◌-◌, ◌<◌, ◌≤◌}
+use Rattle.std.specs.Int.{IsGcd, ◌∣◌}
+use Rattle.std.specs.Prelude.{List, int_div, map, nat_eq, nat_lt, neg_ℤ, pos, unsigned_abs, ℕ, ℤ, ◌*ℤ◌, ◌*◌, ◌+◌, ◌-◌, ◌<◌, ◌≡◌, ◌≤◌}
+use Rattle.crn_frac.specs.Multiple.{IsLcm}
 use Rattle.crn_tab.specs.Slots.{row_at}
 use Rattle.crn_tab.specs.Tableau.{choose}
 use Rattle.crn_vec.specs.Vectors.{entry}
@@ -24,6 +25,14 @@ pub record HasWideScale (n c m : ℕ) (rows : List ℤ) : Type 0 where
   pub l : ℕ
   pub is : IsScale n c rows i l
   pub wide : WIDE_ENTRY ≤ l
+
+-- k is the least common multiple of l and of the denominator of a fraction, reduced
+pub record IsScaledBy (num den : ℤ) (l k : ℕ) : Type 0 where
+  pub g : ℕ
+  pub gcd : IsGcd (unsigned_abs num) (unsigned_abs den) g
+  pub q : ℕ
+  pub reduced : q * g ≡ unsigned_abs den
+  pub is : IsLcm l q k
 
 -- the entry at slot s
 abbrev pub column_entry : ℕ → ℕ → List ℤ → ℕ → ℕ → ℤ

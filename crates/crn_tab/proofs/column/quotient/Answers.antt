@@ -1,5 +1,5 @@
-use Rattle.crn_tab.proofs.Prelude.{◌≡◌, ◌*◌, ◌^◌, ◌<◌, ℕ, refl, ◌∙◌, arith, to_z, of_z, ℤ, pos, ◌-ℤ◌, ◌*ℤ◌, neg_ℤ, FitsSigned, unsigned_abs, w64, w128, ints, to_z-of_z, fits_signed_from_abs, unsigned_abs-mul, WIDE_ENTRY, minus, abs_minus}
-use Rattle.crn_tab.proofs.Cross.{widened, product_small}
+use Rattle.crn_tab.proofs.Prelude.{◌≡◌, ◌*◌, ◌^◌, ◌<◌, ℕ, refl, ◌∙◌, arith, to_z, of_z, ℤ, pos, ◌-ℤ◌, ◌*ℤ◌, neg_ℤ, FitsSigned, unsigned_abs, w64, w128, ints, to_z-of_z, fits_signed_from_abs, unsigned_abs-mul, WIDE_ENTRY, minus, abs_minus, neg-mul, ap, rules, ◌≤◌}
+use Rattle.crn_tab.proofs.Cross.{read, widened, narrowed, product_small}
 use Rattle.crn_tab.proofs.column.quotient.Goals as goal
 
 large : (l : ℕ) → l < WIDE_ENTRY → to_z w128 l ≡ pos l
@@ -23,13 +23,34 @@ formed num den l hn hd hl =
       size = abs_minus p ∙ unsigned_abs-mul num (pos l);
     }
 
-pub exact_quotient-requires-clause-divides : goal.exact_quotient-requires-clause-divides
-exact_quotient-requires-clause-divides c =
+pub exact_quotient-x-requires-clause-divides : goal.exact_quotient-x-requires-clause-divides
+exact_quotient-x-requires-clause-divides c =
     let h = formed c.args.num.now c.args.den.now c.args.l.now c.requires.num_small c.requires.den_small c.requires.l_small in
     rw (h.own, h.product, h.size) c.requires.divides
 
-pub returns : goal.returns
-returns c =
+pub returns-then-is_small : goal.returns-then-is_small
+returns-then-is_small c =
     let h = formed c.args.num.now c.args.den.now c.args.l.now c.requires.num_small c.requires.den_small c.requires.l_small in
-    let e = rw (h.own, h.product) at c.exact_quotient.ensures in
-    rw (to_z-of_z w128 c.exact_quotient.result (record { sfits = c.exact_quotient.type_inv })) e
+    let x = c.exact_quotient-x.result in
+    let small : unsigned_abs x < WIDE_ENTRY = search rules in
+    let e = rw (h.own, h.product) at c.exact_quotient-x.ensures in
+    rw (narrowed x small) (e, small)
+
+pub returns-else-is_small : goal.returns-else-is_small
+returns-else-is_small c =
+    let h = formed c.args.num.now c.args.den.now c.args.l.now c.requires.num_small c.requires.den_small c.requires.l_small in
+    let x = c.exact_quotient-x.result in
+    let wide : WIDE_ENTRY ≤ unsigned_abs x = search rules in
+    let e = rw (h.own, h.product) at c.exact_quotient-x.ensures in
+    (x, e, wide)
+
+-- where the row's own entry is l
+pub returns-then-den-l : goal.returns-then-den-l
+returns-then-den-l c =
+    let num = c.args.num.now in
+    let den = c.args.den.now in
+    let l = c.args.l.now in
+    let same : den ≡ pos l = omega (arith, ints, c.if-den-l.true, c.requires.den_small, c.requires.den_some) in
+    let n_is : to_z w64 (of_z w64 num) ≡ num = read num c.requires.num_small in
+    let fits : unsigned_abs (neg_ℤ num) < WIDE_ENTRY = omega (arith, ints, c.requires.num_small) in
+    rw (n_is, minus num, read (neg_ℤ num) fits) (ap (λ (t : ℤ). neg_ℤ num *ℤ t) same ∙ neg-mul num (pos l), fits)
