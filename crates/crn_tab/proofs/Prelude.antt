@@ -29,9 +29,9 @@ pub use Rattle.std.proofs.lemmas.Bool.{false≢true}
 pub use Rattle.std.proofs.lemmas.Bool.Decides.{nat_tests}
 pub use Rattle.std.proofs.lemmas.Grind.{common_steps}
 pub use Rattle.std.proofs.lemmas.Int.{fits_signed_from_abs, fits_signed_mul, int_wrap_fits, ints, quot_fits, quot_is, to_z-of_z, unsigned_abs-mul, wrapping_mul_is}
-pub use Rattle.std.proofs.lemmas.List.{append-nil, ext_get_or, get_or-append-add, get_or-drop, get_or-replicate, get_or-set_other, get_or-set_same, get_or-take, get_or_append_left, length-append, length-drop, length-replicate, length-take, length-take-le, map-append}
+pub use Rattle.std.proofs.lemmas.List.{append-nil, ext_get_or, get_or-append-add, get_or-drop, get_or-set_other, get_or-set_same, get_or-take, get_or_append_left, length-append, length-drop, length-take, length-take-le, map-append}
 pub use Rattle.std.proofs.lemmas.List.FromFn.{get_or-range_with_len, length-range_with_len}
 pub use Rattle.std.proofs.lemmas.Nat.Gcd.{IsGcd-from_mod, IsGcd-from_zero, IsGcd-swap, dvd-zero, dvd_antisymm, dvd_refl, dvd_trans, le_of_dvd}
 pub use Rattle.std.specs.Int.{IsGcd, w128, w32, w64, ◌∣◌}
 pub use Rattle.std.specs.List.{SwappedAt, range_with_len}
-pub use Rattle.std.specs.Prelude.{FitsSigned, IsTrue, int_div, int_lt, neg_ℤ, negsuc, pos, replicate, slice_index, slice_index_or, slice_set, unsigned_abs, ℤ, ◌*ℤ◌, ◌+ℤ◌, ◌-ℤ◌, ◌↔◌, ◌≤ℤ◌}
+pub use Rattle.std.specs.Prelude.{FitsSigned, IsTrue, int_div, int_lt, neg_ℤ, negsuc, pos, slice_index, slice_index_or, slice_set, unsigned_abs, ℤ, ◌*ℤ◌, ◌+ℤ◌, ◌-ℤ◌, ◌↔◌, ◌≤ℤ◌}

@@ -75,8 +75,8 @@ scale_of n c rows (suc i) h =
 pub scale_grows : (n c : ℕ) (rows : List ℤ) (i m l k : ℕ) → i ≤ m → IsScale n c rows i l → IsScale n c rows m k → l ∣ k
 scale_grows n c rows i m l k le p q = p.least k (λ j lt. q.whole j (omega arith))
 
--- if its own entry divides the scale, or the fraction is 0, the scale stays
-pub stays : (num den : ℤ) (l : ℕ) → 1 ≤ unsigned_abs den → unsigned_abs den ∣ l → IsScaledBy num den l l
+-- if the fraction times the scale is whole, or 0, the scale stays
+pub stays : (num den : ℤ) (l : ℕ) → 1 ≤ unsigned_abs den → unsigned_abs den ∣ unsigned_abs num * l → IsScaledBy num den l l
 stays num den l some h =
     let a = unsigned_abs num in
     let d = unsigned_abs den in
@@ -84,8 +84,7 @@ stays num den l some h =
     let g = r.0 in
     let q = d / g in
     let e : q * g ≡ d = div-mul_cancel g r.1.1 in
-    let D : ℕ → Type 0 = λ k. q ∣ k in
-    record { g = g; gcd = r.1; q = q; reduced = e; is = (dvd_refl l, dvd_trans q (subst D e (dvd-mul_right q g)) h, λ x m n. m) }
+    record { g = g; gcd = r.1; q = q; reduced = e; is = (dvd_refl l, whole_only a d q g l r.1 e (pos_of_dvd_of_pos r.1.1 some) h, λ x m n. m) }
 
 pub stays_zero : (num den : ℤ) (l : ℕ) → num ≡ pos 0 → IsScaledBy num den l l
 stays_zero num den l e =

@@ -1,5 +1,6 @@
-use Rattle.crn_tab.proofs.Prelude.{◌≡◌, ◌*◌, ◌^◌, ◌<◌, ℕ, refl, ◌∙◌, arith, to_z, of_z, ℤ, pos, ◌-ℤ◌, ◌*ℤ◌, neg_ℤ, FitsSigned, unsigned_abs, w64, w128, ints, to_z-of_z, fits_signed_from_abs, unsigned_abs-mul, WIDE_ENTRY, minus, abs_minus, neg-mul, ap, rules, ◌≤◌}
+use Rattle.crn_tab.proofs.Prelude.{◌≡◌, ◌*◌, ◌^◌, ◌<◌, ℕ, refl, ◌∙◌, arith, to_z, of_z, ℤ, pos, ◌-ℤ◌, ◌*ℤ◌, neg_ℤ, FitsSigned, unsigned_abs, w64, w128, ints, to_z-of_z, fits_signed_from_abs, unsigned_abs-mul, WIDE_ENTRY, minus, abs_minus, neg-mul, ap, sym, rules, ◌≤◌}
 use Rattle.crn_tab.proofs.Cross.{read, widened, narrowed, product_small}
+use Rattle.crn_tab.proofs.ColumnList.{nothing}
 use Rattle.crn_tab.proofs.column.quotient.Goals as goal
 
 large : (l : ℕ) → l < WIDE_ENTRY → to_z w128 l ≡ pos l
@@ -54,3 +55,8 @@ returns-then-den-l c =
     let n_is : to_z w64 (of_z w64 num) ≡ num = read num c.requires.num_small in
     let fits : unsigned_abs (neg_ℤ num) < WIDE_ENTRY = omega (arith, ints, c.requires.num_small) in
     rw (n_is, minus num, read (neg_ℤ num) fits) (ap (λ (t : ℤ). neg_ℤ num *ℤ t) same ∙ neg-mul num (pos l), fits)
+
+pub returns-then-num-eq0 : goal.returns-then-num-eq0
+returns-then-num-eq0 c =
+    let zero : c.args.num.now ≡ pos 0 = sym (read c.args.num.now c.requires.num_small) ∙ ap (to_z w64) c.if-num-eq0.true in
+    (nothing c.args.num.now c.args.den.now c.args.l.now zero, omega arith)
