@@ -4,6 +4,7 @@ mod Stays
 mod PartRanks
 mod Combs
 mod Outside
+mod Rows
 mod Rooted
 mod Judged
 mod Finest

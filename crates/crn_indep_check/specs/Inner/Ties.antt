@@ -1,17 +1,17 @@
 -- For the contracts of private functions alone.
--- Places in a base, and reactions with the label of whatever they draw on.
+-- Places in a base or rows, and reactions with the label of whatever they draw on.
 -- Shapes: reactions count from 1, places from 0.
-use Rattle.std.specs.Prelude.{◌≡◌, ◌≤◌, ◌<◌, ℕ, List, length, slice_index, Option, Some, None}
-use Rattle.crn_vec.specs.Lists.{IsIn}
+use Rattle.std.specs.Prelude.{◌≡◌, ◌≤◌, ◌<◌, ℕ, List, length, slice_index, Some, Result, Ok, Err}
 use Rattle.crn_vec.specs.Network.{Net}
 use Rattle.crn_cert.specs.declared.answer.RankProof.{RankProof}
 use Rattle.crn_indep_check.specs.Finest.{label_of}
-use Rattle.crn_indep_check.specs.Shown.{DrawsOn}
+use Rattle.crn_indep_check.specs.Shown.{DrawsOn, GivesRow}
 
--- a place of the number in the list, or it is not there
-abbrev pub GivesPlace : List ℕ → ℕ → Option ℕ → Type 0
-GivesPlace xs q (Some i) = (i < length xs) × (slice_index xs i ≡ q)
-GivesPlace xs q None = IsIn q xs → ⊥
+-- the place of reaction r in the base, or the row of its combination
+abbrev pub IsPlaceOrRow : Net → RankProof → ℕ → Result ℕ ℕ → Type 0
+IsPlaceOrRow net proof r (Ok place) =
+    (place < length proof.base.list) × (slice_index proof.base.list place ≡ r)
+IsPlaceOrRow net proof r (Err row) = GivesRow net proof r (Some row)
 
 -- whatever reaction r draws on has its label
 abbrev pub IsEvenAt : Net → RankProof → List ℕ → ℕ → Type 0
