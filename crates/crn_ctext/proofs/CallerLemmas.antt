@@ -73,12 +73,11 @@ pub use Rattle.crn_ctext.proofs.PartRecords.{only, bare_back, one_back, bits_bac
 pub use Rattle.crn_ctext.proofs.PartAnswers.{IsFirst, first_back, Say, one_said, none_said, line_on, given, test_back, test_on, either_no_end}
 -- Blocks of version 1 without trees, within the lines of a part.
 pub use Rattle.crn_ctext.proofs.PartBlocks.{AreTreeless, blocks_read, blocks_written, answers_learned, answers_few}
-pub use Rattle.crn_ctext.proofs.DocumentsShort.{built_few}
 pub use Rattle.crn_ctext.proofs.BlocksWritten.{all_of, blocks_no_end}
 pub use Rattle.crn_ctext.proofs.Settled.{blocks_settled}
 pub use Rattle.crn_ctext.proofs.MeaningDecided.{OfNetwork, meaning_decided}
 pub use Rattle.crn_ctext.proofs.ShortAnswers.{valid_are_formed}
-pub use Rattle.crn_ctext.proofs.MeaningShort.{IsSmall, networks_are_small, meaning_short}
+pub use Rattle.crn_ctext.proofs.MeaningShort.{IsSmall, networks_are_small, meaning_short, built_few}
 pub use Rattle.crn_ctext.proofs.RanksDecided.{left_decided}
 pub use Rattle.crn_ctext.proofs.ReachDecided.{terminal_decided}
 pub use Rattle.crn_ctext.proofs.Decided.{lt_decided}

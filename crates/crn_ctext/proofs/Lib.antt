@@ -43,6 +43,7 @@ mod BlocksRead
 mod PartBlocks
 mod Bounded
 mod ShortAnswers
+mod FieldBounds
 mod NetworkLines
 mod DocumentTexts
 mod DocumentsRead

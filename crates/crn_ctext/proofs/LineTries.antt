@@ -35,7 +35,7 @@ after_one (x ∷ first) s t e = after_one first s t cc
 
 -- ---- how many numbers
 
-takes_few : (field : Field) (zs : List ℤ) → Takes field zs → length zs ≤ field_most field
+pub takes_few : (field : Field) (zs : List ℤ) → Takes field zs → length zs ≤ field_most field
 takes_few (Small count least greatest) zs t = omega (arith, t.0)
 takes_few (Several fewest most least greatest) zs t = t.1
 takes_few (Free count) zs t = omega (arith, t)

@@ -4,8 +4,7 @@ use Rattle.crn_cert.specs.Formed.{AreFormed}
 use Rattle.crn_ctext.specs.Documents as documents
 use Rattle.crn_ctext.proofs.Shared.{IsWrittenFor, IsTextFor, all_texts, said_for}
 use Rattle.crn_ctext.proofs.AnswersApart.{zip_long}
-use Rattle.crn_ctext.proofs.DocumentsShort.{IsFew, most}
-use Rattle.crn_ctext.proofs.MeaningShort.{IsSmall}
+use Rattle.crn_ctext.proofs.MeaningShort.{IsSmall, IsFew, most}
 use Rattle.crn_ctext.proofs.ShortAnswers.{AllPlain, IsShortFor, plain_are_short, valid_are_formed}
 use Rattle.crn_ctext.proofs.DocumentTexts.{parted_first, parted_plain, written_alone}
 use Rattle.crn_ctext.proofs.BlocksWritten.{ArePrefixesOf, all_of, parted, blocks_are_written}

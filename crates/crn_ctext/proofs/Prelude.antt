@@ -55,12 +55,12 @@ pub use Rattle.crn_ctext.specs.Inner.Written.{Gathered, Gathers, block, blocks, 
 pub use Rattle.crn_ctext.specs.Judged.{AreFormedOf, GoodDocumentsAreOne, IsGood, IsPrefixOf, IsReadOf, LeavesOpen, ReadDocumentsAreGood}
 pub use Rattle.crn_ctext.specs.Kinds.{end_form, free_form, just, known_words, node_forms, record_form, row_words, section_form, small, small_form, table_form, tree_words, vector_form}
 pub use Rattle.crn_ctext.specs.Linked.{AnswersAreOne, AreSound, ReadDocumentsAreTrue, SharedAnswersAreOne, SharedDocumentsAreGood, SharesFit, WrittenDocumentsAreGood, records_of}
-pub use Rattle.crn_ctext.specs.Meaning.{Known, complexes_by_class, has_vector, is_yes, learn_of, lengths, lists, meaning, nums, pairs_of, problem_over, problem_with, problems_by, ranks_of, reactions_by_class, class_proofs as said_classes, number as said_number, proof_of as said_proof, rank_proof as said_rank, sizes_of as said_sizes, verdict_of as said_verdict, shapes_of, signal_problem, signal_problems, sizes_of, table_problem, turn_of, verdict_by, verdict_of, verdicts_said, versions, wide_gap}
+pub use Rattle.crn_ctext.specs.Meaning.{Known, has_vector, is_yes, learn_of, lengths, lists, meaning, nums, pairs_of, problem_over, problem_with, problems_by, ranks_of, class_proofs as said_classes, proof_of as said_proof, rank_proof as said_rank, sizes_of as said_sizes, verdict_of as said_verdict, shapes_of, signal_problem, signal_problems, sizes_of, table_problem, turn_of, verdict_by, verdict_of, verdicts_said, versions, wide_gap}
 pub use Rattle.crn_ctext.specs.PartBlocks.{HoldsNoSides, learned, verdicts_on}
 pub use Rattle.crn_ctext.specs.PartLines.{AreChoices, IsChoice, IsPartReadAs, IsPartRefusedBy, IsRun, field_of, form_in, forms_in, texts_of}
 pub use Rattle.crn_ctext.specs.Parts.{AreJudged, IsPartDocument, IsPartRead, Meant, Part, asks_part, part_course, part_document, part_ending, part_head, part_opening, part_title}
 unfoldable pub use Rattle.crn_ctext.specs.Parts.{asks_parts}
-pub use Rattle.crn_ctext.specs.Questions.{Shapes, class_forms, class_rank, first_number, forms_at, forms_from, head_word, heads, if_may, kind_at, kinds, rows as landed_rows, later_numbers, open_kinds, opens, rank_forms, rows, side_form, ways, ways_of, wide_numbers, words}
+pub use Rattle.crn_ctext.specs.Questions.{Shapes, class_forms, class_rank, first_number, forms_at, forms_from, head_word, heads, if_may, kind_at, kinds, rows as landed_rows, later_numbers, opens, rank_forms, rows, side_form, ways, ways_of, wide_numbers, words}
 pub use Rattle.crn_ctext.specs.Records.{AreBetween, AreNarrow, AreOf, AreRising, BeginsWith, ClassWide, CountAndPart, Field, Fits, Form, Free, IsNarrow, IsNatural, IsShaped, IsSpelled, IsWord, Members, Record, Rising, Says, Several, Small, Takes, Turn, TwoOf, field_most, kind_of, line, most_of, number_text, numbers_text, record_text}
 pub use Rattle.crn_ctext.specs.Same.{AreSame}
 pub use Rattle.crn_ctext.specs.Shares.{as_share}
@@ -89,7 +89,7 @@ pub use Rattle.crn_shape.specs.Pairs.{is_pair, pairs_to}
 pub use Rattle.crn_text.proofs.CallerLemmas.{digit_is, good_terms, held, held_length, judged, line_text, no_fault, no_lf, side_held, side_length, side_text, spelling_unique, spells_its_network, value_grows}
 pub use Rattle.crn_text.specs.Canonical.{canonical, complex_text, reaction_line}
 pub use Rattle.crn_text.specs.Spells.{Spells}
-pub use Rattle.crn_vec.proofs.CallerLemmas.{above_ascending, above_in, abs_back, abs_some, all_append, all_at, all_from, all_in, all_range, and_cases, any_true, ascending_tail, at_in, before_one, below_or, cut_long, dot_zero, entry-listed, eq_or, filter_ascending, filter_few, filter_from, filter_has, free_back, head_is, in_left, in_map, in_push, in_range, in_right, inside_at, is_between, leads_back, leads_here, leads_keeps, length-listed, listed, zip_long as lists_long, map_in, none_some, not_true, past_end, positive_some, range_ascending, reached_marks, reaction_in, refused, shapes_are_one, some_is, some_species, strong_back, strong_here, strong_then, sums_one, tail_is, terminal_on, top_inside, weights_decide_cuts, zip_append}
+pub use Rattle.crn_vec.proofs.CallerLemmas.{above_ascending, above_in, abs_back, abs_some, all_append, all_at, all_from, all_in, and_cases, any_true, ascending_tail, at_in, before_one, below_or, cut_long, dot_zero, entry-listed, eq_or, filter_ascending, filter_few, filter_from, filter_has, free_back, head_is, in_left, in_map, in_push, in_range, in_right, inside_at, is_between, leads_back, leads_here, leads_keeps, length-listed, listed, zip_long as lists_long, map_in, none_some, not_true, past_end, positive_some, range_ascending, reached_marks, reaction_in, refused, shapes_are_one, some_is, some_species, strong_back, strong_here, strong_then, sums_one, tail_is, terminal_on, top_inside, weights_decide_cuts, zip_append}
 pub use Rattle.crn_vec.specs.Concordance.{GoesWith, HasNegative, HasPositive, IsDiscordant, IsNought, image, shares, sign}
 pub use Rattle.crn_vec.specs.Confluence.{IsNonzero, LeadsPositive}
 pub use Rattle.crn_vec.specs.CutPairs.{ArePairs, IsBetween, IsCutPair, IsFirstOfPair, IsFreeStep, IsOnSide, IsTerminalPair}
@@ -116,7 +116,6 @@ pub use Rattle.crn_vec.specs.declared.signs.Sign.{Sign}
 pub use Rattle.crn_vec.specs.declared.signs.Sign.TheVariants.{Minus, Plus, Zero}
 pub use Rattle.std.proofs.Common.{Bool, Err, List, Ok, Result, [], add-one, ap, append_assoc, ap₂, arith, cond, drop, eqb, false, get_or, if◌then◌else◌, inl, inr, length, lit≤, map, min, of_z, refl, rules, set, slice_get, subst, suc, sym, take, take_all, to_z, true, zero, ℕ, ◌%◌, ◌&&◌, ◌*◌, ◌++◌, ◌+◌, ◌-◌, ◌/◌, ◌<◌, ◌==◌, ◌^◌, ◌||◌, ◌↔◌, ◌∙◌, ◌∷◌, ◌≡◌, ◌≤◌, ◌⊎◌}
 pub use Rattle.std.proofs.Math.Dec.{eqb-suc-zero}
-pub use Rattle.std.proofs.Math.Nat.{min-le_right}
 pub use Rattle.std.proofs.lemmas.Bool.{cases_Bool, cases_lt, eqb-true, le-ltb, lt-ltb}
 pub use Rattle.std.proofs.lemmas.Bool.Decides.{eqb_tells, nat_tests}
 pub use Rattle.std.proofs.lemmas.Fmt.{decimal_by_steps_wide, decimal_digit, decimal_injective, decimal_is_IsNumeral_wide, decimal_step, decimal_step_wide, length-decimal-le_wide}
@@ -140,6 +139,6 @@ pub use Rattle.std.specs.Int.{from_le_bytes, to_le_bytes, w128, w64, ◌∣◌}
 pub use Rattle.std.specs.List.{All, AllByRecursion, AllZip, filter, flat_map, join_with_byte, list_all, list_any, range_with_len, slice_split}
 pub use Rattle.std.specs.Option.{IsSome, IsSomeAnd}
 pub use Rattle.std.specs.Ordering.{int_eq}
-pub use Rattle.std.specs.Prelude.{IsTrue, None, Option, Some, codes, decimal, nat_abs, nat_le, nat_lt, neg_ℤ, negsuc, not, pos, replicate, slice_index, slice_index_or, sum, unsigned_abs, ℤ, ◌*ℤ◌, ◌-ℤ◌, ◌<ℤ◌, ◌≢◌, ◌≤ℤ◌}
+pub use Rattle.std.specs.Prelude.{IsTrue, None, Option, Some, codes, decimal, nat_le, nat_lt, neg_ℤ, negsuc, not, pos, replicate, slice_index, slice_index_or, sum, unsigned_abs, ℤ, ◌*ℤ◌, ◌-ℤ◌, ◌<ℤ◌, ◌≢◌, ◌≤ℤ◌}
 pub use Rattle.std.specs.Str.{bytes_eq}
 pub use Rattle.std.specs.Str.Parse.{AllDigits, digits_value, digits_value_after}
