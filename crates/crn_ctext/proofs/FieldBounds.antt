@@ -1,8 +1,10 @@
 -- The most numbers of a field of the table of blocks and the greatest of them, and so the bound of a head and of the records below it.
-use Rattle.crn_ctext.proofs.Prelude.{◌≡◌, ◌≤◌, ◌<◌, ◌+◌, ◌^◌, ◌⊎◌, ℕ, true, List, [], ◌∷◌, length, map, sym, refl, subst, inl, inr, arith, ℤ, pos, AllByRecursion, AllZip, flat_map, range_with_len, length-append, length-map, IsIn, in_range, map_in, IsFrom, IsShelf, IsTurn, IsBasisOf, Datum, Num, Int, Nums, Ints, Marks, Led, Basis, OneAnd, Walk, FreeSeveral, Shelves, Side, WideOf, Row, FitsRow, Question, Q1, HeadKind, Yes, words, head_word}
-use Rattle.crn_cert.specs.Data.{Field, Fits, One, CountAndPart, TwoOf, Several, Members, Free, Turn, Wide, ClassWide, Two}
+use Rattle.crn_ctext.proofs.Prelude.{◌≡◌, ◌≤◌, ◌<◌, ◌+◌, ◌^◌, ℕ, Bool, true, false, List, [], ◌∷◌, length, map, refl, inl, inr, arith, pos, AllByRecursion, AllZip, flat_map, range_with_len, length-append, length-map, length-range_with_len, all_from, all_in, IsIn, Datum, OneAnd, Walk, FreeSeveral, Shelves, Side, WideOf, Row, FitsRow, Question, Q1, HeadKind, Yes, words, head_word, ways, if_may, wide_numbers, most_of}
+use Rattle.crn_cert.specs.Data.{Field, Fits, One, CountAndPart, TwoOf, Several, Members, Free, Turn, Wide, ClassWide}
+use Rattle.crn_ctext.specs.Records as records
 use Rattle.crn_ctext.proofs.Forms.{numbers_of, head_record, row_records}
-use Rattle.crn_ctext.proofs.Bounded.{IsSlim, AreSlim, IsPlain, word_fits, words_fit, all_narrow, short_append}
+use Rattle.crn_ctext.proofs.FieldsSaid.{field_said}
+use Rattle.crn_ctext.proofs.Bounded.{IsSlim, AreSlim, IsBoundedField, IsPlain, word_fits, words_fit, fields_width, fields_short as fields_slim, short_append}
 use Rattle.crn_ctext.proofs.ShortAnswers.{AllPlain}
 
 -- the most numbers of a field
@@ -30,11 +32,11 @@ total (x ∷ xs) = x + total xs
 
 -- no number of a field is greater, but for free ones
 abbrev pub highest : Field → ℕ
-highest (One least greatest) = greatest
+highest (One least greatest) = least + greatest
 highest (CountAndPart greatest) = greatest
 highest (TwoOf greatest) = greatest
-highest (Several count least greatest) = greatest
-highest (OneAnd count least greatest) = greatest
+highest (Several count least greatest) = least + greatest
+highest (OneAnd count least greatest) = least + greatest
 highest (Walk greatest) = greatest
 highest (Members count members) = total members
 highest Free = 0
@@ -61,77 +63,50 @@ AreLight fs = (widest_of fs ≤ 400) × (highest_of fs < 10 ^ 22)
 
 -- ---- the numbers of a field
 
-naturals_slim : (least greatest : ℕ) (xs : List ℕ) → greatest < 10 ^ 22 → AllByRecursion (IsFrom least greatest) xs → AreSlim (map pos xs)
-naturals_slim least greatest [] lt a = tt
-naturals_slim least greatest (x ∷ xs) lt a = (omega (arith, lt, a.0.1), naturals_slim least greatest xs lt a.1)
-
-slim_by : (P : ℤ → Type 0) → ((z : ℤ) → P z → IsSlim z) → (zs : List ℤ) → AllByRecursion P zs → AreSlim zs
-slim_by P s [] a = tt
-slim_by P s (z ∷ zs) a = (s z a.0, slim_by P s zs a.1)
-
-turn_slim : (z : ℤ) → IsTurn z → IsSlim z
-turn_slim z (inl e) = subst IsSlim (sym e) (omega arith)
-turn_slim z (inr e) = subst IsSlim (sym e) (omega arith)
-
-shelf_slim : (z : ℤ) → IsShelf z → IsSlim z
-shelf_slim z (inl e) = subst IsSlim (sym e) (omega arith)
-shelf_slim z (inr (inl e)) = subst IsSlim (sym e) (omega arith)
-shelf_slim z (inr (inr e)) = subst IsSlim (sym e) (omega arith)
-
-bit_slim : (z : ℤ) → (z ≡ pos 0) ⊎ (z ≡ pos 1) → IsSlim z
-bit_slim z (inl e) = subst IsSlim (sym e) (omega arith)
-bit_slim z (inr e) = subst IsSlim (sym e) (omega arith)
-
--- no member of a list is greater than all of them together
 pub in_total : (xs : List ℕ) (x : ℕ) → IsIn x xs → x ≤ total xs
 in_total [] x i = absurd i
 in_total (y ∷ xs) x (inl e) = omega (arith, e)
 in_total (y ∷ xs) x (inr i) = omega (arith, in_total xs x i)
 
-members_slim : (members xs : List ℕ) → total members < 10 ^ 22 → ((r : ℕ) → IsIn r xs → IsIn r members) → AreSlim (map pos xs)
-members_slim members [] lt i = tt
-members_slim members (x ∷ xs) lt i = (omega (arith, lt, in_total members x (i x (inl refl))), members_slim members xs lt (λ r j. i r (inr j)))
+-- a way in which its numbers are ranged has no more of them than this, with short bounds
+abbrev IsLightWay : ℕ → List records.Field → Type 0
+IsLightWay n way = AllByRecursion IsBoundedField way × (most_of way ≤ n)
+
+wide_light : (s columns rows n : ℕ) → s + columns + rows < 10 ^ 22 → 3 + columns ≤ n → IsLightWay n (wide_numbers s columns rows)
+wide_light s columns rows n lt le = (((omega arith, omega arith), ((omega arith, omega arith), ((omega arith, omega arith), (omega arith, tt)))), omega arith)
+
+if_light : (n : ℕ) (may : Bool) (way : List records.Field) → IsLightWay n way → AllByRecursion (IsLightWay n) (if_may may way)
+if_light n true way light = (light, tt)
+if_light n false way light = tt
+
+ways_light : (f : Field) → highest f < 10 ^ 22 → AllByRecursion (IsLightWay (widest f)) (ways f)
+ways_light (One least greatest) lt = ((((omega arith, omega arith), tt), omega arith), tt)
+ways_light (CountAndPart greatest) lt = (((omega arith, tt), omega arith), tt)
+ways_light (TwoOf greatest) lt = (((omega arith, tt), omega arith), tt)
+ways_light (Several count least greatest) lt = ((((omega arith, omega arith), tt), omega arith), tt)
+ways_light (OneAnd count least greatest) lt = ((((omega arith, omega arith), tt), omega arith), tt)
+ways_light (Walk greatest) lt = ((((omega arith, omega arith), tt), omega arith), tt)
+ways_light (Members count members) lt = (((all_from (λ n. IsSlim (pos n)) members (λ n i. omega (arith, lt, in_total members n i)), tt), omega arith), tt)
+ways_light Free lt = (((tt, tt), omega arith), tt)
+ways_light (FreeSeveral count) lt = (((tt, tt), omega arith), tt)
+ways_light Turn lt = (((tt, tt), omega arith), tt)
+ways_light (Shelves count) lt = ((((omega arith, omega arith), tt), omega arith), tt)
+ways_light (Side reaction count) lt = ((((omega arith, omega arith), ((omega arith, omega arith), tt)), omega arith), tt)
+ways_light (Wide s columns rows) lt = (wide_light s columns rows (3 + columns) (omega arith) (omega arith), tt)
+ways_light (WideOf s columns rows may t more_columns more_rows) lt =
+    let n = 3 + columns + more_columns in
+    (wide_light s columns rows n (omega arith) (omega arith), if_light n may (wide_numbers t more_columns more_rows) (wide_light t more_columns more_rows n (omega arith) (omega arith)))
+ways_light (ClassWide s columns classes rows) lt =
+    let sizes = map rows (range_with_len 1 classes) in
+    let each = all_from (λ r. IsSlim (pos (columns + r))) sizes (λ r i. omega (arith, lt, in_total sizes r i)) in
+    ((((omega arith, omega arith), ((each, omega (arith, lt, length-map (range_with_len 1 classes) rows, length-range_with_len 1 classes)), tt)), omega arith), tt)
 
 -- the numbers are no more than the field has, and short
-abbrev AreShortOf : Field → Datum → Type 0
-AreShortOf f d = (length (numbers_of d) ≤ widest f) × AreSlim (numbers_of d)
-
-basis_short : (columns rows system class index : ℕ) (basis : List ℕ) → system < 10 ^ 22 → class < 10 ^ 22 → columns + rows < 10 ^ 22 → IsBasisOf columns rows index basis → (length (map pos (system ∷ class ∷ index ∷ basis)) ≤ 3 + columns) × AreSlim (map pos (system ∷ class ∷ index ∷ basis))
-basis_short columns rows system class index basis a b c f =
-    let at = f.coordinate in
-    let members = f.members in
-    let long = members.long in
-    let each = members.each in
-    (omega (arith, length-map basis pos, long), (a, (b, (omega (arith, at.1, c), naturals_slim 1 (columns + rows) basis c each))))
-
-field_short : (f : Field) (d : Datum) → Fits f d → highest f < 10 ^ 22 → AreShortOf f d
-field_short (One least greatest) (Num n) f lt = (omega arith, (omega (arith, f.1), tt))
-field_short (CountAndPart greatest) (Two n m) f lt = (omega arith, (omega (arith, f.0.1), (omega (arith, f.0.1, f.1.1), tt)))
-field_short (TwoOf greatest) (Two n m) f lt = (omega arith, (omega (arith, f.0.1), (omega (arith, f.1.1), tt)))
-field_short (Several count least greatest) (Nums xs) f lt = let long = f.long in let each = f.each in (omega (arith, length-map xs pos, long), naturals_slim least greatest xs lt each)
-field_short (OneAnd count least greatest) (Led n xs) f lt = let more = f.1 in let long = more.long in let each = more.each in (omega (arith, length-map xs pos, long), (omega (arith, f.0.1), naturals_slim least greatest xs lt each))
-field_short (Walk greatest) (Nums xs) f lt = let few = f.few in let each = f.each in (omega (arith, length-map xs pos, few), naturals_slim 1 greatest xs lt each)
-field_short (Members count members) (Nums xs) f lt = (omega (arith, length-map xs pos, f.0), members_slim members xs lt f.2)
-field_short Free (Int z) f lt = (omega arith, all_narrow (z ∷ []) (f, tt))
-field_short (FreeSeveral count) (Ints zs) f lt = let long = f.long in let each = f.each in (omega (arith, long), all_narrow zs each)
-field_short Turn (Int z) f lt = (omega arith, (turn_slim z f, tt))
-field_short (Shelves count) (Ints zs) f lt = let long = f.long in let each = f.each in (omega (arith, long), slim_by IsShelf shelf_slim zs each)
-field_short (Side reaction count) (Marks n zs) f lt =
-    let bits = f.1 in
-    let long = bits.long in
-    let each = bits.each in
-    (omega (arith, long), (omega (arith, f.0), slim_by (λ z. (z ≡ pos 0) ⊎ (z ≡ pos 1)) bit_slim zs each))
-field_short (Wide s columns rows) (Basis system class index basis) f lt = basis_short columns rows system class index basis (omega (arith, f.0)) (omega (arith, f.1)) (omega arith) f.2
-field_short (WideOf s columns rows may t more_columns more_rows) (Basis system class index basis) (inl f) lt =
-    let short = basis_short columns rows system class index basis (omega (arith, f.0)) (omega (arith, f.1)) (omega arith) f.2 in
-    (omega (arith, short.0), short.1)
-field_short (WideOf s columns rows may t more_columns more_rows) (Basis system class index basis) (inr f) lt =
-    let short = basis_short more_columns more_rows system class index basis (omega (arith, f.0)) (omega (arith, f.1)) (omega arith) f.3 in
-    (omega (arith, short.0), short.1)
-field_short (ClassWide s columns classes rows) (Basis system class index basis) f lt =
-    let most = in_total (map rows (range_with_len 1 classes)) (rows class) (map_in rows (range_with_len 1 classes) class (in_range class 1 classes f.1.0 (omega (arith, f.1.1)))) in
-    basis_short columns (rows class) system class index basis (omega (arith, f.0)) (omega (arith, f.1.1)) (omega (arith, most)) f.2
-field_short f d fits lt = absurd fits
+field_short : (f : Field) (d : Datum) → Fits f d → highest f < 10 ^ 22 → (length (numbers_of d) ≤ widest f) × AreSlim (numbers_of d)
+field_short f d fits lt =
+    let said = field_said f d fits in
+    let light = all_in (IsLightWay (widest f)) (ways f) said.0 (ways_light f lt) said.1 in
+    (omega (arith, fields_width said.0 (numbers_of d) said.2, light.1), fields_slim said.0 (numbers_of d) light.0 said.2)
 
 -- ---- the numbers of a line
 
