@@ -16,8 +16,8 @@ pub use Rattle.crn_ctext.proofs.DueSteps.{line_is_due, IsNoLine, line_is_missing
 pub use Rattle.crn_ctext.proofs.TreesWritten.{split_known}
 -- A place counts the same bytes before and after what a course reads.
 pub use Rattle.crn_ctext.proofs.StepsThen.{gives_counts}
--- Steps of a reader one after another, and the text of a whole document.
-pub use Rattle.crn_ctext.proofs.StepsThen.{step_then, step_fails_then, step_fails_before, step_awaits_then, step_awaits_before, step_ends_then, IsWhole, fails_of_a_text, gives_of_a_text}
+-- Steps of a reader one after another.
+pub use Rattle.crn_ctext.proofs.StepsThen.{step_then, step_fails_then, step_fails_before, step_awaits_then, step_awaits_before, step_ends_then}
 -- What is read of a document is its network and its answers, and what these say is true or open.
 pub use Rattle.crn_ctext.proofs.DocumentsGood.{read_is_of}
 pub use Rattle.crn_ctext.proofs.GoodLaws.{good_one, read_true, written_good, shared_good, shares_fit}
@@ -36,7 +36,6 @@ pub use Rattle.crn_ctext.proofs.FewNodes.{document_short, document2_short}
 -- The trees of two sign problems whose leaves have tests that hold together give the same and fail first in the same place, and so do steps by their courses.
 pub use Rattle.crn_ctext.proofs.TreesAlike.{IsLike, HoldTogether, like_itself, like_then, trees_like, step_gives_like, step_fails_like, step_awaits_like}
 -- What records of given forms are, and what a course gives in two parts.
-pub use Rattle.crn_ctext.proofs.FieldsTyped.{zip_none}
 pub use Rattle.crn_ctext.proofs.AnswersApart.{zip_long}
 -- The forms of heads, as they come.
 pub use Rattle.crn_ctext.proofs.Forms.{head, yes, no, no_by, none_by, open_by, wide, wide_signal, rests, spent, last_forms, spent_place, rests_place, given_back}
@@ -56,7 +55,7 @@ pub use Rattle.crn_ctext.proofs.LinesRead.{HaveWords}
 pub use Rattle.crn_ctext.proofs.FormWords.{words_yes, forms_yes, are_words}
 pub use Rattle.crn_ctext.proofs.Courses.{settled_then, fails_with_a_code}
 pub use Rattle.crn_ctext.proofs.Settled.{AllDecided, test_settled, own_settled, give_settled, either_settled}
-pub use Rattle.crn_ctext.proofs.PartsSettled.{asks_part_settled, asks_parts_settled, part_settled}
+pub use Rattle.crn_ctext.proofs.PartsSettled.{asks_part_settled, part_settled}
 -- Lines that are written and read.
 pub use Rattle.crn_ctext.proofs.Image.{HasNoEnd, written_then, written_cuts, no_end_then, give_no_end, part_record_is_written, written_is_part_record, part_no_end, test_no_end}
 pub use Rattle.crn_ctext.proofs.TreesRead.{give_back}

@@ -21,11 +21,6 @@ between_shelves (pos (suc (suc n)) ∷ xs) b = absurd (omega (arith, ints, b.0.1
 between_shelves (negsuc zero ∷ xs) b = (inr (inr refl), between_shelves xs b.1)
 between_shelves (negsuc (suc n) ∷ xs) b = absurd (omega (arith, ints, b.0.0))
 
--- no records fit no forms
-pub zip_none : (rows : List records.Record) → AllZip records.Fits [] rows → rows ≡ []
-zip_none [] z = refl
-zip_none (r ∷ rows) z = absurd z
-
 -- the numbers are as the field of a line says, and free ones are numbers of a certificate
 abbrev pub Holds : records.Field → List ℤ → Type 0
 Holds field zs = Takes field zs × AreNarrow field zs

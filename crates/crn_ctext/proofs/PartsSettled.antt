@@ -1,5 +1,5 @@
 -- The course of a document of a part is settled, if that of the part's own lines is.
-use Rattle.crn_ctext.proofs.Prelude.{false, ◌≡◌, ◌≤◌, ◌+◌, ℕ, List, [], ◌∷◌, Net, IsNetwork, MAX_REACTIONS, Form, end_form, Course, Give, ◌>>=◌, due, find, test, ends, IsSettled, asks_lines, network_line, IsNetworkOf, Part, part_title, part_opening, part_ending, part_course, asks_part, asks_parts, BadHeader, BadNetwork, WrongOrder}
+use Rattle.crn_ctext.proofs.Prelude.{false, ◌≡◌, ◌≤◌, ◌+◌, ℕ, List, [], ◌∷◌, Net, IsNetwork, MAX_REACTIONS, Form, end_form, Course, Give, ◌>>=◌, due, find, test, ends, IsSettled, asks_lines, network_line, IsNetworkOf, Part, part_title, part_opening, part_ending, part_course, asks_part, BadHeader, BadNetwork, WrongOrder}
 use Rattle.crn_ctext.proofs.Decided.{bytes_decided}
 use Rattle.crn_ctext.proofs.Courses.{settled_then, settled_with, GivesOnly, gives_only_then}
 use Rattle.crn_ctext.proofs.LinesRead.{HaveWords, reads_of_settled}
@@ -38,14 +38,6 @@ pub ending_settled : {A : Type 0} (own : ℕ → Type 0) (words : List (List ℕ
 ending_settled own words n read =
     settled_then own (asks_part words n (end_form ∷ [])) (λ last. ends >>= (λ x. Give read)) (asks_part_settled own words n (end_form ∷ []) end_has)
     (λ last. settled_then own ends (λ x. Give read) (ends_settled own) (λ x. give_settled own read))
-
--- records of these forms, one after another
-pub asks_parts_settled : (own : ℕ → Type 0) (words : List (List ℕ)) (n : ℕ) (forms : List Form) → HaveWords forms → IsSettled own (asks_parts words n forms)
-unfolding asks_parts
-asks_parts_settled own words n [] w = give_settled own []
-asks_parts_settled own words n (form ∷ forms) w =
-    settled_then own (asks_part words n (form ∷ [])) (λ r. asks_parts words (n + 1) forms >>= (λ rs. Give (r ∷ rs))) (asks_part_settled own words n (form ∷ []) (w.0, tt))
-    (λ r. settled_then own (asks_parts words (n + 1) forms) (λ rs. Give (r ∷ rs)) (asks_parts_settled own words (n + 1) forms w.1) (λ rs. give_settled own (r ∷ rs)))
 
 -- what an opening gives is a network
 opening_keeps : (name : List ℕ) → GivesOnly (λ (o : Net × ℕ). IsNetwork o.0) (part_opening name)

@@ -59,7 +59,6 @@ pub use Rattle.crn_ctext.specs.Meaning.{Known, has_vector, is_yes, learn_of, len
 pub use Rattle.crn_ctext.specs.PartBlocks.{HoldsNoSides, learned, verdicts_on}
 pub use Rattle.crn_ctext.specs.PartLines.{AreChoices, IsChoice, IsPartReadAs, IsPartRefusedBy, IsRun, field_of, form_in, forms_in, texts_of}
 pub use Rattle.crn_ctext.specs.Parts.{AreJudged, IsPartDocument, IsPartRead, Meant, Part, asks_part, part_course, part_document, part_ending, part_head, part_opening, part_title}
-unfoldable pub use Rattle.crn_ctext.specs.Parts.{asks_parts}
 pub use Rattle.crn_ctext.specs.Questions.{Shapes, class_forms, class_rank, first_number, forms_at, forms_from, head_word, heads, if_may, kind_at, kinds, rows as landed_rows, later_numbers, opens, rank_forms, rows, side_form, ways, ways_of, wide_numbers, words}
 pub use Rattle.crn_ctext.specs.Records.{AreBetween, AreNarrow, AreOf, AreRising, BeginsWith, ClassWide, CountAndPart, Field, Fits, Form, Free, IsNarrow, IsNatural, IsShaped, IsSpelled, IsWord, Members, Record, Rising, Says, Several, Small, Takes, Turn, TwoOf, field_most, kind_of, line, most_of, number_text, numbers_text, record_text}
 pub use Rattle.crn_ctext.specs.Same.{AreSame}
@@ -79,7 +78,6 @@ pub use Rattle.crn_io.proofs.CallerLemmas.{Consumes-then, IsLine-append, Wrote-a
 pub use Rattle.crn_io.specs.Device.{SinkSeen, SourceSeen}
 pub use Rattle.crn_io.specs.Lines.{BreaksLine, HasMore, IsBegun, IsLine, IsLineAt, LacksLine, Place, beginning, document_too_long, early, line_too_long, otherwise}
 pub use Rattle.crn_io.specs.Next.{DueIs, KeptLines, NextGives, NextIs, code_of, place}
-pub use Rattle.crn_io.specs.Pull.{Consumes}
 pub use Rattle.crn_io.specs.Write.{Wrote, WroteAll, WrotePrefix}
 pub use Rattle.crn_io.specs.declared.lines.TheConstants.{MAX_AHEAD, MAX_DOCUMENT, MAX_LINE, MAX_NUMBERS, MAX_SHARED}
 pub use Rattle.crn_io.specs.declared.next.Next.{Next}

@@ -1,6 +1,6 @@
 -- One step of a reader after another.
-use Rattle.crn_ctext.proofs.Prelude.{◌≡◌, ◌≤◌, ◌+◌, ◌++◌, ℕ, List, [], ◌∷◌, length, refl, sym, ap, subst, ◌∙◌, append_assoc, arith, length-append, Consumes, Consumes-then, Place, IsLineAt, beginning, Course, Give, Line, Test, End, ◌>>=◌, Gives, FailsFirst, KeptLines, place, MAX_AHEAD, MAX_DOCUMENT, IsRest, StepGives, StepEnds, StepFails, StepAwaits, cut}
-use Rattle.std.proofs.Common.{Option, Some, None}
+use Rattle.crn_ctext.proofs.Prelude.{◌≡◌, ◌≤◌, ◌+◌, ◌++◌, ℕ, List, ◌∷◌, length, sym, ap, subst, append_assoc, arith, length-append, Consumes-then, Place, IsLineAt, Course, Give, Line, Test, End, ◌>>=◌, Gives, FailsFirst, KeptLines, place, MAX_AHEAD, MAX_DOCUMENT, StepGives, StepEnds, StepFails, StepAwaits, cut}
+use Rattle.std.proofs.Common.{Option}
 use Rattle.crn_ctext.proofs.Awaited.{awaits_before, awaits_then, awaits_after}
 use Rattle.crn_ctext.proofs.Courses.{gives_then, fails_before, fails_then}
 
@@ -74,38 +74,3 @@ step_ends_then c f x y n m k old mid new left between after p q = record {
   gives = λ rest h. subst (λ (at : Place). Gives (c >>= f) at y (place k new rest)) (sym (in_parts n old p.pulled q.pulled rest))
       (gives_then c f (place n old (p.pulled ++ (q.pulled ++ rest))) (place m mid (q.pulled ++ rest)) (place k new rest) x y (let g = p.gives in g (q.pulled ++ rest)) (let g = q.gives in g rest h));
 }
-
--- ---- the whole document
-
--- the text is what the source had left, if it shows that
-abbrev pub IsWhole : Option (List ℕ) → List ℕ → Type 0
-IsWhole None text = Unit {0}
-IsWhole (Some left) text = left ≡ text
-
--- Of a whole document: if a new reader fails, some text fails there, which is all that the source had left, if it shows that.
-pub fails_of_a_text : {A : Type 0} (c : Course A) (start : KeptLines) (left after : Option (List ℕ)) (line code : ℕ) → start.ahead ≡ [] → start.taken ≡ 0
-    → StepFails c 1 start left after line code → (text : List ℕ) × IsWhole left text × FailsFirst c (beginning text) line code
-fails_of_a_text c start left after line code none zero p = by left after p.off (let g = p.fails in g)
-  where
-    here : (text : List ℕ) → FailsFirst c (place 1 start text) line code → FailsFirst c (beginning text) line code
-    here text f = subst (λ (at : Place). FailsFirst c at line code) (ap (λ (t : List ℕ). record { line = 1; before = start.taken; left = t ++ text }) none ∙ ap (λ (k : ℕ). record { line = 1; before = k; left = text }) zero) f
-
-    by : (left after : Option (List ℕ)) → Consumes left p.pulled after → ((rest : List ℕ) → IsRest after rest → FailsFirst c (place 1 start (p.pulled ++ rest)) line code) → (text : List ℕ) × IsWhole left text × FailsFirst c (beginning text) line code
-    by None None off fails = (p.pulled ++ [], tt, here (p.pulled ++ []) (fails [] refl))
-    by None (Some r) off fails = absurd cc
-    by (Some text) None off fails = absurd (let e = off.1 in cc)
-    by (Some text) (Some r) off fails = let same : r ≡ off.0 = let e = off.1 in cc in (text, refl, here text (subst (λ (t : List ℕ). FailsFirst c (place 1 start t) line code) (sym off.2) (fails off.0 same)))
-
--- and if it reads to the end, some text gives this, which is all that the source had left, if it shows that
-pub gives_of_a_text : {A : Type 0} (c : Course A) (y : A) (m : ℕ) (start new : KeptLines) (left after : Option (List ℕ)) → start.ahead ≡ [] → start.taken ≡ 0
-    → StepEnds c y 1 m start new left after → (text : List ℕ) × IsWhole left text × ((end : Place) × Gives c (beginning text) y end)
-gives_of_a_text c y m start new left after none zero p = by left after p.off (let g = p.gives in g)
-  where
-    here : (text : List ℕ) (end : Place) → Gives c (place 1 start text) y end → (end : Place) × Gives c (beginning text) y end
-    here text end g = (end, subst (λ (at : Place). Gives c at y end) (ap (λ (t : List ℕ). record { line = 1; before = start.taken; left = t ++ text }) none ∙ ap (λ (k : ℕ). record { line = 1; before = k; left = text }) zero) g)
-
-    by : (left after : Option (List ℕ)) → Consumes left p.pulled after → ((rest : List ℕ) → IsRest after rest → Gives c (place 1 start (p.pulled ++ rest)) y (place m new rest)) → (text : List ℕ) × IsWhole left text × ((end : Place) × Gives c (beginning text) y end)
-    by None None off gives = (p.pulled ++ [], tt, here (p.pulled ++ []) (place m new []) (gives [] refl))
-    by None (Some r) off gives = absurd cc
-    by (Some text) None off gives = absurd (let e = off.1 in cc)
-    by (Some text) (Some r) off gives = let same : r ≡ off.0 = let e = off.1 in cc in (text, refl, here text (place m new off.0) (subst (λ (t : List ℕ). Gives c (place 1 start t) y (place m new off.0)) (sym off.2) (gives off.0 same)))

@@ -6,7 +6,6 @@ pub struct Sizes<'a> {
     pub species: u32,
     pub complexes: u32,
     pub reactions: u32,
-    pub strong: u32,
     pub terminal: u32,
     /// How many linked pairs there are within terminal classes.
     pub pairs: u32,

@@ -8,10 +8,10 @@ use arrayvec::ArrayVec;
 use crn_io::{Sink, WriteFault, put_all};
 use itoa::Buffer;
 
-// Bytes of a record that are still to be written: each piece is handed over in one push.
+// Bytes of a line that are gathered and then written together.
 pub(crate) type Piece = ArrayVec<u8, 256>;
 
-// The most bytes of a number after a space, and of the end of a line.
+// A number after a space and the end of the line after it have no more bytes than this.
 const LONGEST: usize = 43;
 
 // Adds bytes for which there is room.
@@ -67,7 +67,7 @@ fn add_num(piece: &mut Piece, number: u32)
     add_digits(piece, u128::from(number));
 }
 
-// Writes a piece that may have no room for a number.
+// Writes and empties the piece, unless it has room for a number and the end of the line.
 fn make_room<K: Sink>(sink: &mut K, piece: &mut Piece) -> Result<(), WriteFault>
     ensures room { OnOk result (array_vec_len piece.new + 43 ≤ 256) }
     ensures gathers { Gathers piece.old.items piece.new.items

@@ -37,7 +37,6 @@ fn no_sizes() -> Sizes<'static>
         species: 0,
         complexes: 0,
         reactions: 0,
-        strong: 0,
         terminal: 0,
         pairs: 0,
         class_reactions: &[],

@@ -29,7 +29,6 @@ pub(crate) fn head_sizes<'a>(
         species: net.species() as u32,
         complexes: net.complexes() as u32,
         reactions: net.reactions() as u32,
-        strong: 0,
         terminal: 0,
         pairs,
         class_reactions,
