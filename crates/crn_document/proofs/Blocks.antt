@@ -1,11 +1,12 @@
 -- The tests of a block, in the words of a document's course, and what is known after it.
-use Rattle.crn_document.proofs.Prelude.{◌≡◌, ◌≤◌, ◌+◌, ◌-◌, ◌++◌, ◌∙◌, ℕ, zero, suc, Bool, true, false, ◌==◌, ◌&&◌, List, [], ◌∷◌, length, map, replicate, refl, sym, subst, ap, ap₂, inl, inr, arith, Result, ℤ, if◌then◌else◌, slice_index_or, AllByRecursion, AllZip, flat_map, eqb-true, length-map, map-append, Place, Net, MAX_COMPLEXES, Verdict, No, Yes, Rests, Proof, Answer, Earlier, Question, Q2, Q13, Q14, Q15, on, terminal_of, Test, AllHold, FailsFirst, HasVector, exits, head_tests, linkage, linkage_count, row_tests, strong, tests_of, pairs_to, IsFormed, IsFormedOf, hold_parts, Record, Form, Fits, decided, kind_at, later_numbers, open_kinds, Course, Give, ◌>>=◌, Gives, AfterBlocks, Problem, asks_all, asks_trees, below, claims, has_tree, StepGives, SourceSeen, and_first, zip_long, records_formed, Reading, CheckStop, StepIs, step_map, step_then_is, Known, lists, problems_by, sizes_of, shapes_of, verdict_by, verdict_of, proof_by, proof_of, meaning, KeptFacts, asked, AsksForTree, IsBuilt, shown_by_tree, tree_place, tight, Part, verdict_of_head, FitAnswer, part_proofs, proof_of_head, IsKnownFor, parts_below, AreRows, MayBeRow, fixed_rows, many_rows, part_rows, row_form, rows_below, Row, Comb, Dual, M, Mu, Shelves, Side, Tie, Weights, IsHead, known_of, class_count, HeadHolds, IsAfter, IsBlock, Learns, after_at, after_by, end_course, forms_below, head_course, many_after, parts_after, rows_course, tests_course}
+use Rattle.crn_document.proofs.Prelude.{◌≡◌, ◌≤◌, ◌+◌, ◌-◌, ◌++◌, ◌∙◌, ℕ, zero, suc, Bool, true, false, ◌==◌, ◌&&◌, List, [], ◌∷◌, length, map, replicate, refl, sym, subst, ap, ap₂, inl, inr, arith, Result, ℤ, if◌then◌else◌, slice_index_or, AllByRecursion, AllZip, flat_map, eqb-true, length-map, map-append, Place, Net, MAX_COMPLEXES, Verdict, No, Yes, Rests, Proof, Answer, Earlier, Question, Q2, Q13, Q14, Q15, on, terminal_of, Test, AllHold, FailsFirst, HasVector, exits, head_tests, linkage, linkage_count, row_tests, strong, tests_of, pairs_to, IsFormed, IsFormedOf, hold_parts, Record, Form, Fits, decided, kind_at, later_numbers, open_kinds, Course, Give, ◌>>=◌, Gives, AfterBlocks, Problem, asks_all, asks_trees, below, claims, has_tree, StepGives, SourceSeen, and_first, zip_long, records_formed, Reading, CheckStop, StepIs, step_map, step_then_is, Known, lists, problems_by, sizes_of, shapes_of, verdict_by, verdict_of, proof_by, proof_of, meaning, KeptFacts, asked, AsksForTree, IsBuilt, shown_by_tree, tree_place, tight, Part, verdict_of_head, FitAnswer, part_proofs, proof_of_head, IsKnownFor, parts_below, AreRows, MayBeRow, fixed_rows, many_rows, part_rows, row_form, rows_below, Row, Comb, Dual, M, Mu, Shelves, Side, Tie, Weights, IsHead, known_of, class_count, HeadHolds, IsAfter, IsBlock, Learns, after_at, after_by, end_course, forms_below, head_course, many_after, parts_after, rows_course, tests_course, Block, Checked, IsRead, AreSmall, HoldsNoTree, answer_treeless}
 use Rattle.crn_document.specs.Inner.Answer.{kind_of}
 use Rattle.crn_ctext.specs.Course as course
 use Rattle.crn_ctext.specs.Meaning as said
 use Rattle.crn_document.proofs.Fields.{part_within}
 use Rattle.crn_document.proofs.Ranks.{AreRanks}
 use Rattle.crn_document.proofs.HeadKinds.{heads_hold, tight_and_bare}
+use Rattle.crn_document.proofs.HeadFacts.{HeadFacts}
 use Rattle.crn_document.proofs.Heads.{said_facts}
 use Rattle.crn_document.proofs.TreesBelow.{no_tree_below}
 
@@ -29,13 +30,23 @@ fail_after (t ∷ hs) ts part code h (inr f) = fail_after hs ts part code h.1 f.
 
 -- ---- rows
 
-pub block_length : (net : Net) (earlier : Earlier) (n : ℕ) (head : List ℤ) (rows : List (List ℤ)) (h : Record) (rs : List Record) → IsBlock net earlier n head rows h rs → length rows ≡ length rs
-block_length net earlier n head rows h rs b = ap (λ (x : List (List ℤ)). length x) b.rows_are ∙ length-map rs (λ (r : Record). r.numbers)
+pub block_length : {net : Net} {earlier : Earlier} {block : Block} {h : Record} {rs : List Record} → IsBlock net earlier block h rs → length block.rows.now ≡ length rs
+block_length {net} {earlier} {block} {h} {rs} b = ap (λ (x : List (List ℤ)). length x) b.rows_are ∙ length-map rs (λ (r : Record). r.numbers)
 
-pub block_fits : (net : Net) (n : ℕ) (facts : KeptFacts) (head : List ℤ) (rows : List (List ℤ)) (h : Record) (rs : List Record) → IsBuilt n → IsKnownFor net n facts → HeadHolds net facts.earlier n head → IsBlock net facts.earlier n head rows h rs → FitAnswer (asked n) head (parts_after net facts.earlier n head) rows
-block_fits net n facts head rows h rs built known hold b =
-    let f = said_facts net n facts head h built known b.is_head in
-    subst (λ (x : List (List ℤ)). FitAnswer (asked n) head (parts_after net facts.earlier n head) x) (sym b.rows_are) (let g = f.fit in g rs hold b.fit)
+-- what the head of a block that was read says
+read_head : {net : Net} {checked : Checked} {line : ℕ} {block : Block} → IsRead net checked line block → (h : Record) → IsHead net checked.facts.earlier block.question block.head.now h → HeadFacts net checked.facts.earlier block.question h block.head.now
+read_head {net} {checked} {line} {block} read h said = said_facts net block.question checked.facts block.head.now h read.built read.ready.known said
+
+pub read_small : {net : Net} {checked : Checked} {line : ℕ} {block : Block} → IsRead net checked line block → AreSmall block.head.now
+read_small read = let b = read.some.2 in let f = read_head read read.some.0 b.is_head in f.small
+
+pub block_fits : {net : Net} {checked : Checked} {line : ℕ} {block : Block} → IsRead net checked line block → FitAnswer (asked block.question) block.head.now block.parts.now block.rows.now
+block_fits {net} {checked} {line} {block} read =
+    let b = read.some.2 in
+    let f = read_head read read.some.0 b.is_head in
+    let g = f.fit in
+    subst (λ (ps : List Part). FitAnswer (asked block.question) block.head.now ps block.rows.now) (sym read.parts_are)
+    (subst (λ (x : List (List ℤ)). FitAnswer (asked block.question) block.head.now (parts_after net checked.facts.earlier block.question block.head.now) x) (sym b.rows_are) (g read.some.1 read.holds b.fit))
 
 -- each record below a head has at most as many numbers as a line
 
@@ -86,14 +97,6 @@ so_far_next qs q old new v so_far same =
 
 -- ---- after the records of a block
 
--- what is said of these tests is said of the course of the tests
-as_tests : (P : Course (Unit {0}) → Type 0) (v : Verdict) (p : Proof) (net : Net) (earlier : Earlier) (n line : ℕ) (h : Record) (rs : List Record)
-    → verdict_of (asked n) (sizes_of (known_of net earlier)) h rs ≡ v → proof_of (asked n) (shapes_of (known_of net earlier)) h rs ≡ p
-    → P (claims line (row_tests net earlier (asked n) v p)) → P (tests_course net earlier n line h rs)
-as_tests P v p net earlier n line h rs verdict proof x =
-    subst (λ (w : Verdict). P (claims line (row_tests net earlier (asked n) w (proof_of (asked n) (shapes_of (known_of net earlier)) h rs)))) (sym verdict)
-    (subst (λ (w : Proof). P (claims line (row_tests net earlier (asked n) v w))) (sym proof) x)
-
 -- the verdict that a head and the records below it say is that of its numbers
 head_says : (net : Net) (earlier : Earlier) (n : ℕ) (head : List ℤ) (h : Record) (rs : List Record) → IsHead net earlier n head h → verdict_of (asked n) (sizes_of (known_of net earlier)) h rs ≡ verdict_of_head (asked n) head rs
 head_says net earlier n head h rs is = ap (λ (t : List ℤ). verdict_of_head (asked n) t rs) (sym is.tag)
@@ -110,95 +113,6 @@ said_verdict n head rs = verdict_of_head (asked n) head rs
 
 abbrev pub said_proof : Net → Earlier → ℕ → List ℤ → List Record → Proof
 said_proof net earlier n head rs = proof_of_head (asked n) (parts_after net earlier n head) head rs
-
--- the answer is the one that the block says
-pub record IsAnswerOf (net : Net) (earlier : Earlier) (n : ℕ) (head : List ℤ) (rs : List Record) (a : Answer) : Type 0 where
-  pub verdict_is : a.verdict ≡ said_verdict n head rs
-  pub proof_is : a.proof ≡ said_proof net earlier n head rs
-
-pub said_answer : (net : Net) (earlier : Earlier) (n : ℕ) (head : List ℤ) (parts : List Part) (rows : List (List ℤ)) (h : Record) (rs : List Record) (a : Answer) → IsBlock net earlier n head rows h rs → parts ≡ parts_after net earlier n head
-    → ((rs : List Record) → lists rs ≡ rows → a.verdict ≡ verdict_of_head (asked n) head rs) → ((rs : List Record) → lists rs ≡ rows → a.proof ≡ proof_of_head (asked n) parts head rs) → IsAnswerOf net earlier n head rs a
-said_answer net earlier n head parts rows h rs a b is verdict proof = record {
-  verdict_is = verdict rs (sym b.rows_are);
-  proof_is = proof rs (sym b.rows_are) ∙ ap (λ (ps : List Part). proof_of_head (asked n) ps head rs) is;
-}
-
-same_answer : (P : Verdict → Proof → Type 0) (net : Net) (earlier : Earlier) (n : ℕ) (head : List ℤ) (rs : List Record) (a : Answer) → IsAnswerOf net earlier n head rs a → P (said_verdict n head rs) (said_proof net earlier n head rs) → P a.verdict a.proof
-same_answer P net earlier n head rs a is p =
-    subst (λ (v : Verdict). P v a.proof) (sym is.verdict_is) (subst (λ (w : Proof). P (said_verdict n head rs) w) (sym is.proof_is) p)
-
-other_answer : (P : Verdict → Proof → Type 0) (net : Net) (earlier : Earlier) (n : ℕ) (head : List ℤ) (rs : List Record) (a : Answer) → IsAnswerOf net earlier n head rs a → P a.verdict a.proof → P (said_verdict n head rs) (said_proof net earlier n head rs)
-other_answer P net earlier n head rs a is p =
-    subst (λ (v : Verdict). P v (said_proof net earlier n head rs)) is.verdict_is (subst (λ (w : Proof). P a.verdict w) is.proof_is p)
-
-pub answer_formed : (net : Net) (n : ℕ) (facts : KeptFacts) (head : List ℤ) (rows : List (List ℤ)) (h : Record) (rs : List Record) (a : Answer) → (AsksForTree n → said.number head 0 ≡ tree_place n → ⊥) → IsBuilt n → IsKnownFor net n facts → HeadHolds net facts.earlier n head → IsBlock net facts.earlier n head rows h rs → IsAnswerOf net facts.earlier n head rs a → IsFormed net facts.earlier (asked n) a
-answer_formed net n facts head rows h rs a other built known hold b is =
-    let earlier = facts.earlier in
-    let q = asked n in
-    let here = known_of net earlier in
-    let f = said_facts net n facts head h built known b.is_head in
-    let below_is : below q (shapes_of here) h ≡ forms_below net earlier n head = f.below_is in
-    let none : meaning.problems q here h ≡ [] = sym (trees_due net earlier n head h b.is_head) ∙ no_tree_below n built here (said.number head 0) other in
-    let formed = records_formed here q h rs (let s = b.is_head in s.form) (subst (λ (fs : List Form). AllZip Fits fs rs) (sym below_is) b.fit) none in
-    same_answer (λ v p. IsFormedOf net earlier q v p) net earlier n head rs a is
-    (subst (λ (v : Verdict). IsFormedOf net earlier q v (said_proof net earlier n head rs)) (head_says net earlier n head h rs b.is_head) (subst (λ (p : Proof). IsFormedOf net earlier q (verdict_of q (sizes_of here) h rs) p) (let s = f.shown in s rs) formed))
-
-pub answer_holds : (net : Net) (earlier : Earlier) (n : ℕ) (head : List ℤ) (rs : List Record) (a : Answer) → IsAnswerOf net earlier n head rs a → AllHold (tests_of net earlier (asked n) a) → AllHold (row_tests net earlier (asked n) (said_verdict n head rs) (said_proof net earlier n head rs))
-answer_holds net earlier n head rs a is h =
-    other_answer (λ v p. AllHold (row_tests net earlier (asked n) v p)) net earlier n head rs a is (hold_parts (head_tests net earlier (asked n) a.verdict) (row_tests net earlier (asked n) a.verdict a.proof) h).1
-
--- the tests of its head hold
-pub answer_heads : (net : Net) (earlier : Earlier) (n : ℕ) (head : List ℤ) (rs : List Record) (a : Answer) → HeadHolds net earlier n head → IsAnswerOf net earlier n head rs a → AllHold (head_tests net earlier (asked n) a.verdict)
-answer_heads net earlier n head rs a hold is =
-    subst (λ (v : Verdict). AllHold (head_tests net earlier (asked n) v)) (sym is.verdict_is) (heads_hold net earlier (asked n) (kind_of (asked n) head) (later_numbers head) (lists rs) hold)
-
--- its verdict is as it is kept
-pub answer_tight : (net : Net) (earlier : Earlier) (n : ℕ) (head : List ℤ) (rs : List Record) (a : Answer) → IsAnswerOf net earlier n head rs a → tight a.verdict ≡ a.verdict
-answer_tight net earlier n head rs a is = ap tight is.verdict_is ∙ (tight_and_bare (kind_of (asked n) head) (later_numbers head) (lists rs)).0 ∙ sym is.verdict_is
-
-pub answer_fails : (net : Net) (n : ℕ) (facts : KeptFacts) (head : List ℤ) (rows : List (List ℤ)) (h : Record) (rs : List Record) (a : Answer) (part code : ℕ) → IsBuilt n → IsKnownFor net n facts → HeadHolds net facts.earlier n head → IsBlock net facts.earlier n head rows h rs → IsAnswerOf net facts.earlier n head rs a
-    → FailsFirst (tests_of net facts.earlier (asked n) a) part code → FailsFirst (row_tests net facts.earlier (asked n) (said_verdict n head rs) (said_proof net facts.earlier n head rs)) part code
-answer_fails net n facts head rows h rs a part code built known hold b is f =
-    let earlier = facts.earlier in
-    let same = answer_heads net earlier n head rs a hold is in
-    other_answer (λ v p. FailsFirst (row_tests net earlier (asked n) v p) part code) net earlier n head rs a is (fail_after (head_tests net earlier (asked n) a.verdict) (row_tests net earlier (asked n) a.verdict a.proof) part code same f)
-
-pub answer_part : (net : Net) (n : ℕ) (facts : KeptFacts) (head : List ℤ) (rows : List (List ℤ)) (h : Record) (rs : List Record) (a : Answer) (part code : ℕ) → IsBuilt n → IsKnownFor net n facts → HeadHolds net facts.earlier n head → IsBlock net facts.earlier n head rows h rs → IsAnswerOf net facts.earlier n head rs a
-    → FailsFirst (tests_of net facts.earlier (asked n) a) part code → part ≤ suc (length rows)
-answer_part net n facts head rows h rs a part code built known hold b is f =
-    let g = said_facts net n facts head h built known b.is_head in
-    let l = block_length net facts.earlier n head rows h rs b in
-    let w = part_within (suc (length rs)) (row_tests net facts.earlier (asked n) (said_verdict n head rs) (said_proof net facts.earlier n head rs)) part code (let w = g.row_parts in w rs hold b.fit) (answer_fails net n facts head rows h rs a part code built known hold b is f) in
-    omega (arith, l, w)
-
--- the tests of the records hold, and this is known after the block
-pub block_learns : (net : Net) (n : ℕ) (facts : KeptFacts) (head : List ℤ) (rows : List (List ℤ)) (h : Record) (rs : List Record) (a : Answer) (new : Earlier) (line : ℕ) → IsBuilt n → IsKnownFor net n facts → HeadHolds net facts.earlier n head → IsBlock net facts.earlier n head rows h rs → IsAnswerOf net facts.earlier n head rs a
-    → AllHold (tests_of net facts.earlier (asked n) a) → new ≡ facts.earlier ++ (asked n, tight a.verdict) ∷ []
-    → Learns net facts.earlier n new h rs × ((place : Place) → Gives (tests_course net facts.earlier n line h rs) place tt place)
-block_learns net n facts head rows h rs a new line built known hold b is holds kept =
-    let earlier = facts.earlier in
-    let f = said_facts net n facts head h built known b.is_head in
-    let v = said_verdict n head rs in
-    let p = said_proof net earlier n head rs in
-    let said_is : verdict_of (asked n) (sizes_of (known_of net earlier)) h rs ≡ v = head_says net earlier n head h rs b.is_head in
-    let tight_is : v ≡ tight a.verdict = sym (answer_tight net earlier n head rs a is ∙ is.verdict_is) in
-    let same : new ≡ earlier ++ (asked n, verdict_of (asked n) (sizes_of (known_of net earlier)) h rs) ∷ [] = kept ∙ ap (λ (w : Verdict). earlier ++ (asked n, w) ∷ []) (sym (said_is ∙ tight_is)) in (
-      ap (λ (es : Earlier). known_of net es) same,
-      λ place. as_tests (λ d. Gives d place tt place) v p net earlier n line h rs said_is (let s = f.shown in s rs) (claims_hold line (row_tests net earlier (asked n) v p) place (answer_holds net earlier n head rs a is holds)),
-    )
-
--- or the first test that the answer fails is that of the records
-pub block_fails : (net : Net) (n : ℕ) (facts : KeptFacts) (head : List ℤ) (rows : List (List ℤ)) (h : Record) (rs : List Record) (a : Answer) (line part code : ℕ) → IsBuilt n → IsKnownFor net n facts → HeadHolds net facts.earlier n head → IsBlock net facts.earlier n head rows h rs → IsAnswerOf net facts.earlier n head rs a → FailsFirst (tests_of net facts.earlier (asked n) a) part code
-    → (place : Place) → course.FailsFirst (tests_course net facts.earlier n line h rs) place (line + part) code
-block_fails net n facts head rows h rs a line part code built known hold b is fails place =
-    let earlier = facts.earlier in
-    let f = said_facts net n facts head h built known b.is_head in
-    let v = said_verdict n head rs in
-    let p = said_proof net earlier n head rs in
-    as_tests (λ d. course.FailsFirst d place (line + part) code) v p net earlier n line h rs (head_says net earlier n head h rs b.is_head) (let s = f.shown in s rs)
-    (claims_fail line (row_tests net earlier (asked n) v p) part code place (answer_fails net n facts head rows h rs a part code built known hold b is fails))
-
--- ---- a verdict that trees show
 
 signal_place : (place : ℕ) (head : List ℤ) (rows : List (List ℤ)) → verdict_by (kind_at Q13 place) head rows ≡ No → place ≡ 2
 signal_place zero head rows y = absurd cc
@@ -233,6 +147,116 @@ shown_first n head rs (inl e) y = signal_place (said.number head 0) (later_numbe
 shown_first n head rs (inr (inl e)) y = plain_place (said.number head 0) (later_numbers head) (lists rs) (subst (λ (m : ℕ). said_verdict m head rs ≡ shown_by_tree (asked m)) e y) ∙ ap (λ (m : ℕ). tree_place m) (sym e)
 shown_first n head rs (inr (inr e)) y = strong_place (said.number head 0) (later_numbers head) (lists rs) (subst (λ (m : ℕ). said_verdict m head rs ≡ shown_by_tree (asked m)) e y) ∙ ap (λ (m : ℕ). tree_place m) (sym e)
 
+-- the tests of the records
+abbrev block_tests : Net → Earlier → Block → List Record → List {1} Test
+block_tests net earlier block rs = row_tests net earlier (asked block.question) (said_verdict block.question block.head.now rs) (said_proof net earlier block.question block.head.now rs)
+
+-- what is said of these tests is said of the course of the tests
+block_course : {net : Net} {checked : Checked} {line : ℕ} {block : Block} {h : Record} {rs : List Record} (P : Course (Unit {0}) → Type 0) → IsRead net checked line block → IsBlock net checked.facts.earlier block h rs → P (claims block.line (block_tests net checked.facts.earlier block rs)) → P (tests_course net checked.facts.earlier block.question block.line h rs)
+block_course {net} {checked} {line} {block} {h} {rs} P read b x =
+    let earlier = checked.facts.earlier in
+    let q = asked block.question in
+    let f = read_head read h b.is_head in
+    subst (λ (w : Verdict). P (claims block.line (row_tests net earlier q w (proof_of q (shapes_of (known_of net earlier)) h rs)))) (sym (head_says net earlier block.question block.head.now h rs b.is_head))
+    (subst (λ (w : Proof). P (claims block.line (row_tests net earlier q (said_verdict block.question block.head.now rs) w))) (sym (let s = f.shown in s rs)) x)
+
+-- the verdict that the block says is learnt
+block_known : {net : Net} {earlier : Earlier} {block : Block} {h : Record} {rs : List Record} → IsBlock net earlier block h rs → (new : Earlier) → new ≡ earlier ++ (asked block.question, said_verdict block.question block.head.now rs) ∷ [] → Learns net earlier block.question new h rs
+block_known {net} {earlier} {block} {h} {rs} b new is =
+    ap (λ (es : Earlier). known_of net es) (is ∙ ap (λ (w : Verdict). earlier ++ (asked block.question, w) ∷ []) (sym (head_says net earlier block.question block.head.now h rs b.is_head)))
+
+-- the answer is the one that a block that was read says
+pub record IsAnswerOf (net : Net) (checked : Checked) (line : ℕ) (block : Block) (h : Record) (rs : List Record) (a : Answer) : Type 0 where
+  pub read : IsRead net checked line block
+  pub is_block : IsBlock net checked.facts.earlier block h rs
+  pub verdict_is : a.verdict ≡ said_verdict block.question block.head.now rs
+  pub proof_is : a.proof ≡ said_proof net checked.facts.earlier block.question block.head.now rs
+
+pub said_answer : {net : Net} {checked : Checked} {line : ℕ} {block : Block} {h : Record} {rs : List Record} (a : Answer) → IsRead net checked line block → IsBlock net checked.facts.earlier block h rs
+    → ((rs : List Record) → lists rs ≡ block.rows.now → a.verdict ≡ verdict_of_head (asked block.question) block.head.now rs) → ((rs : List Record) → lists rs ≡ block.rows.now → a.proof ≡ proof_of_head (asked block.question) block.parts.now block.head.now rs)
+    → IsAnswerOf net checked line block h rs a
+said_answer {net} {checked} {line} {block} {h} {rs} a read b verdict proof = record {
+  read = read;
+  is_block = b;
+  verdict_is = verdict rs (sym b.rows_are);
+  proof_is = proof rs (sym b.rows_are) ∙ ap (λ (ps : List Part). proof_of_head (asked block.question) ps block.head.now rs) read.parts_are;
+}
+
+same_answer : {net : Net} {checked : Checked} {line : ℕ} {block : Block} {h : Record} {rs : List Record} {a : Answer} (P : Verdict → Proof → Type 0) → IsAnswerOf net checked line block h rs a → P (said_verdict block.question block.head.now rs) (said_proof net checked.facts.earlier block.question block.head.now rs) → P a.verdict a.proof
+same_answer {net} {checked} {line} {block} {h} {rs} {a} P is p =
+    subst (λ (v : Verdict). P v a.proof) (sym is.verdict_is) (subst (λ (w : Proof). P (said_verdict block.question block.head.now rs) w) (sym is.proof_is) p)
+
+other_answer : {net : Net} {checked : Checked} {line : ℕ} {block : Block} {h : Record} {rs : List Record} {a : Answer} (P : Verdict → Proof → Type 0) → IsAnswerOf net checked line block h rs a → P a.verdict a.proof → P (said_verdict block.question block.head.now rs) (said_proof net checked.facts.earlier block.question block.head.now rs)
+other_answer {net} {checked} {line} {block} {h} {rs} {a} P is p =
+    subst (λ (v : Verdict). P v (said_proof net checked.facts.earlier block.question block.head.now rs)) is.verdict_is (subst (λ (w : Proof). P a.verdict w) is.proof_is p)
+
+pub answer_formed : {net : Net} {checked : Checked} {line : ℕ} {block : Block} {h : Record} {rs : List Record} {a : Answer} → IsAnswerOf net checked line block h rs a → (AsksForTree block.question → said.number block.head.now 0 ≡ tree_place block.question → ⊥) → IsFormed net checked.facts.earlier (asked block.question) a
+answer_formed {net} {checked} {line} {block} {h} {rs} {a} is other =
+    let earlier = checked.facts.earlier in
+    let n = block.question in
+    let head = block.head.now in
+    let q = asked n in
+    let here = known_of net earlier in
+    let b = is.is_block in
+    let f = read_head is.read h b.is_head in
+    let below_is : below q (shapes_of here) h ≡ forms_below net earlier n head = f.below_is in
+    let none : meaning.problems q here h ≡ [] = sym (trees_due net earlier n head h b.is_head) ∙ no_tree_below n is.read.built here (said.number head 0) other in
+    let formed = records_formed here q h rs (let s = b.is_head in s.form) (subst (λ (fs : List Form). AllZip Fits fs rs) (sym below_is) b.fit) none in
+    same_answer (λ v p. IsFormedOf net earlier q v p) is
+    (subst (λ (v : Verdict). IsFormedOf net earlier q v (said_proof net earlier n head rs)) (head_says net earlier n head h rs b.is_head) (subst (λ (p : Proof). IsFormedOf net earlier q (verdict_of q (sizes_of here) h rs) p) (let s = f.shown in s rs) formed))
+
+answer_holds : {net : Net} {checked : Checked} {line : ℕ} {block : Block} {h : Record} {rs : List Record} {a : Answer} → IsAnswerOf net checked line block h rs a → AllHold (tests_of net checked.facts.earlier (asked block.question) a) → AllHold (block_tests net checked.facts.earlier block rs)
+answer_holds {net} {checked} {line} {block} {h} {rs} {a} is held =
+    let tests = row_tests net checked.facts.earlier (asked block.question) in
+    other_answer (λ v p. AllHold (tests v p)) is (hold_parts (head_tests net checked.facts.earlier (asked block.question) a.verdict) (tests a.verdict a.proof) held).1
+
+-- the tests of its head hold
+pub answer_heads : {net : Net} {checked : Checked} {line : ℕ} {block : Block} {h : Record} {rs : List Record} {a : Answer} → IsAnswerOf net checked line block h rs a → AllHold (head_tests net checked.facts.earlier (asked block.question) a.verdict)
+answer_heads {net} {checked} {line} {block} {h} {rs} {a} is =
+    let q = asked block.question in
+    subst (λ (v : Verdict). AllHold (head_tests net checked.facts.earlier q v)) (sym is.verdict_is) (heads_hold net checked.facts.earlier q (kind_of q block.head.now) (later_numbers block.head.now) (lists rs) is.read.holds)
+
+-- its verdict is as it is kept
+pub answer_tight : {net : Net} {checked : Checked} {line : ℕ} {block : Block} {h : Record} {rs : List Record} {a : Answer} → IsAnswerOf net checked line block h rs a → tight a.verdict ≡ a.verdict
+answer_tight {net} {checked} {line} {block} {h} {rs} {a} is =
+    ap tight is.verdict_is ∙ (tight_and_bare (kind_of (asked block.question) block.head.now) (later_numbers block.head.now) (lists rs)).0 ∙ sym is.verdict_is
+
+-- no tree shows it
+pub answer_without_tree : {net : Net} {checked : Checked} {line : ℕ} {block : Block} {h : Record} {rs : List Record} {a : Answer} → IsAnswerOf net checked line block h rs a → (AsksForTree block.question → said.number block.head.now 0 ≡ tree_place block.question → ⊥) → AsksForTree block.question → HoldsNoTree a.proof
+answer_without_tree {net} {checked} {line} {block} {h} {rs} {a} is other =
+    answer_treeless net checked.facts.earlier block.question a (λ tree shown. other tree (shown_first block.question block.head.now rs tree (sym is.verdict_is ∙ shown))) (answer_formed is other)
+
+answer_fails : {net : Net} {checked : Checked} {line : ℕ} {block : Block} {h : Record} {rs : List Record} {a : Answer} → IsAnswerOf net checked line block h rs a → (part code : ℕ) → FailsFirst (tests_of net checked.facts.earlier (asked block.question) a) part code → FailsFirst (block_tests net checked.facts.earlier block rs) part code
+answer_fails {net} {checked} {line} {block} {h} {rs} {a} is part code f =
+    let tests = row_tests net checked.facts.earlier (asked block.question) in
+    other_answer (λ v p. FailsFirst (tests v p) part code) is (fail_after (head_tests net checked.facts.earlier (asked block.question) a.verdict) (tests a.verdict a.proof) part code (answer_heads is) f)
+
+pub answer_part : {net : Net} {checked : Checked} {line : ℕ} {block : Block} {h : Record} {rs : List Record} {a : Answer} → IsAnswerOf net checked line block h rs a → (part code : ℕ) → FailsFirst (tests_of net checked.facts.earlier (asked block.question) a) part code → part ≤ suc (length block.rows.now)
+answer_part {net} {checked} {line} {block} {h} {rs} {a} is part code f =
+    let b = is.is_block in
+    let g = read_head is.read h b.is_head in
+    let l = block_length b in
+    let w = part_within (suc (length rs)) (block_tests net checked.facts.earlier block rs) part code (let w = g.row_parts in w rs is.read.holds b.fit) (answer_fails is part code f) in
+    omega (arith, l, w)
+
+-- the tests of the records hold, and this is known after the block
+pub block_learns : {net : Net} {checked : Checked} {line : ℕ} {block : Block} {h : Record} {rs : List Record} {a : Answer} → IsAnswerOf net checked line block h rs a → (new : Earlier)
+    → AllHold (tests_of net checked.facts.earlier (asked block.question) a) → new ≡ checked.facts.earlier ++ (asked block.question, tight a.verdict) ∷ []
+    → Learns net checked.facts.earlier block.question new h rs × ((place : Place) → Gives (tests_course net checked.facts.earlier block.question block.line h rs) place tt place)
+block_learns {net} {checked} {line} {block} {h} {rs} {a} is new holds kept = (
+  block_known is.is_block new (kept ∙ ap (λ (w : Verdict). checked.facts.earlier ++ (asked block.question, w) ∷ []) (answer_tight is ∙ is.verdict_is)),
+  λ place. block_course (λ d. Gives d place tt place) is.read is.is_block (claims_hold block.line (block_tests net checked.facts.earlier block rs) place (answer_holds is holds)),
+)
+
+-- or the first test that the answer fails is that of the records
+pub block_fails : {net : Net} {checked : Checked} {line : ℕ} {block : Block} {h : Record} {rs : List Record} {a : Answer} → IsAnswerOf net checked line block h rs a → (part code : ℕ) → FailsFirst (tests_of net checked.facts.earlier (asked block.question) a) part code
+    → (place : Place) → course.FailsFirst (tests_course net checked.facts.earlier block.question block.line h rs) place (block.line + part) code
+block_fails {net} {checked} {line} {block} {h} {rs} {a} is part code fails place =
+    block_course (λ d. course.FailsFirst d place (block.line + part) code) is.read is.is_block
+    (claims_fail block.line (block_tests net checked.facts.earlier block rs) part code place (answer_fails is part code fails))
+
+-- ---- a verdict that trees show
+
 -- that form says the verdict, and the records below it have no tests but those of the trees
 record IsShownSaid (net : Net) (earlier : Earlier) (n : ℕ) (head : List ℤ) (rs : List Record) : Type 1 where
   verdict : said_verdict n head rs ≡ shown_by_tree (asked n)
@@ -266,36 +290,41 @@ vector_shown net earlier n head e place hold =
     (subst (λ (k : ℕ). AllHold (head_tests net earlier Q13 (verdict_by (kind_at Q13 k) (later_numbers head) []))) two h).0
 
 -- no test of the records fails, and this is known after the block
-pub block_shown : (net : Net) (n : ℕ) (facts : KeptFacts) (head : List ℤ) (rows : List (List ℤ)) (h : Record) (rs : List Record) (new : Earlier) (line : ℕ) → IsBuilt n → IsKnownFor net n facts → IsBlock net facts.earlier n head rows h rs → AsksForTree n → said.number head 0 ≡ tree_place n → new ≡ facts.earlier ++ (asked n, shown_by_tree (asked n)) ∷ []
-    → Learns net facts.earlier n new h rs × ((place : Place) → Gives (tests_course net facts.earlier n line h rs) place tt place)
-block_shown net n facts head rows h rs new line built known b tree place kept =
-    let earlier = facts.earlier in
-    let f = said_facts net n facts head h built known b.is_head in
-    let v = said_verdict n head rs in
-    let p = said_proof net earlier n head rs in
-    let t = shown_said net earlier n head rs tree place in
-    let said_is : verdict_of (asked n) (sizes_of (known_of net earlier)) h rs ≡ v = head_says net earlier n head h rs b.is_head in
-    let same : new ≡ earlier ++ (asked n, verdict_of (asked n) (sizes_of (known_of net earlier)) h rs) ∷ [] = kept ∙ ap (λ (w : Verdict). earlier ++ (asked n, w) ∷ []) (sym (said_is ∙ t.verdict)) in (
-      ap (λ (es : Earlier). known_of net es) same,
-      λ place. as_tests (λ d. Gives d place tt place) v p net earlier n line h rs said_is (let s = f.shown in s rs)
-          (subst (λ (ts : List {1} Test). Gives (claims line ts) place tt place) (sym t.tests) (claims_hold line [] place tt)),
+pub block_shown : {net : Net} {checked : Checked} {line : ℕ} {block : Block} {h : Record} {rs : List Record} → IsRead net checked line block → IsBlock net checked.facts.earlier block h rs → (new : Earlier) → AsksForTree block.question → said.number block.head.now 0 ≡ tree_place block.question → new ≡ checked.facts.earlier ++ (asked block.question, shown_by_tree (asked block.question)) ∷ []
+    → Learns net checked.facts.earlier block.question new h rs × ((place : Place) → Gives (tests_course net checked.facts.earlier block.question block.line h rs) place tt place)
+block_shown {net} {checked} {line} {block} {h} {rs} read b new tree place kept =
+    let t = shown_said net checked.facts.earlier block.question block.head.now rs tree place in (
+      block_known b new (kept ∙ ap (λ (w : Verdict). checked.facts.earlier ++ (asked block.question, w) ∷ []) (sym t.verdict)),
+      λ place. block_course (λ d. Gives d place tt place) read b (subst (λ (ts : List {1} Test). Gives (claims block.line ts) place tt place) (sym t.tests) (claims_hold block.line [] place tt)),
     )
 
 -- the tests of the records, and then the trees
-pub block_then : (net : Net) (earlier new : Earlier) (n line version place : ℕ) (table : List (List ℤ)) (h : Record) (rs : List Record) (blocks : List (List Record)) (result : Result (Unit {0}) CheckStop) (mid last : Reading) (between now : SourceSeen)
-    → problems_by (asked n) (known_of net earlier) place ≡ meaning.problems (asked n) (known_of net earlier) h → Learns net earlier n new h rs → line + 1 + length rs ≡ mid.line → mid.version ≡ version
-    → StepGives (tests_course net earlier n line h rs) tt mid.line mid.line mid.lines mid.lines between.left between.left
-    → StepIs (asks_trees mid.version table (problems_by (asked n) (known_of net earlier) place) mid.line) (λ t l. l ≡ last.line) result mid last between now
-    → StepIs (end_course version table (asked n) (after_at net earlier line blocks) h rs) (λ t y. IsAfter net new (has_tree (problems_by (asked n) (known_of net earlier) place)) last.line y) result mid last between now
-block_then net earlier new n line version place table h rs blocks result mid last between now trees learnt at v s q =
-    step_then_is (tests_course net earlier n line h rs) (λ x. asks_trees version table due (line + 1 + length rs) >>= (λ l. Give (after l))) tt (λ t y. IsAfter net new by_tree last.line y) result mid mid last between between now s refl
-    (step_map (asks_trees version table due (line + 1 + length rs)) after (λ t l. l ≡ last.line) (λ t y. IsAfter net new by_tree last.line y) result mid last between now more
-    (subst (λ (ps : List {1} Problem). StepIs (asks_trees version table ps (line + 1 + length rs)) (λ t l. l ≡ last.line) result mid last between now) trees
-    (subst (λ (k : ℕ). StepIs (asks_trees version table (problems_by (asked n) (known_of net earlier) place) k) (λ t l. l ≡ last.line) result mid last between now) (sym at)
-    (subst (λ (k : ℕ). StepIs (asks_trees k table (problems_by (asked n) (known_of net earlier) place) mid.line) (λ t l. l ≡ last.line) result mid last between now) v q))))
+pub block_then : {net : Net} {checked : Checked} {block : Block} {h : Record} {rs : List Record} (mid : Reading) → IsRead net checked mid.line block → IsBlock net checked.facts.earlier block h rs
+    → (new : Earlier) (place : ℕ) (table : List (List ℤ)) (blocks : List (List Record)) (result : Result (Unit {0}) CheckStop) (last : Reading) (between now : SourceSeen)
+    → place ≡ said.number block.head.now 0 → Learns net checked.facts.earlier block.question new h rs
+    → StepGives (tests_course net checked.facts.earlier block.question block.line h rs) tt mid.line mid.line mid.lines mid.lines between.left between.left
+    → StepIs (asks_trees mid.version table (problems_by (asked block.question) (known_of net checked.facts.earlier) place) mid.line) (λ t l. l ≡ last.line) result mid last between now
+    → StepIs (end_course mid.version table (asked block.question) (after_at net checked.facts.earlier block.line blocks) h rs) (λ t y. IsAfter net new (has_tree (problems_by (asked block.question) (known_of net checked.facts.earlier) place)) last.line y) result mid last between now
+block_then {net} {checked} {block} {h} {rs} mid read b new place table blocks result last between now is learnt s q =
+    step_then_is (tests_course net earlier n block.line h rs) (λ x. asks_trees mid.version table due (block.line + 1 + length rs) >>= (λ l. Give (after l))) tt (λ t y. IsAfter net new by_tree last.line y) result mid mid last between between now s refl
+    (step_map (asks_trees mid.version table due (block.line + 1 + length rs)) after (λ t l. l ≡ last.line) (λ t y. IsAfter net new by_tree last.line y) result mid last between now more
+    (subst (λ (ps : List {1} Problem). StepIs (asks_trees mid.version table ps (block.line + 1 + length rs)) (λ t l. l ≡ last.line) result mid last between now) trees
+    (subst (λ (k : ℕ). StepIs (asks_trees mid.version table (problems_by (asked n) (known_of net earlier) place) k) (λ t l. l ≡ last.line) result mid last between now) (sym ends) q)))
   where
+    n : ℕ
+    n = block.question
+
+    earlier : Earlier
+    earlier = checked.facts.earlier
+
     due : List {1} Problem
     due = meaning.problems (asked n) (known_of net earlier) h
+
+    trees : problems_by (asked n) (known_of net earlier) place ≡ due
+    trees = ap (λ (k : ℕ). problems_by (asked n) (known_of net earlier) k) is ∙ trees_due net earlier n block.head.now h b.is_head
+
+    ends : block.line + 1 + length rs ≡ mid.line
+    ends = let long = block_length b in omega (arith, long, read.ends)
 
     after : ℕ → AfterBlocks Known
     after l = record { known = meaning.learn (asked n) (known_of net earlier) h rs; by_tree = has_tree due; line = l; blocks = blocks ++ (h ∷ rs) ∷ [] }
@@ -333,8 +362,8 @@ head_course_by P version table net facts n m head h blocks built known said p =
     subst (λ (v : Verdict). P (head_by (head_tests net earlier (asked n) v) net earlier m blocks version table (asked n) h)) (sym (head_says net earlier n head h [] said)) p
 
 -- the records that were read below a head
-pub rows_block : (net : Net) (earlier : Earlier) (n : ℕ) (head : List ℤ) (forms : List Form) (rows old : List (List ℤ)) (h : Record) (rs : List Record) → forms ≡ forms_below net earlier n head → old ≡ [] → IsHead net earlier n head h → AreRows forms old rows rs → IsBlock net earlier n head rows h rs
-rows_block net earlier n head forms rows old h rs is none said r = record {
+pub rows_block : (net : Net) (earlier : Earlier) (block : Block) (forms : List Form) (old : List (List ℤ)) (h : Record) (rs : List Record) → forms ≡ forms_below net earlier block.question block.head.now → old ≡ [] → IsHead net earlier block.question block.head.now h → AreRows forms old block.rows.now rs → IsBlock net earlier block h rs
+rows_block net earlier block forms old h rs is none said r = record {
   is_head = said;
   fit = subst (λ (fs : List Form). AllZip Fits fs rs) is r.0;
   rows_are = r.1 ∙ ap (λ (x : List (List ℤ)). x ++ lists rs) none;

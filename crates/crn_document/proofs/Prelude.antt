@@ -28,7 +28,7 @@ pub use Rattle.crn_cert.specs.declared.answer.Verdict.TheVariants.{No, Unknown, 
 pub use Rattle.crn_cert.specs.declared.head_kind.HeadKind.{HeadKind}
 pub use Rattle.crn_cert.specs.declared.head_kind.HeadKind.TheVariants.{Budget, Classes, Deficiency, NoClass, NoCycle, NoDependence, NoNumber, NoPair, NoReaction, NoSum, NoTerminal, NoVec, NotApplicable, NotRegular, OnlyZero, Plane, Rank, Rests, Strong, YesSignal, YesWeak}
 pub use Rattle.crn_check.proofs.CallerLemmas.{answer_treeless, built_at, classes_known, formed_on, needs_held, none_from, sides_of_answer, sound_on, strong_true, terminal_few as terminal_fits, weak_true}
-pub use Rattle.crn_check.specs.Check.{AsksForTree, HoldsNeeds, HoldsNoSignal, IsBuilt, IsShapeFor, Judges, shown_by_tree, tree_place}
+pub use Rattle.crn_check.specs.Check.{AsksForTree, HoldsNeeds, HoldsNoSignal, HoldsNoTree, IsBuilt, IsShapeFor, Judges, shown_by_tree, tree_place}
 pub use Rattle.crn_check.specs.Facts.{AreFactsOf, HoldsNoneFrom, HoldsOn, KeptFacts, asked}
 pub use Rattle.crn_check.specs.declared.fault.CheckFault.{CheckFault}
 pub use Rattle.crn_ctext.proofs.CallerLemmas.{AreShort, HoldTogether, IsLike, awaited_open, awaits_before, awaits_parts, awaits_then, fails_before, fails_then, fails_with_a_code, given_back, gives_parts, gives_then, head, last_forms, no, no_by, none_by, open_by, read_true, record_is, records_formed, rests, rests_place, settled, spent, spent_place, split_known, step_awaits_like, step_fails_like, step_fails_then, step_gives_like, step_then, text_says, trees_like, turn_is, wide, wide_signal, yes, zip_long}
@@ -68,7 +68,7 @@ pub use Rattle.crn_document.specs.Check.{CheckGives, HasFaultNumber, IsAccepted,
 pub use Rattle.crn_document.specs.Facts.{IsAfterFacts, IsKnownFor, after_facts}
 pub use Rattle.crn_document.specs.Inner.Answer.{AreSmall, AreSmallAt, verdict_of_head}
 pub use Rattle.crn_document.specs.Inner.Answers.{FitAnswer, part_proofs, proof_of_head}
-pub use Rattle.crn_document.specs.Inner.Blocks.{HeadHolds, IsAfter, IsAt, IsBlock, IsOpened, IsReady, IsReadyFor, KeepSides, Learns, after_at, after_by, end_course, forms_below, head_course, many_after, parts_after, rows_course, still_by_tree, tests_course}
+pub use Rattle.crn_document.specs.Inner.Blocks.{HeadHolds, IsAfter, IsAt, IsBlock, IsOpened, IsRead, IsReady, IsReadyFor, KeepSides, Learns, after_at, after_by, end_course, forms_below, head_course, many_after, parts_after, rows_course, still_by_tree, tests_course}
 pub use Rattle.crn_document.specs.Inner.Courses.{IsSaidIn, IsWhole, last_course, rest_course, whole_course}
 pub use Rattle.crn_document.specs.Inner.Ending.{asks_end}
 pub use Rattle.crn_document.specs.Inner.Heads.{FitsCounts, HasClassSizes, IsHead, class_count, head_forms, known_of, tagged}
@@ -80,6 +80,8 @@ pub use Rattle.crn_document.specs.Inner.Signals.{vector_or_none}
 pub use Rattle.crn_document.specs.Inner.Table.{AreListed, IsCount, IsTable, MovesBy}
 pub use Rattle.crn_document.specs.Inner.Trees.{ExpectsNode, HasNodeDue, IsNode, IsSaidAs, JudgeGives, Leaves, NamesTo, TakesSome, after_node, asks_node_for, asks_one, choices_in, count_a, node_test, problem_in}
 unfoldable pub use Rattle.crn_document.specs.Inner.Trees.{asks_due}
+pub use Rattle.crn_document.specs.declared.block.Block.{Block}
+pub use Rattle.crn_document.specs.declared.block.Checked.{Checked}
 pub use Rattle.crn_document.specs.declared.check.Accepted.{Accepted}
 pub use Rattle.crn_document.specs.declared.linkage.Linkage.{Linkage}
 pub use Rattle.crn_document.specs.declared.met.MetLine.{MetLine}

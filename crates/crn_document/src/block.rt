@@ -15,7 +15,7 @@ ghost use Rattle.crn_document.specs.Facts.{with_next};
 ghost use Rattle.crn_reading.specs.Steps.{GoesOn, StepIs};
 ghost use Rattle.crn_document.specs.Inner.Answer.{AreSmall};
 ghost use Rattle.crn_document.specs.Inner.Heads.{IsHead, class_count, known_of};
-ghost use Rattle.crn_document.specs.Inner.Blocks.{HeadHolds, IsAfter, IsBlock, IsReady, IsReadyFor, Learns, after_at, after_by, end_course, head_course, parts_after, rows_course, tests_course};
+ghost use Rattle.crn_document.specs.Inner.Blocks.{HeadHolds, IsAfter, IsBlock, IsRead, IsReady, IsReadyFor, Learns, after_at, after_by, end_course, head_course, rows_course, tests_course};
 
 use crate::answer::{answer_of, bare_verdict};
 use crate::head::next_head;
@@ -41,6 +41,17 @@ pub(crate) struct Checked {
     pub(crate) facts: Facts,
     pub(crate) sides: Rows,
     pub(crate) by_tree: bool,
+}
+
+// The block of a question without its trees: the line of its head, the numbers of the head, the ranks that the records
+// below it prove, and the numbers of these records.
+#[derive(Clone, Copy)]
+pub(crate) struct Block<'a> {
+    pub(crate) question: u32,
+    pub(crate) line: u32,
+    pub(crate) head: &'a [i128],
+    pub(crate) parts: &'a [Part],
+    pub(crate) rows: &'a Rows,
 }
 
 // Tests the records of an answer that no tree shows, and makes its verdict one of the facts.
@@ -89,45 +100,36 @@ fn keep_sides(checked: &mut Checked, question: u32, proof: Proof)
     }
 }
 
-// Tests the records of a block without a tree, whose head is at this line, and keeps the verdict.
+// Tests the records of a block that ends in no tree, and keeps the verdict.
 fn accept(
     at: &Reading,
     net: &Network,
     checked: &mut Checked,
-    question: u32,
-    line: u32,
-    head: &[i128],
-    parts: &[Part],
-    rows: &Rows,
+    block: &Block,
 ) -> Result<(), CheckStop>
     requires goes { GoesOn at.now }
-    requires built { IsBuilt question }
-    requires ready { IsReadyFor net.now question checked.old }
-    requires line { line + 1 + length rows.now ≡ at.now.line }
-    requires heads { HeadHolds net.now checked.old.facts.earlier question head.now }
-    requires treeless { AsksForTree question → number head.now 0 ≡ tree_place question → ⊥ }
-    requires parts { parts.now
-        ≡ parts_after net.now checked.old.facts.earlier question head.now }
-    requires block { (h : Record) × (rs : List Record)
-        × IsBlock net.now checked.old.facts.earlier question head.now rows.now h rs }
-    ensures step { (h : Record) (rs : List Record) (seen : SourceSeen)
-        → IsBlock net.now checked.old.facts.earlier question head.now rows.now h rs
-        → StepIs (tests_course net.now checked.old.facts.earlier question line h rs)
-        (λ _ _. Learns net.now checked.old.facts.earlier question
-        checked.new.facts.earlier h rs)
+    requires read { IsRead net.now checked.old at.now.line block.now }
+    requires treeless { let place = number block.now.head.now 0 in
+        AsksForTree block.now.question → place ≡ tree_place block.now.question → ⊥ }
+    ensures step { let earlier = checked.old.facts.earlier in
+        let q = block.now.question in
+        (h : Record) (rs : List Record) (seen : SourceSeen)
+        → IsBlock net.now earlier block.now h rs
+        → StepIs (tests_course net.now earlier q block.now.line h rs)
+        (λ _ _. Learns net.now earlier q checked.new.facts.earlier h rs)
         result at.now at.now seen seen }
     ensures ready { OnOk result
-        (IsReady net.now (with_next checked.old.facts.earlier question) checked.new) }
+        (IsReady net.now (with_next checked.old.facts.earlier block.now.question) checked.new) }
 {
-    let answer = answer_of(at.alloc, question, head, parts, rows)?;
-    match check_records(at.alloc, net, checked, question, &answer)? {
+    let answer = answer_of(at.alloc, block)?;
+    match check_records(at.alloc, net, checked, block.question, &answer)? {
         Ok(()) => {
-            keep_sides(checked, question, answer.proof);
+            keep_sides(checked, block.question, answer.proof);
             Ok(())
         }
         Err(fault) => Err(CheckStop::Rejected {
             code: fault.code,
-            line: line + fault.part,
+            line: block.line + fault.part,
         }),
     }
 }
@@ -165,48 +167,38 @@ fn accept_shown<S: Source>(
     Ok(())
 }
 
-// What is left of a block, whose head is at this line, after its records: their tests, or the trees that show its
-// verdict.
+// What is left of a block after its records: their tests, or the trees that show its verdict.
 fn end_block<S: Source>(
     source: &mut S,
     at: &mut Reading,
     net: &Network,
     table: &SharedTable,
     checked: &mut Checked,
-    question: u32,
-    line: u32,
-    head: &[i128],
-    parts: &[Part],
-    rows: &Rows,
+    block: &Block,
 ) -> Result<(), CheckStop>
     requires goes { GoesOn at.old }
     requires few { length table.now ≤ MAX_SHARED }
-    requires built { IsBuilt question }
-    requires ready { IsReadyFor net.now question checked.old }
-    requires line { line + 1 + length rows.now ≡ at.old.line }
-    requires heads { HeadHolds net.now checked.old.facts.earlier question head.now }
-    requires parts { parts.now
-        ≡ parts_after net.now checked.old.facts.earlier question head.now }
-    requires block { (h : Record) × (rs : List Record)
-        × IsBlock net.now checked.old.facts.earlier question head.now rows.now h rs }
-    ensures step { (h : Record) (rs : List Record) (blocks : List (List Record))
-        → IsBlock net.now checked.old.facts.earlier question head.now rows.now h rs
-        → StepIs (end_course at.old.version table.now (asked question)
-        (after_at net.now checked.old.facts.earlier line blocks) h rs)
+    requires read { IsRead net.now checked.old at.old.line block.now }
+    ensures step { let earlier = checked.old.facts.earlier in
+        (h : Record) (rs : List Record) (blocks : List (List Record))
+        → IsBlock net.now earlier block.now h rs
+        → StepIs (end_course at.old.version table.now (asked block.now.question)
+        (after_at net.now earlier block.now.line blocks) h rs)
         (λ _ y. IsAfter net.now checked.new.facts.earlier checked.new.by_tree at.new.line y)
         result at.old at.new (S.seen source.old) (S.seen source.new) }
     ensures goes { OnOk result (GoesOn at.new) }
     ensures version { at.new.version ≡ at.old.version }
     ensures ready { OnOk result
-        (IsReady net.now (with_next checked.old.facts.earlier question) checked.new) }
-    ensures plain { OnOk result ((AsksForTree question → ⊥) → checked.new.by_tree ≡ false) }
+        (IsReady net.now (with_next checked.old.facts.earlier block.now.question) checked.new) }
+    ensures plain { OnOk result
+        ((AsksForTree block.now.question → ⊥) → checked.new.by_tree ≡ false) }
 {
-    if ends_in_tree(question, number_of(head, 0)) {
-        accept_shown(source, at, net, table, checked, question)?;
+    if ends_in_tree(block.question, number_of(block.head, 0)) {
+        accept_shown(source, at, net, table, checked, block.question)?;
         checked.by_tree = true;
         return Ok(());
     }
-    accept(at, net, checked, question, line, head, parts, rows)?;
+    accept(at, net, checked, block)?;
     checked.by_tree = false;
     Ok(())
 }
@@ -275,9 +267,14 @@ fn read_rows<S: Source>(
         classes,
     };
     next_rows(source, at, &below, &due, &mut members, &mut rows)?;
-    end_block(
-        source, at, net, table, checked, question, line, head, &parts, &rows,
-    )
+    let block = Block {
+        question,
+        line,
+        head,
+        parts: &parts,
+        rows: &rows,
+    };
+    end_block(source, at, net, table, checked, &block)
 }
 
 // The tests of the head that was just read, and the records below it.

@@ -24,6 +24,7 @@ use Rattle.crn_document.specs.Facts.{IsKnownFor}
 use Rattle.crn_document.specs.Inner.Parts.{IsKnown, before, parts_below}
 use Rattle.crn_document.specs.Inner.Heads.{IsHead, class_count, known_of}
 use Rattle.crn_document.specs.Inner.Records.{many_rows, row_form, rows_below}
+use Rattle.crn_document.specs.declared.block.Block.{Block}
 use Rattle.crn_document.specs.declared.block.Checked.{Checked}
 use Rattle.crn_reading.specs.declared.reading.Reading.{Reading}
 
@@ -124,12 +125,12 @@ abbrev pub HeadHolds : Net → Earlier → (question : ℕ) → List ℤ → Typ
 HeadHolds net earlier question head = AllHold (head_tests net earlier (asked question)
     (verdict_of_head (asked question) head []))
 
--- the head and the records below it have these numbers
-pub record IsBlock (net : Net) (earlier : Earlier) (question : ℕ) (head : List ℤ)
-    (rows : List (List ℤ)) (h : Record) (rs : List Record) : Type 0 where
-  pub is_head : IsHead net earlier question head h
-  pub fit : AllZip Fits (forms_below net earlier question head) rs
-  pub rows_are : rows ≡ lists rs
+-- the head and the records below it have the numbers of this block
+pub record IsBlock (net : Net) (earlier : Earlier) (block : Block) (h : Record)
+    (rs : List Record) : Type 0 where
+  pub is_head : IsHead net earlier block.question block.head.now h
+  pub fit : AllZip Fits (forms_below net earlier block.question block.head.now) rs
+  pub rows_are : block.rows.now ≡ lists rs
 
 -- of the questions that are answered, this one is at this place, counted from 1
 pub record IsAt (place question : ℕ) : Type 0 where
@@ -153,3 +154,13 @@ pub record IsReady (net : Net) (qs : List Question) (checked : Checked) : Type 0
 pub record IsReadyFor (net : Net) (question : ℕ) (checked : Checked) : Type 0 where
   pub known : IsKnownFor net question checked.facts
   pub sides : KeepSides net checked.facts.earlier checked.sides
+
+-- the block was read up to this line, and the tests of its head hold
+pub record IsRead (net : Net) (checked : Checked) (line : ℕ) (block : Block) : Type 0 where
+  pub built : IsBuilt block.question
+  pub ready : IsReadyFor net block.question checked
+  pub ends : block.line + 1 + length block.rows.now ≡ line
+  pub holds : HeadHolds net checked.facts.earlier block.question block.head.now
+  pub parts_are : block.parts.now
+      ≡ parts_after net checked.facts.earlier block.question block.head.now
+  pub some : (h : Record) × (rs : List Record) × IsBlock net checked.facts.earlier block h rs

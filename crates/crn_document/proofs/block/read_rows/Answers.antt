@@ -31,23 +31,25 @@ next_rows-requires-clause-may g c =
     let parts : c.deref.result.now ≡ parts_after c.args.net.now c.args.checked.now.facts.earlier c.args.question c.args.head.now = c.deref.ensures.value ∙ c.in_ok-parts.ensures ∙ ap (λ (ls : List ℕ). parts_below c.args.net.now ls c.args.question c.args.head.now) labels in
     subst (λ (due : List Row). AllByRecursion MayBeRow due) (sym (c.deref-2.ensures.value ∙ c.in_ok-due.ensures)) (rows_may c.args.net.now (strong c.args.checked.now.facts.earlier) (exits c.args.checked.now.facts.earlier) (terminal_of (on c.args.checked.now.facts.earlier Q2)) c.linkage_of-linkage.result.count c.args.question c.number_of-place.result c.deref.result.now (terminal_few c.args.net.now c.args.question c.args.checked.now.facts c.requires.ready.known) (let l = c.linkage_of-linkage.ensures in l.few) (subst AreRanks (sym parts) (let r = f.ranks in r long)))
 
-pub end_block-requires-clause-line : goal.end_block-requires-clause-line
-end_block-requires-clause-line g c =
+pub end_block-requires-clause-read : goal.end_block-requires-clause-read
+end_block-requires-clause-read g c =
+    let net = c.args.net.now in
+    let earlier = c.args.checked.now.facts.earlier in
+    let l = c.linkage_of-linkage.ensures in
     let s = c.in_ok-next_rows.ensures.step in
-    let forms = map (row_form c.args.net.now c.linkage_of-linkage.result.labels.now c.class_count-classes.result) c.deref-2.result.now in
+    let form = row_form net c.linkage_of-linkage.result.labels.now c.class_count-classes.result in
+    let forms = map form c.deref-2.result.now in
+    let same = forms_are net earlier c.args.question c.args.head.now c.linkage_of-linkage.result.labels.now c.linkage_of-linkage.result.count c.class_count-classes.result c.number_of-place.result c.deref.result.now c.deref-2.result.now l.labels_are l.count_is c.class_count-classes.ensures c.number_of-place.ensures (c.deref.ensures.value ∙ c.in_ok-parts.ensures) (c.deref-2.ensures.value ∙ c.in_ok-due.ensures) in
     let counted = rows_counted forms c.next_rows.new.into c.in_ok-rows.rows s.0 c.in_ok-rows.ensures s.1 in
-    let long = length-map c.deref-2.result.now (row_form c.args.net.now c.linkage_of-linkage.result.labels.now c.class_count-classes.result) in
-    omega (arith, counted, long, c.in_ok-next_rows.ensures.line, c.requires.some)
-
-pub end_block-requires-clause-parts : goal.end_block-requires-clause-parts
-end_block-requires-clause-parts g c = c.deref-3.ensures.value ∙ c.in_ok-parts.ensures ∙ ap (λ (ls : List ℕ). parts_below c.args.net.now ls c.args.question c.args.head.now) (let l = c.linkage_of-linkage.ensures in l.labels_are)
-
-pub end_block-requires-clause-block : goal.end_block-requires-clause-block
-end_block-requires-clause-block g c =
-    let s = c.in_ok-next_rows.ensures.step in
-    let forms = map (row_form c.args.net.now c.linkage_of-linkage.result.labels.now c.class_count-classes.result) c.deref-2.result.now in
-    let same = forms_are c.args.net.now c.args.checked.now.facts.earlier c.args.question c.args.head.now c.linkage_of-linkage.result.labels.now c.linkage_of-linkage.result.count c.class_count-classes.result c.number_of-place.result c.deref.result.now c.deref-2.result.now (let l = c.linkage_of-linkage.ensures in l.labels_are) (let l = c.linkage_of-linkage.ensures in l.count_is) c.class_count-classes.ensures c.number_of-place.ensures (c.deref.ensures.value ∙ c.in_ok-parts.ensures) (c.deref-2.ensures.value ∙ c.in_ok-due.ensures) in
-    (c.requires.head.0, s.0, rows_block c.args.net.now c.args.checked.now.facts.earlier c.args.question c.args.head.now forms c.next_rows.new.into c.in_ok-rows.rows c.requires.head.0 s.0 same c.in_ok-rows.ensures c.requires.head.1 s.1)
+    let long = length-map c.deref-2.result.now form in
+    record {
+      built = c.requires.built;
+      ready = c.requires.ready;
+      ends = omega (arith, counted, long, c.in_ok-next_rows.ensures.line, c.requires.some);
+      holds = c.requires.heads;
+      parts_are = c.deref-3.ensures.value ∙ c.in_ok-parts.ensures ∙ ap (λ (ls : List ℕ). parts_below net ls c.args.question c.args.head.now) l.labels_are;
+      some = (c.requires.head.0, s.0, rows_block net earlier _ forms c.in_ok-rows.rows c.requires.head.0 s.0 same c.in_ok-rows.ensures c.requires.head.1 s.1);
+    }
 
 pub returns-in_err-parts-clause-step : goal.returns-in_err-parts-clause-step
 returns-in_err-parts-clause-step g c = λ h n blocks said next.
@@ -89,10 +91,9 @@ returns-clause-step g c = λ h n blocks said next.
     let s = c.in_ok-next_rows.ensures.step in
     let forms = map (row_form net c.linkage_of-linkage.result.labels.now c.class_count-classes.result) c.deref-2.result.now in
     let same = forms_are net earlier c.args.question c.args.head.now c.linkage_of-linkage.result.labels.now c.linkage_of-linkage.result.count c.class_count-classes.result c.number_of-place.result c.deref.result.now c.deref-2.result.now (let l = c.linkage_of-linkage.ensures in l.labels_are) (let l = c.linkage_of-linkage.ensures in l.count_is) c.class_count-classes.ensures c.number_of-place.ensures (c.deref.ensures.value ∙ c.in_ok-parts.ensures) (c.deref-2.ensures.value ∙ c.in_ok-due.ensures) in
-    let block = rows_block net earlier c.args.question c.args.head.now forms c.next_rows.new.into c.in_ok-rows.rows h s.0 same c.in_ok-rows.ensures said s.1 in
     let line : at.line - 1 ≡ n = omega (arith, next) in
     let Says : Unit {0} → AfterBlocks Known → Type 0 = λ t y. IsAfter net c.end_block.new.checked.facts.earlier c.end_block.new.checked.by_tree last.line y in
-    let rest : StepIs (end_course mid.version table q (after_at net earlier (at.line - 1) blocks) h s.0) Says c.end_block.result mid last between now = let e = c.end_block.ensures.step in e h s.0 blocks block in
+    let rest : StepIs (end_course mid.version table q (after_at net earlier (at.line - 1) blocks) h s.0) Says c.end_block.result mid last between now = let e = c.end_block.ensures.step in e h s.0 blocks (rows_block net earlier _ forms c.in_ok-rows.rows h s.0 same c.in_ok-rows.ensures said s.1) in
     rows_course_by (λ d. StepIs d Says c.end_block.result at last before now) at.version table net c.args.checked.now.facts c.args.question n at.line c.args.head.now h blocks c.requires.built c.requires.ready.known said next
     (step_then_is (asks_all at.version at.line false (forms_below net earlier c.args.question c.args.head.now)) (λ rows. end_course at.version table q (after_at net earlier n blocks) h rows) s.0 Says c.end_block.result at mid last before between now
     (subst (λ (fs : List Form). StepGives (asks_all at.version at.line false fs) s.0 at.line mid.line at.lines mid.lines before.left between.left) same s.2) s.3
