@@ -17,7 +17,6 @@ ghost use Rattle.crn_solve.specs.Turns.{PreferTheVector};
 ghost use Rattle.crn_solve.specs.Visits.{HaveNodeForEachVisit};
 ghost use Rattle.crn_solve.specs.Inner.Solved.{AreFirstAnswers};
 
-use crate::concordance::{concordance_verdicts, decide_concordance};
 use crate::confluence_answer::confluence_answer;
 use crate::deficiency_answer::deficiency_answer;
 use crate::linkage_answer::linkage_answer;
@@ -30,7 +29,7 @@ use crate::strong_answer::strong_answer;
 use crate::systems::species_matrix;
 use crate::zero_answer::zero_answer;
 use crn_cert::{Answer, Answers, Gap, Verdict, Verdicts};
-use crn_conc::reaction_matrix;
+use crn_conc::{concordance_verdicts, decide_concordance, reaction_matrix};
 use crn_defi::one_hypotheses;
 use crn_farkas::Solver;
 use crn_graph::{linkage, strong};

@@ -2,7 +2,6 @@
 #![tactic(auto)]
 
 mod answers;
-mod concordance;
 mod confluence_answer;
 mod deficiency_answer;
 mod linkage_answer;

@@ -15,7 +15,7 @@ returns c =
     let net = c.args.net.now in
     let budget = c.args.budget in
     let h = c.in_ok-on_tables.ensures in
-    let s = solved_after net budget c.in_ok-first.first.answers _ _ c.in_ok-first.ensures.answers (record { first = h.plain; first_few = h.plain_nodes; second = h.strong; second_few = h.strong_nodes; first_spent = h.plain_spent; second_spent = h.strong_spent }) in
+    let s = solved_after net budget c.in_ok-first.first.answers _ _ c.in_ok-first.ensures.answers (record { first = h.plain; first_few = h.plain_nodes; second = h.strong; second_few = h.strong_nodes; first_spent = λ earlier. h.plain_spent; second_spent = λ earlier. h.strong_spent }) in
     let t = subst (λ (answers : List Answer). AreSolved net budget answers) (sym (two_more c.in_ok-first.first.answers _ _ _ _ c.push.ensures c.push-2.ensures)) s in
     let visits = visits_after net budget c.in_ok-first.first.answers _ _ c.in_ok-first.ensures.answers h.plain_visits h.strong_visits in
     let all = subst (HaveNodeForEachVisit net) (sym (two_more c.in_ok-first.first.answers _ _ _ _ c.push.ensures c.push-2.ensures)) visits in

@@ -23,8 +23,8 @@ returns c =
       first_few = h.few;
       second = k.is;
       second_few = k.few;
-      first_spent = λ earlier spent. subst IsOpen h.verdict_is (on_tables.plain_spent earlier spent);
-      second_spent = λ earlier spent. subst IsOpen k.verdict_is (on_tables.strong_spent earlier spent);
+      first_spent = λ earlier spent. subst IsOpen h.verdict_is (on_tables.plain_spent spent);
+      second_spent = λ earlier spent. subst IsOpen k.verdict_is (on_tables.strong_spent spent);
     }) in
     let e = verdicts_with c.in_ok-first.first.answers h.answer k.answer c.in_ok-on_tables.on_tables.plain c.in_ok-on_tables.on_tables.strong _ _ _ h.verdict_is k.verdict_is c.in_ok-verdicts.ensures c.push_verdict.ensures c.push_verdict-2.ensures in
     record {
