@@ -20,6 +20,7 @@ ghost use Rattle.crn_solve.specs.Inner.Solved.{AreFirstAnswers};
 use crate::confluence_answer::confluence_answer;
 use crate::deficiency_answer::deficiency_answer;
 use crate::linkage_answer::linkage_answer;
+use crate::open::rests_on;
 use crate::parts::is_open;
 use crate::positive::{conservative, positively_dependent};
 use crate::rank_answer::rank_answer;
@@ -28,7 +29,7 @@ use crate::signal_answer::signal_answer;
 use crate::strong_answer::strong_answer;
 use crate::systems::species_matrix;
 use crate::zero_answer::zero_answer;
-use crn_cert::{Answer, Answers, Gap, Verdict, Verdicts};
+use crn_cert::{Answer, Answers, Verdict, Verdicts};
 use crn_conc::{concordance_verdicts, decide_concordance, reaction_matrix};
 use crn_defi::one_hypotheses;
 use crn_farkas::Solver;
@@ -167,8 +168,8 @@ pub fn solve(alloc: Global, net: &Network, budget: u32) -> Result<Answers, NoMem
     Ok(answers)
 }
 
-/// The answers on linkage classes, strong classes and the rank, each in the place of its question. The two places
-/// between them hold open answers.
+/// Five answers: those to questions 1, 2 and 5, on linkage classes, strong classes and the rank, each in the place of its
+/// question, and open ones in the places of questions 3 and 4. There is no sixth.
 pub fn solve_rank(alloc: Global, net: &Network) -> Result<Answers, NoMemory>
     ensures { IfOk result (λ answers. (budget : ℕ) → AreRankAnswers net.now budget answers) }
 {
@@ -181,8 +182,8 @@ pub fn solve_rank(alloc: Global, net: &Network) -> Result<Answers, NoMemory>
     let mut answers = Answers::new(alloc)?;
     answers.push(linkage_answer(linkage));
     answers.push(strong_answer(strong));
-    answers.push(Answer::plain(Verdict::Unknown(Gap::Rests { question: 5 })));
-    answers.push(Answer::plain(Verdict::Unknown(Gap::Rests { question: 5 })));
+    answers.push(rests_on(5));
+    answers.push(rests_on(5));
     answers.push(rank);
     Ok(answers)
 }

@@ -6,8 +6,9 @@ ghost use Rattle.crn_cert.specs.Law.{IsTrueOrOpen};
 ghost use Rattle.crn_cert.specs.Given.{GiveClasses};
 ghost use Rattle.crn_cert.specs.Answered.{IsAnswer};
 
+use crate::open::rests_on;
 use crate::parts::{is_open, is_yes};
-use crn_cert::{Answer, Gap, Verdict};
+use crn_cert::{Answer, Verdict};
 use crn_graph::{LinkageData, StrongData};
 use crn_net::Network;
 use crn_reg::confluence;
@@ -39,7 +40,7 @@ pub(crate) fn confluence_answer(
         return confluence(alloc, net, linkage, strong, is_yes(weak));
     }
     if is_open(regular) {
-        return Ok(Answer::plain(Verdict::Unknown(Gap::Rests { question: 11 })));
+        return Ok(rests_on(11));
     }
     Ok(Answer::plain(Verdict::NotRegular))
 }

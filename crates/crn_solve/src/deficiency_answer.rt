@@ -6,8 +6,9 @@ ghost use Rattle.crn_cert.specs.Valid.{linkage, linkage_count};
 ghost use Rattle.crn_cert.specs.Answered.{IsAnswer};
 ghost use Rattle.crn_solve.specs.Inner.Answered.{IsRankOrOpen};
 
+use crate::open::rests_on;
 use crate::parts::rank_of;
-use crn_cert::{Answer, Gap, Verdict};
+use crn_cert::{Answer, Verdict};
 use crn_defi::deficiencies;
 use crn_graph::LinkageData;
 use crn_net::Network;
@@ -29,6 +30,6 @@ pub(crate) fn deficiency_answer(
 {
     match rank_of(rank) {
         Some(rank) => deficiencies(alloc, net, classes, rank),
-        None => Ok(Answer::plain(Verdict::Unknown(Gap::Rests { question: 5 }))),
+        None => Ok(rests_on(5)),
     }
 }

@@ -5,6 +5,7 @@ mod answers;
 mod confluence_answer;
 mod deficiency_answer;
 mod linkage_answer;
+mod open;
 mod parts;
 mod positive;
 mod rank_answer;

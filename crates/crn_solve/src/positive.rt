@@ -8,9 +8,10 @@ ghost use Rattle.crn_cert.specs.Answered.{IsAnswer};
 ghost use Rattle.crn_solve.specs.Inner.Given.{vector_answer};
 ghost use Rattle.crn_solve.specs.Laws.{IsLawDecision, IsLawStop};
 
+use crate::open::wide_answer;
 use crate::parts::is_open;
 use crate::systems::{positive_kinds, species_matrix};
-use crn_cert::{Answer, Gap, Verdict};
+use crn_cert::{Answer, Verdict};
 use crn_farkas::{Decision, Solver, Stop};
 use crn_net::Network;
 use crn_tab::Tableau;
@@ -83,12 +84,7 @@ pub(crate) fn positively_dependent(
     };
     let answer = match decide_positive(alloc, matrix, &mut solver, viewed) {
         Ok(decision) => vector_answer(decision),
-        Err(Stop::Wide { index, basis }) => Answer::plain(Verdict::Unknown(Gap::Wide {
-            system: 2,
-            class: 0,
-            index,
-            basis,
-        })),
+        Err(Stop::Wide { index, basis }) => wide_answer(2, index, basis),
         Err(Stop::NoMemory) => return Err(NoMemory),
     };
     Ok(Dependence { answer, solver })
@@ -111,12 +107,7 @@ pub(crate) fn conservative(
     let mut solver = Solver::new(alloc, matrix)?;
     match decide_positive(alloc, matrix, &mut solver, viewed) {
         Ok(decision) => Ok(vector_answer(decision)),
-        Err(Stop::Wide { index, basis }) => Ok(Answer::plain(Verdict::Unknown(Gap::Wide {
-            system: 1,
-            class: 0,
-            index,
-            basis,
-        }))),
+        Err(Stop::Wide { index, basis }) => Ok(wide_answer(1, index, basis)),
         Err(Stop::NoMemory) => Err(NoMemory),
     }
 }

@@ -6,7 +6,8 @@ ghost use Rattle.crn_cert.specs.Questions.{Earlier, Q5};
 ghost use Rattle.crn_cert.specs.Answered.{IsAnswer};
 ghost use Rattle.crn_solve.specs.Inner.Given.{IsRankAnswer};
 
-use crn_cert::{Answer, Gap, Proof, RankProof, Verdict};
+use crate::open::wide_answer;
+use crn_cert::{Answer, Proof, RankProof, Verdict};
 use crn_farkas::Stop;
 use crn_net::Network;
 use crn_rank::rank_by;
@@ -54,12 +55,7 @@ pub(crate) fn rank_answer(
     let all = all_reactions(alloc, net)?;
     match rank_by(alloc, net, &all, tableau) {
         Ok(proof) => base_answer(proof),
-        Err(Stop::Wide { index, basis }) => Ok(Answer::plain(Verdict::Unknown(Gap::Wide {
-            system: 1,
-            class: 0,
-            index,
-            basis,
-        }))),
+        Err(Stop::Wide { index, basis }) => Ok(wide_answer(1, index, basis)),
         Err(Stop::NoMemory) => Err(NoMemory),
     }
 }

@@ -12,8 +12,9 @@ ghost use Rattle.crn_shelf.specs.Order.{IsForNegative};
 ghost use Rattle.crn_shelf.specs.Visits.{ListSignalVisits};
 ghost use Rattle.crn_solve.specs.Inner.Sides.{GiveSides};
 
+use crate::open::rests_on;
 use crate::parts::{is_open, is_yes};
-use crn_cert::{Answer, Gap, Proof, Verdict};
+use crn_cert::{Answer, Proof, Verdict};
 use crn_graph::StrongData;
 use crn_net::Network;
 use crn_shelf::signal;
@@ -52,7 +53,7 @@ pub(crate) fn signal_answer(
 {
     net.meets_definition();
     if is_open(confluence) {
-        return Ok(Answer::plain(Verdict::Unknown(Gap::Rests { question: 12 })));
+        return Ok(rests_on(12));
     }
     match (confluence, regular) {
         (Verdict::YesVec { vector }, Proof::Sides(sides)) => {

@@ -6,8 +6,9 @@ ghost use Rattle.crn_cert.specs.Valid.{linkage, linkage_count};
 ghost use Rattle.crn_cert.specs.Answered.{IsAnswer};
 ghost use Rattle.crn_solve.specs.Inner.Answered.{IsRankOrOpen};
 
+use crate::open::rests_on;
 use crate::parts::{is_yes, rank_of};
-use crn_cert::{Answer, Gap, Verdict};
+use crn_cert::{Answer, Verdict};
 use crn_defi::zero_hypotheses;
 use crn_graph::LinkageData;
 use crn_net::Network;
@@ -29,6 +30,6 @@ pub(crate) fn zero_answer(
 {
     match rank_of(rank) {
         Some(rank) => zero_hypotheses(net, classes, is_yes(weak), rank),
-        None => Answer::plain(Verdict::Unknown(Gap::Rests { question: 5 })),
+        None => rests_on(5),
     }
 }

@@ -24,11 +24,11 @@ returns-then-is_yes c =
 pub returns-then-is_open : goal.returns-then-is_open
 returns-then-is_open c budget earlier gives weak is =
     let net = c.args.net.now in
-    subst (IsAnswer net budget earlier Q12) (sym c.plain.ensures) (confluence_rests net budget earlier c.args.regular.now (c.is_open.ensures.0 c.if-is_open.true) is)
+    subst (IsAnswer net budget earlier Q12) (sym c.rests_on.ensures) (confluence_rests net budget earlier c.args.regular.now (c.is_open.ensures.0 c.if-is_open.true) is)
 
 pub returns : goal.returns
 returns c budget earlier gives weak is =
     let net = c.args.net.now in
     let v = c.args.regular.now in
-    subst (IsAnswer net budget earlier Q12) (sym c.plain-2.ensures) (irregular_given net budget earlier c.args.linkage.now c.args.strong.now c.args.weak.now v c.meets_definition.ensures c.requires.classes c.requires.strong_classes c.requires.weak c.requires.regular
+    subst (IsAnswer net budget earlier Q12) (sym c.plain.ensures) (irregular_given net budget earlier c.args.linkage.now c.args.strong.now c.args.weak.now v c.meets_definition.ensures c.requires.classes c.requires.strong_classes c.requires.weak c.requires.regular
     (λ y. false≢true (sym c.if-is_yes.false ∙ c.is_yes.ensures.1 y)) (λ o. false≢true (sym c.if-is_open.false ∙ c.is_open.ensures.1 o)) is)

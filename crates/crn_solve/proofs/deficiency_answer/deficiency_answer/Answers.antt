@@ -17,4 +17,4 @@ returns-in-Some c =
 pub returns-in-None : goal.returns-in-None
 returns-in-None c budget earlier labels count is =
     let net = c.args.net.now in
-    subst (IsAnswer net budget earlier Q6) (sym c.plain.ensures) (rests_given net budget earlier c.args.rank.now (c.requires.rank.or_open (sym c.in-None.ensures)) is)
+    subst (IsAnswer net budget earlier Q6) (sym c.rests_on.ensures) (rests_given net budget earlier c.args.rank.now (c.requires.rank.or_open (sym c.in-None.ensures)) is)

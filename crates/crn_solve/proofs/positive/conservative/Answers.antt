@@ -15,4 +15,4 @@ returns-in-Err-Wide c budget earlier =
     let a = c.args.matrix.now in
     let named : IsStop a (positive_kinds a) (Wide w.index w.basis) = subst (IsStop a (positive_kinds a)) w.field-0-is w.ensures.answer in
     let s = subst (λ (b : Mat). IsStop b (positive_kinds b) (Wide w.index w.basis)) c.requires.matrix named in
-    subst (IsAnswer net budget earlier Q8) (sym c.plain.ensures) (law_wide net budget earlier w.index w.basis s)
+    subst (IsAnswer net budget earlier Q8) (sym c.wide_answer.ensures) (law_wide net budget earlier w.index w.basis s)

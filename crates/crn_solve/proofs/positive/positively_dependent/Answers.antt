@@ -15,5 +15,5 @@ returns-clause-answer c budget earlier =
           let e = w.in-Err-Wide in
           let named : IsStop a (positive_kinds a) (Wide e.index e.basis) = subst (IsStop a (positive_kinds a)) e.field-0-is e.ensures.answer in
           let s = subst (λ (b : Mat). IsStop b (positive_kinds b) (Wide e.index e.basis)) c.requires named in
-          subst (IsAnswer net budget earlier Q7) (sym (w.answer-is ∙ w.plain-answer.ensures)) (dependence_wide net budget earlier e.index e.basis s)
+          subst (IsAnswer net budget earlier Q7) (sym (w.answer-is ∙ w.wide_answer-answer.ensures)) (dependence_wide net budget earlier e.index e.basis s)
     ]

@@ -32,4 +32,4 @@ returns-in-Err-Wide-clause-answer c budget earlier =
     let w = c.in-Err-Wide in
     let named : IsWideStop (member_matrix net c.deref.result.now) (Wide w.index w.basis) = subst (IsWideStop (member_matrix net c.deref.result.now)) w.field-0-is w.ensures.stop in
     let all = subst (λ (l : List ℕ). NamesWide (member_matrix net l) w.index w.basis.list) (c.deref.ensures.value ∙ c.in_ok-all.ensures) named in
-    subst (IsAnswer net budget earlier Q5) (sym c.plain.ensures) (rank_wide net budget earlier w.index w.basis all)
+    subst (IsAnswer net budget earlier Q5) (sym c.wide_answer.ensures) (rank_wide net budget earlier w.index w.basis all)

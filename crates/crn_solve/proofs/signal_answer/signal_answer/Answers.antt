@@ -19,7 +19,7 @@ signal-requires-clause-weak c = weak_is c.args.net.now c.args.weak.now c.is_yes.
 
 pub returns-then-is_open-clause-answer : goal.returns-then-is_open-clause-answer
 returns-then-is_open-clause-answer c earlier strong four twelve =
-    subst (IsAnswer c.args.net.now c.args.budget earlier Q13) (sym c.plain.ensures) (signal_rests c.args.net.now c.args.budget earlier c.args.confluence.now (c.is_open.ensures.0 c.if-is_open.true) twelve)
+    subst (IsAnswer c.args.net.now c.args.budget earlier Q13) (sym c.rests_on.ensures) (signal_rests c.args.net.now c.args.budget earlier c.args.confluence.now (c.is_open.ensures.0 c.if-is_open.true) twelve)
 
 pub returns-in-YesVec-Sides-clause-answer : goal.returns-in-YesVec-Sides-clause-answer
 returns-in-YesVec-Sides-clause-answer c =
@@ -38,10 +38,10 @@ no_visits net None answer other e none = tt
 no_visits net (Some g) answer other e none = subst (ListSignalVisits net g) (sym (ap (λ (a : Answer). a.proof) e ∙ none)) tt
 
 pub returns-then-is_open-clause-visits : goal.returns-then-is_open-clause-visits
-returns-then-is_open-clause-visits c = no_visits c.args.net.now (vector_given c.args.confluence.now) c.plain.result _ c.plain.ensures refl
+returns-then-is_open-clause-visits c = no_visits c.args.net.now (vector_given c.args.confluence.now) c.rests_on.result _ c.rests_on.ensures refl
 
 pub returns-in_default-clause-visits : goal.returns-in_default-clause-visits
-returns-in_default-clause-visits c = no_visits c.args.net.now (vector_given c.args.confluence.now) c.plain-in_default.result _ c.plain-in_default.ensures refl
+returns-in_default-clause-visits c = no_visits c.args.net.now (vector_given c.args.confluence.now) c.plain.result _ c.plain.ensures refl
 
 pub returns-in-YesVec-Sides-clause-visits : goal.returns-in-YesVec-Sides-clause-visits
 returns-in-YesVec-Sides-clause-visits c =
@@ -53,10 +53,10 @@ returns-in-YesVec-Sides-clause-visits c =
     (λ answer h. subst (λ (w : Verdict). IfSome (vector_given w) (λ l. ListSignalVisits net l answer.proof)) (sym c.in-YesVec-Sides.is-0) (subst (λ (l : List ℤ). ListSignalVisits net l answer.proof) c.as_slice-g.ensures h)) c.signal.ensures.visits
 
 pub returns-then-is_open-clause-spent : goal.returns-then-is_open-clause-spent
-returns-then-is_open-clause-spent c = λ earlier twelve pass. subst (λ (a : Answer). IsOpen a.verdict) (sym c.plain.ensures) tt
+returns-then-is_open-clause-spent c = λ earlier twelve pass. subst (λ (a : Answer). IsOpen a.verdict) (sym c.rests_on.ensures) tt
 
 pub returns-then-is_open-clause-first : goal.returns-then-is_open-clause-first
-returns-then-is_open-clause-first c = λ yes. absurd (subst (λ (a : Answer). IsForNegative a.verdict) c.plain.ensures yes)
+returns-then-is_open-clause-first c = λ yes. absurd (subst (λ (a : Answer). IsForNegative a.verdict) c.rests_on.ensures yes)
 
 pub returns-in-YesVec-Sides-clause-spent : goal.returns-in-YesVec-Sides-clause-spent
 returns-in-YesVec-Sides-clause-spent c =

@@ -18,4 +18,4 @@ returns-in-Some c budget earlier labels count weak is =
 pub returns-in-None : goal.returns-in-None
 returns-in-None c budget earlier labels count weak is =
     let net = c.args.net.now in
-    subst (IsAnswer net budget earlier Q9) (sym c.plain.ensures) (zero_rests_given net budget earlier c.args.rank.now (c.requires.rank.or_open (sym c.in-None.ensures)) is)
+    subst (IsAnswer net budget earlier Q9) (sym c.rests_on.ensures) (zero_rests_given net budget earlier c.args.rank.now (c.requires.rank.or_open (sym c.in-None.ensures)) is)
