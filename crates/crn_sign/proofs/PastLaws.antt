@@ -1,18 +1,47 @@
 -- What past multipliers rule out, by the marks of the list (-uA, u).
-use Rattle.crn_sign.proofs.Prelude.{◌≡◌, ◌≢◌, ℕ, zero, suc, ◌+◌, ◌-◌, ◌≤◌, ◌<◌, ◌/◌, ◌%◌, inl, inr, List, [], ◌∷◌, ◌++◌, length, get_or, take, drop, replicate, Bool, true, false, refl, sym, ap, ap₂, subst, ◌∙◌, add-one, arith, lit≤, pos, negsuc, neg_ℤ, ◌*ℤ◌, unsigned_abs, ints, length-drop, length-replicate, get_or-drop, get_or_past, WIDE_ENTRY, WIDE_SOLUTION, Sign, Kind, ZeroKind, Pos, Neg, NonNeg, Free, Mat, entry, dot, column, scale, HasSign, AreWithin, width, InDualSpace, MayWeigh, is_signed, kind_at, eq_or, lt_or, zip_from, within_from, entry-scale, length-scale, factor, IsSmallCut, dual_scaled, drop-scale, scaled_small, Bits, Mark, Zero, bit_of, weakened, IsMarked, mark_at, mark_in, none, word_at, word_count, HasMark, kind_of_mark, kinds_of, sign_mark, AllWeigh, AreMarksOf, IsPast, SomeCounts, mark_of_multiple}
+use Rattle.crn_sign.proofs.Prelude.{AllByRecursion, IsSummedAt, dot_at, ◌+ℤ◌, all_push, dot_step, length-append, nought_adds, take_all, take_more, ◌≡◌, ◌≢◌, ℕ, zero, suc, ◌+◌, ◌-◌, ◌≤◌, ◌<◌, ◌/◌, ◌%◌, inl, inr, List, [], ◌∷◌, ◌++◌, length, get_or, take, drop, replicate, Bool, true, false, refl, sym, ap, ap₂, subst, ◌∙◌, add-one, arith, lit≤, pos, negsuc, neg_ℤ, ◌*ℤ◌, unsigned_abs, ints, length-drop, length-replicate, get_or-drop, get_or_past, WIDE_ENTRY, WIDE_SOLUTION, Sign, Kind, ZeroKind, Pos, Neg, NonNeg, Free, Mat, entry, dot, column, scale, HasSign, AreWithin, width, InDualSpace, MayWeigh, is_signed, kind_at, eq_or, lt_or, zip_from, within_from, entry-scale, length-scale, factor, IsSmallCut, dual_scaled, drop-scale, scaled_small, Bits, Mark, Zero, bit_of, weakened, IsMarked, mark_at, mark_in, none, word_at, word_count, HasMark, kind_of_mark, kinds_of, sign_mark, AllWeigh, AreMarksOf, IsPast, SomeCounts, mark_of_multiple}
 use Rattle.std.specs.Prelude.{ℤ}
 use Rattle.crn_sign.proofs.BitLaws.{none_in}
 use Rattle.crn_sign.proofs.MarkLaws.{kind_asked, kinds_long, negated_mark, plain_mark, signed_mark}
 
--- ---- columns
+-- ---- sums over the places at which a list is not 0
 
-column_suc : (rows : List (List ℤ)) (i j : ℕ) → i < length rows → column (take (suc i) rows) j ≡ column (take i rows) j ++ entry (get_or rows i []) j ∷ []
-column_suc [] i j lt = absurd (omega (arith, lt))
-column_suc (r ∷ rows) zero j lt = refl
-column_suc (r ∷ rows) (suc i) j lt = ap (λ (t : List ℤ). entry r j ∷ t) (column_suc rows i j (omega (arith, lt)))
+dot_at-push : (u v : List ℤ) (places : List ℕ) (k : ℕ) → dot_at u v (places ++ k ∷ []) ≡ dot_at u v places +ℤ (entry u k *ℤ entry v k)
+dot_at-push u v [] k = omega (arith, ints)
+dot_at-push u v (p ∷ places) k = omega (arith, ints, dot_at-push u v places k)
 
-pub column_step : (rows : List (List ℤ)) (i j : ℕ) → i < length rows → column (take (i + 1) rows) j ≡ column (take i rows) j ++ entry (get_or rows i []) j ∷ []
-column_step rows i j lt = rw add-one (column_suc rows i j lt)
+pub dot_at-step : (u v : List ℤ) (places : List ℕ) (i : ℕ) → i < length places → dot_at u v (take (i + 1) places) ≡ dot_at u v (take i places) +ℤ (entry u (get_or places i 0) *ℤ entry v (get_or places i 0))
+dot_at-step u v places i lt = ap (dot_at u v) (take_more places i 0 lt) ∙ dot_at-push u v (take i places) (get_or places i 0)
+
+-- before place n, at other places than these, the list adds nothing to a sum of products
+pub record IsSummedTo (u : List ℤ) (n : ℕ) (places : List ℕ) : Type 0 where
+  pub few : length places ≤ n
+  pub inside : AllByRecursion (λ k. k < length u) places
+  pub sum : (v : List ℤ) → length v ≡ length u → dot (take n u) (take n v) ≡ dot_at u v places
+
+pub summed_none : (u : List ℤ) (places : List ℕ) → places ≡ [] → IsSummedTo u 0 places
+summed_none u places e = subst (λ (l : List ℕ). IsSummedTo u 0 l) (sym e) (record { few = omega arith; inside = tt; sum = λ v same. refl })
+
+pub summed_pass : (u : List ℤ) (n : ℕ) (places : List ℕ) → n < length u → entry u n ≡ pos 0 → IsSummedTo u n places → IsSummedTo u (n + 1) places
+summed_pass u n places lt none h = record {
+  few = omega (arith, h.few);
+  inside = h.inside;
+  sum = λ v same. dot_step u v n lt (omega (arith, lt, same)) ∙ sym (nought_adds (dot (take n u) (take n v)) (entry u n) (entry v n) none) ∙ h.sum v same;
+}
+
+pub summed_push : (u : List ℤ) (n : ℕ) (places : List ℕ) → n < length u → IsSummedTo u n places → IsSummedTo u (n + 1) (places ++ n ∷ [])
+summed_push u n places lt h = record {
+  few = omega (arith, h.few, length-append places (n ∷ []));
+  inside = all_push (λ k. k < length u) places n h.inside lt;
+  sum = λ v same. dot_step u v n lt (omega (arith, lt, same)) ∙ ap (λ (x : ℤ). x +ℤ (entry u n *ℤ entry v n)) (h.sum v same) ∙ sym (dot_at-push u v places n);
+}
+
+pub summed_all : (u : List ℤ) (n : ℕ) (places : List ℕ) → n ≡ length u → IsSummedTo u n places → IsSummedAt u places
+summed_all u n places end h = record {
+  few = omega (arith, end, h.few);
+  inside = h.inside;
+  sum = λ v same. sym (ap₂ dot (take_all n u (omega (arith, end))) (take_all n v (omega (arith, end, same)))) ∙ h.sum v same;
+}
 
 pub within_solution : (u : List ℤ) → ((k : ℕ) → unsigned_abs (entry u k) < WIDE_ENTRY) → AreWithin (WIDE_SOLUTION) u
 within_solution u h = within_from (WIDE_SOLUTION) u (λ k lt. let le : WIDE_ENTRY ≤ WIDE_SOLUTION = lit≤ tt in omega (arith, h k, le))

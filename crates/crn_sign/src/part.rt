@@ -11,7 +11,6 @@ ghost use Rattle.crn_sign.specs.Inner.Parts.{IsPart, IsRuling};
 ghost use Rattle.crn_sign.specs.Inner.Places.{IsPlace};
 
 use crate::bits::Bits;
-use crate::columns::{Column, columns_of};
 use crate::finder::Finder;
 use crate::marks::kinds_of;
 use crate::past::{Past, PastCuts, empty_cuts, first_again, keep_cut, share};
@@ -23,13 +22,11 @@ use std::rc::Rc;
 
 /// What finds vectors for a part, and multipliers that ruled its systems out, by the lengths of their prefixes.
 ///
-/// The matrix's columns are kept once some multipliers are. The part has decided once the solver was asked about a
-/// system and did not stop.
+/// The part has decided once the solver was asked about a system and did not stop.
 #[derive(Drop)]
 pub(crate) struct Part {
     pub finder: Finder,
     pub past_cuts: Vec<PastCuts>,
-    pub columns: Vec<Column>,
     pub has_decided: bool,
 }
 
@@ -47,7 +44,6 @@ impl Part {
         Ok(Part {
             finder: Finder::new(alloc, matrix, solver)?,
             past_cuts: empty_cuts(alloc, matrix, choices)?,
-            columns: Vec::new(alloc),
             has_decided: false,
         })
     }
@@ -73,18 +69,6 @@ impl Part {
         Ok(None)
     }
 
-    // Keeps the columns of the matrix, if none are kept.
-    fn keep_columns(&mut self, matrix: &Matrix) -> Result<(), NoMemory>
-        requires { IsPart matrix.now self.old }
-        ensures { OnOk result (IsPart matrix.now self.new) }
-    {
-        if !self.columns.is_empty() {
-            return Ok(());
-        }
-        self.columns = columns_of(self.finder.alloc, matrix)?;
-        Ok(())
-    }
-
     // The multipliers of the vector by which the system has no solution. They are kept.
     fn keep_multipliers(
         &mut self,
@@ -104,8 +88,7 @@ impl Part {
     {
         let kinds = kinds_of(self.finder.alloc, matrix, weak, asked)?;
         let u = self.finder.solver.multipliers(&kinds, cut)?;
-        self.keep_columns(matrix)?;
-        let past = Past::new(self.finder.alloc, matrix, &self.columns, &kinds, u)?;
+        let past = Past::new(self.finder.alloc, matrix, &kinds, u)?;
         let u = share(&past.multipliers)?;
         keep_cut(&mut self.past_cuts, matrix, past, depth)?;
         Ok(u)

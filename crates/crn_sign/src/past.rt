@@ -4,14 +4,14 @@ ghost use Rattle.crn_vec.specs.Vectors.{Mat, HasSign, entry, scale};
 ghost use Rattle.crn_vec.specs.Elementary.{InDualSpace, width};
 ghost use Rattle.crn_vec.specs.declared.limits.TheConstants.{WIDE_ENTRY};
 ghost use Rattle.crn_farkas.specs.Decision.{IsSmallCut, factor};
-ghost use Rattle.crn_sign.specs.Inner.Columns.{AreColumns};
+ghost use Rattle.crn_sign.specs.Inner.Columns.{IsSummedAt};
 ghost use Rattle.crn_sign.specs.Inner.Bits.{IsMarked, mark_in, word_count};
 ghost use Rattle.crn_sign.specs.Inner.Marks.{kinds_of, sign_mark};
 ghost use Rattle.crn_sign.specs.Inner.Past.{AllWeigh, AreMarksOf, Counts, SomeCounts, Weighs, mark_of_multiple};
 ghost use Rattle.crn_sign.specs.Inner.PastCuts.{AreAllPast, ArePastCuts, IsPastOf};
 
 use crate::bits::{Bits, NONE, put_mark, word_of};
-use crate::columns::{Column, column_product};
+use crate::columns::{column_product, support_of};
 use crate::marks::{mark_of_sign, opposite as negatives_of, word_count};
 use crn_vec::{Ints, Kind, Matrix, NoMemory, Sign, sign_of};
 use std::alloc::Global;
@@ -108,27 +108,21 @@ fn some_counts(asked: &[Bits], weak: &[u64], marks: &[Bits]) -> bool
 }
 
 // The sign of the list (-uA, u) at a coordinate.
-fn sign_at(
-    alloc: Global,
-    matrix: &Matrix,
-    columns: &[Column],
-    u: &[i128],
-    c: usize,
-) -> Result<Sign, NoMemory>
-    requires columns { AreColumns matrix.now columns.now }
+fn sign_at(matrix: &Matrix, u: &[i128], support: &[usize], c: usize) -> Sign
+    requires support { IsSummedAt u.now support.now }
     requires long { length u.now ≡ length matrix.now.rows }
     requires small { (k : ℕ) → unsigned_abs (entry u.now k) < WIDE_ENTRY }
     requires inside { c < width matrix.now }
     ensures { (w : List ℤ) → InDualSpace matrix.now w → drop matrix.now.cols w ≡ u.now
-        → IfOk result (λ s. HasSign s (entry w c)) }
+        → HasSign result (entry w c) }
 {
     let cols = matrix.cols();
     let _ = matrix.rows();
     if c < cols {
-        let sum = column_product(alloc, matrix, columns, u, c)?;
-        return Ok(opposite(sign_of(sum)));
+        let sum = column_product(matrix, u, support, c);
+        return opposite(sign_of(sum));
     }
-    Ok(sign_of(u[c - cols]))
+    sign_of(u[c - cols])
 }
 
 // Puts the mark of numbers of a sign.
@@ -140,21 +134,16 @@ fn put_sign(marks: &mut Vec<Bits>, c: usize, sign: Sign)
 }
 
 // The marks of the list (-uA, u).
-fn marks_of(
-    alloc: Global,
-    matrix: &Matrix,
-    columns: &[Column],
-    u: &[i128],
-) -> Result<Vec<Bits>, NoMemory>
-    requires columns { AreColumns matrix.now columns.now }
+fn marks_of(alloc: Global, matrix: &Matrix, u: &[i128]) -> Result<Vec<Bits>, NoMemory>
     requires long { length u.now ≡ length matrix.now.rows }
     requires small { (k : ℕ) → unsigned_abs (entry u.now k) < WIDE_ENTRY }
     ensures { (w : List ℤ) → InDualSpace matrix.now w → drop matrix.now.cols w ≡ u.now
         → IfOk result (λ made. AreMarksOf matrix.now w made.items) }
 {
+    let support = support_of(alloc, u)?;
     let mut marks = vec![in alloc; NONE; word_count(matrix)]?;
     for c in 0..matrix.cols() + matrix.rows() {
-        let sign = sign_at(alloc, matrix, columns, u, c)?;
+        let sign = sign_at(matrix, u, &support, c);
         put_sign(&mut marks, c, sign);
     }
     Ok(marks)
@@ -202,20 +191,13 @@ pub(crate) fn share(list: &Rc<Ints>) -> Result<Rc<Ints>, NoMemory>
 
 impl Past {
     /// Keeps multipliers that rule a system of the matrix out.
-    pub fn new(
-        alloc: Global,
-        matrix: &Matrix,
-        columns: &[Column],
-        _kinds: &[Kind],
-        u: Ints,
-    ) -> Result<Past, NoMemory>
-        requires columns { AreColumns matrix.now columns.now }
+    pub fn new(alloc: Global, matrix: &Matrix, _kinds: &[Kind], u: Ints) -> Result<Past, NoMemory>
         requires cut { IsSmallCut matrix.now _kinds.now u.list }
         ensures past { IfOk result (λ made. IsPastOf matrix.now made) }
         ensures multipliers { IfOk result (λ made. made.multipliers.value ≡ u) }
     {
         Ok(Past {
-            marks: marks_of(alloc, matrix, columns, u.as_slice())?,
+            marks: marks_of(alloc, matrix, u.as_slice())?,
             negatives: shared(alloc, negatives(alloc, u.as_slice())?)?,
             multipliers: shared(alloc, u)?,
         })

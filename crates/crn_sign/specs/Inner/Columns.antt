@@ -1,18 +1,16 @@
 -- For the contracts of private functions alone.
--- Columns of a matrix that are kept with the places at which they are not 0.
-use Rattle.std.specs.Prelude.{◌≡◌, List}
+-- Sums of products over the places at which multipliers are not 0.
+use Rattle.std.specs.Prelude.{◌≡◌, ◌≤◌, ◌<◌, ◌+ℤ◌, ◌*ℤ◌, ℕ, ℤ, pos, List, [], ◌∷◌, length}
 use Rattle.std.specs.List.{AllByRecursion}
-use Rattle.crn_vec.specs.Skips.{AreSkips}
-use Rattle.crn_vec.specs.Vectors.{AreWithin, Mat, column}
-use Rattle.crn_vec.specs.declared.limits.TheConstants.{MAX_AMOUNT}
-use Rattle.crn_sign.specs.declared.columns.Column.{Column}
+use Rattle.crn_vec.specs.Vectors.{dot, entry}
 
--- the column of this number, and the way past its zeros
-pub record IsColumn (a : Mat) (c : Column) : Type 0 where
-  pub entries : c.entries.list ≡ column a.rows c.number
-  pub small : AreWithin MAX_AMOUNT c.entries.list
-  pub skips : AreSkips c.entries.list c.skips
+-- the sum of the products at these places
+abbrev pub dot_at : List ℤ → List ℤ → List ℕ → ℤ
+dot_at u v [] = pos 0
+dot_at u v (k ∷ places) = (entry u k *ℤ entry v k) +ℤ dot_at u v places
 
--- each of these is a column of the matrix
-abbrev pub AreColumns : Mat → List Column → Type 0
-AreColumns a columns = AllByRecursion (IsColumn a) columns
+-- at other places than these the list adds nothing to a sum of products
+pub record IsSummedAt (u : List ℤ) (places : List ℕ) : Type 0 where
+  pub few : length places ≤ length u
+  pub inside : AllByRecursion (λ k. k < length u) places
+  pub sum : (v : List ℤ) → length v ≡ length u → dot u v ≡ dot_at u v places

@@ -12,7 +12,6 @@ use Rattle.crn_farkas.specs.Decision.{IsSmallCut}
 use Rattle.crn_sign.specs.declared.part.Part.{Part}
 use Rattle.crn_sign.specs.declared.finder.Finder.{Finder}
 use Rattle.crn_sign.specs.Inner.Bits.{word_count}
-use Rattle.crn_sign.specs.Inner.Columns.{AreColumns}
 use Rattle.crn_sign.specs.Inner.PastCuts.{ArePastCuts}
 use Rattle.crn_sign.specs.Inner.Pools.{IsPool}
 
@@ -29,7 +28,6 @@ pub record IsFinder (a : Mat) (f : Finder) : Type 0 where
 pub record IsPart (a : Mat) (p : Part) : Type 0 where
   pub finder : IsFinder a p.finder
   pub past : ArePastCuts a p.past_cuts.items
-  pub columns : AreColumns a p.columns.items
 
 -- multipliers that rule the system out, or none if it has a solution
 abbrev pub IsRuling : Mat → List Kind → Option (Rc KeptInts Global) → Type 0
