@@ -1,6 +1,7 @@
 mod Nodes
 mod SetLaws
 mod Systems
+mod Narrow
 mod Places
 mod Stops
 mod EndLaws

@@ -38,26 +38,26 @@ pub use Rattle.crn_siphon_check.specs.Trees.{Bad, IsFormedTree, Law, Plan, Bad a
 pub use Rattle.crn_siphon_check.specs.declared.answer.Persist.{Persist}
 pub use Rattle.crn_siphon_check.specs.declared.tree.SiphonTree.{SiphonTree}
 pub use Rattle.crn_solve.specs.Laws.{IsLawDecision, IsLawStop}
-pub use Rattle.crn_vec.proofs.CallerLemmas.{all_at, all_given, all_in, all_push, any_default, column_is, dot-comm, eq_or, in_at, kinds_at, lt_or, past_end, refused, row_is, rows_count, vectors_count}
+pub use Rattle.crn_vec.proofs.CallerLemmas.{all_at, all_given, all_in, all_push, any_default, column_is, dot-comm, dot_step, entry-column, entry_of_zeros, eq_or, in_at, kinds_at, length-column, lt_or, nought_adds, past_end, refused, row_is, rows_count, vector_at, vectors_count, zero_adds}
 pub use Rattle.crn_vec.specs.Deficiency.{IsConservationLaw, vectors}
 pub use Rattle.crn_vec.specs.Elementary.{NamesWide, width}
 pub use Rattle.crn_vec.specs.Kept.{KeptInts, KeptNums}
 pub use Rattle.crn_vec.specs.NetSystems.{reaction_system, species_system}
-pub use Rattle.crn_vec.specs.Network.{Holds, IsNetwork, IsVector, JoinsTwo, Net, amount_at}
+pub use Rattle.crn_vec.specs.Network.{Holds, IsNetwork, IsVector, JoinsTwo, Net, amount_at, reaction_vector}
 pub use Rattle.crn_vec.specs.Rank.{combination_at}
 pub use Rattle.crn_vec.specs.Systems.{HasKind, MayWeigh, is_signed, kind_at, signed_count}
-pub use Rattle.crn_vec.specs.Vectors.{Mat, column, dot, entry}
-pub use Rattle.crn_vec.specs.declared.limits.TheConstants.{MAX_BUDGET}
+pub use Rattle.crn_vec.specs.Vectors.{AreWithin, Mat, column, dot, entry}
+pub use Rattle.crn_vec.specs.declared.limits.TheConstants.{MAX_BUDGET, WIDE_SOLUTION}
 pub use Rattle.crn_vec.specs.declared.signs.Kind.{Kind}
 pub use Rattle.crn_vec.specs.declared.signs.Kind.TheVariants.{Free}
-pub use Rattle.std.proofs.Common.{Bool, Global, List, Vec, [], ap, ap₂, arith, drop, false, get_or, inl, inr, length, map, max, min, refl, rules, subst, suc, sym, take, true, w64, zero, ℕ, ◌%◌, ◌*◌, ◌++◌, ◌+◌, ◌-◌, ◌/◌, ◌<◌, ◌==◌, ◌∙◌, ◌∷◌, ◌≡◌, ◌≢◌, ◌≤◌, ◌⊎◌}
+pub use Rattle.std.proofs.Common.{Bool, Global, List, Vec, [], ap, ap₂, arith, drop, false, get_or, inl, inr, length, map, max, min, refl, rules, subst, suc, sym, take, take_all, true, w64, zero, ℕ, ◌%◌, ◌*◌, ◌++◌, ◌+◌, ◌-◌, ◌/◌, ◌<◌, ◌==◌, ◌∙◌, ◌∷◌, ◌≡◌, ◌≢◌, ◌≤◌, ◌⊎◌}
 pub use Rattle.std.proofs.Math.ListN.{get_or-append, replicate}
 pub use Rattle.std.proofs.lemmas.Bool.{cases_Bool, eq-eqb, eqb-true, false≢true}
-pub use Rattle.std.proofs.lemmas.Int.{ints}
+pub use Rattle.std.proofs.lemmas.Int.{ints, to_z-of_z}
 pub use Rattle.std.proofs.lemmas.List.{append-nil, append_assoc, get_or-append_right, get_or-drop, get_or-replicate, get_or_past, get_or_push, length-append, length-drop, length-map, length-replicate}
 pub use Rattle.std.proofs.lemmas.Nat.Bits.{bit_at-lt, bit_at-suc, bit_at-zero, bit_at_and, bit_at_lowest, bit_at_or, bit_at_set_other, bit_at_set_same, same_from_bits}
 pub use Rattle.std.proofs.lemmas.Result.{IfOk-weaker, err_from_is_err_and}
-pub use Rattle.std.specs.Int.{bit_at}
+pub use Rattle.std.specs.Int.{bit_at, w128}
 pub use Rattle.std.specs.Int.Bits.{bit_and, bit_or}
 pub use Rattle.std.specs.List.{AllByRecursion}
-pub use Rattle.std.specs.Prelude.{Option, neg_ℤ, negsuc, pos, ℤ, ◌↔◌, ◌≤ℤ◌}
+pub use Rattle.std.specs.Prelude.{IfSome, Option, neg_ℤ, negsuc, pos, ℤ, ◌*ℤ◌, ◌+ℤ◌, ◌↔◌, ◌≤ℤ◌}

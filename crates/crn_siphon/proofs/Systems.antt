@@ -1,5 +1,5 @@
 -- The system of a set of species: its kinds, what its solutions increase, and the laws that its cuts are.
-use Rattle.crn_siphon.proofs.Prelude.{◌≡◌, ℕ, zero, suc, ◌+◌, ◌-◌, ◌<◌, ◌≤◌, inl, inr, Bool, true, false, List, [], ◌∷◌, ◌++◌, length, map, get_or, take, drop, refl, sym, ap, subst, ◌∙◌, arith, ℤ, pos, neg_ℤ, ◌≤ℤ◌, replicate, get_or-append, ints, false≢true, cases_Bool, get_or-replicate, length-replicate, get_or-append_right, get_or-drop, length-drop, length-append, length-map, Kind, Free, Net, IsNetwork, Mat, entry, dot, column, width, combination_at, vectors, HasKind, MayWeigh, is_signed, kind_at, signed_count, reaction_system, kinds_at, lt_or, all_given, row_is, rows_count, column_is, vectors_count, dot-comm, AreFree, IsNarrow, IsDecision, IsSmallCut, IsSmallSolution, Decision, solution_free, SpeciesSet, Has, members, change_kind, siphon_kinds, AreIncreased, IsLawIn}
+use Rattle.crn_siphon.proofs.Prelude.{◌≡◌, ℕ, zero, suc, ◌+◌, ◌-◌, ◌<◌, ◌≤◌, inl, inr, Bool, true, false, List, [], ◌∷◌, ◌++◌, length, map, get_or, take, drop, refl, sym, ap, subst, ◌∙◌, arith, ℤ, pos, neg_ℤ, ◌≤ℤ◌, replicate, get_or-append, ints, false≢true, cases_Bool, get_or-replicate, length-replicate, get_or-append_right, get_or-drop, length-drop, length-append, length-map, Kind, Free, Net, IsNetwork, Mat, entry, dot, column, width, combination_at, vectors, HasKind, MayWeigh, is_signed, kind_at, signed_count, reaction_system, kinds_at, lt_or, all_given, row_is, rows_count, column_is, vectors_count, dot-comm, AreFree, IsNarrow, IsDecision, IsSmallCut, IsSmallSolution, Decision, solution_free, SpeciesSet, Has, members, change_kind, siphon_kinds, AreIncreased, IsLawIn, IsCoverIn}
 use Rattle.crn_siphon.proofs.SetLaws.{length-members, member_has, has_member}
 
 -- ---- kinds
@@ -57,7 +57,7 @@ decided net set m kinds d e same is h on = subst (λ (x : Decision). IsDecision 
 -- ---- solutions
 
 -- a solution increases each member
-pub solution_increases : (net : Net) (set : SpeciesSet) (x : List ℤ) → IsNetwork net → IsSmallSolution (reaction_system net) (siphon_kinds net set) x → AreIncreased net set x
+solution_increases : (net : Net) (set : SpeciesSet) (x : List ℤ) → IsNetwork net → IsSmallSolution (reaction_system net) (siphon_kinds net set) x → AreIncreased net set x
 solution_increases net set x n s =
     let v = s.v in
     let columns : take (length net.reactions) v ≡ x = s.solves.columns in
@@ -70,8 +70,12 @@ solution_increases net set x n s =
     subst (λ (y : ℤ). pos 1 ≤ℤ y) is positive
 
 -- and its numbers are those of a certificate
-pub solution_formed : (net : Net) (set : SpeciesSet) (x : List ℤ) → IsSmallSolution (reaction_system net) (siphon_kinds net set) x → AreFree (length net.reactions) x
+solution_formed : (net : Net) (set : SpeciesSet) (x : List ℤ) → IsSmallSolution (reaction_system net) (siphon_kinds net set) x → AreFree (length net.reactions) x
 solution_formed net set x s = solution_free (reaction_system net) (siphon_kinds net set) x s
+
+-- so it covers the set
+pub solution_covers : (net : Net) (set : SpeciesSet) (x : List ℤ) → IsNetwork net → IsSmallSolution (reaction_system net) (siphon_kinds net set) x → IsCoverIn net set x
+solution_covers net set x n s = record { free = solution_formed net set x s; increased = solution_increases net set x n s }
 
 -- ---- cuts
 

@@ -1,11 +1,12 @@
 ghost use Rattle.std.specs.Prelude.{◌≡◌, ◌++◌, ◌∷◌, [], length, IfOk, IfSome, OnOk, MatchResult};
 ghost use Rattle.crn_vec.specs.NetSystems.{reaction_system};
-ghost use Rattle.crn_cert.specs.Ranges.{AreFree};
-ghost use Rattle.crn_siphon.specs.Inner.Known.{AreCovers, AreIncreased, AreLaws, HasMore, IsCoverOf, IsFinding, IsKnown, IsLawWithin, IsSearchStop, fact};
+ghost use Rattle.crn_siphon.specs.Inner.Known.{AreCovers, AreLaws, HasMore, IsCoverIn, IsCoverOf, IsFinding, IsKnown, IsLawIn, IsLawWithin, IsSearchStop, fact};
 
+use crate::engine::{Engine, Proposal};
 use crate::kinds::siphon_kinds;
 use crate::sets::{NONE, SpeciesSet, support};
-use crn_check::amount_change;
+use crate::trial::{cover_of, covered, is_law_within};
+use crn_conc::reaction_matrix;
 use crn_farkas::{Decision, Solver, Stop};
 use crn_net::Network;
 use crn_vec::{Ints, NoMemory};
@@ -28,6 +29,14 @@ pub(crate) struct Known {
     /// The place of the numbers that are tried first, those that served last.
     pub first: usize,
     pub laws: Vec<Fact>,
+}
+
+/// What is asked about a set: the engine, whose answers are tested, and from its first failure on the solver of system 2.
+#[derive(Drop)]
+pub(crate) struct Solvers {
+    pub engine: Engine,
+    /// None before that failure.
+    pub solver: Option<Solver>,
 }
 
 /// What is found of a set, by the place of what shows it, counted from 0.
@@ -54,20 +63,6 @@ pub(crate) fn nothing_known(alloc: Global, net: &Network) -> Result<Known, NoMem
         first: 0,
         laws: Vec::new(alloc),
     })
-}
-
-// The species that the reactions with these numbers increase.
-fn increased(net: &Network, numbers: &[i128]) -> SpeciesSet
-    requires { AreFree (length net.now.reactions) numbers.now }
-    ensures { AreIncreased net.now result numbers.now }
-{
-    let mut set = NONE;
-    for s in 0..net.species() {
-        if amount_change(net, numbers, s) >= 1 {
-            set = set.with(s);
-        }
-    }
-    set
 }
 
 // The place of known numbers that increase each member of the set.
@@ -122,8 +117,96 @@ fn make_room(net: &Network, covers: &mut Vec<Fact>)
     }
 }
 
+// Keeps numbers that increase each member of the set, first of all.
+fn keep_cover(
+    net: &Network,
+    known: &mut Known,
+    set: SpeciesSet,
+    cover: Ints,
+    species: SpeciesSet,
+) -> Result<Finding, NoMemory>
+    requires known { IsKnown net.now known.old }
+    requires cover { IsCoverIn net.now species cover.list }
+    requires set { IsCoverIn net.now set cover.list }
+    ensures known { OnOk result (IsKnown net.now known.new) }
+    ensures kept { OnOk result (HasMore known.old.laws.items known.new.laws.items) }
+    ensures answer { IfOk result (λ f. IsFinding net.now set known.new f) }
+{
+    make_room(net, &mut known.covers);
+    let place = put_fact(&mut known.covers, cover, species)?;
+    known.first = place;
+    Ok(Finding::Cover(place))
+}
+
+// Keeps a law within the set.
+fn keep_law(
+    net: &Network,
+    known: &mut Known,
+    set: SpeciesSet,
+    weights: Ints,
+) -> Result<Finding, NoMemory>
+    requires known { IsKnown net.now known.old }
+    requires law { IsLawIn net.now set weights.list }
+    ensures known { OnOk result (IsKnown net.now known.new) }
+    ensures kept { OnOk result (HasMore known.old.laws.items known.new.laws.items) }
+    ensures answer { IfOk result (λ f. IsFinding net.now set known.new f) }
+{
+    net.meets_definition();
+    let species = support(weights.as_slice());
+    let place = put_fact(&mut known.laws, weights, species)?;
+    Ok(Finding::Law(place))
+}
+
+// Keeps what the engine proposes for a set, if it passes the test.
+fn propose(
+    alloc: Global,
+    net: &Network,
+    engine: &mut Engine,
+    known: &mut Known,
+    set: SpeciesSet,
+) -> Result<Option<Finding>, NoMemory>
+    requires known { IsKnown net.now known.old }
+    ensures known { OnOk result (IsKnown net.now known.new) }
+    ensures kept { OnOk result (HasMore known.old.laws.items known.new.laws.items) }
+    ensures answer { IfOk result (λ found. IfSome found (λ f. IsFinding net.now set known.new f)) }
+{
+    match engine.propose(alloc, set)? {
+        Proposal::Law(weights) => {
+            if is_law_within(net, set, weights.as_slice()) {
+                let law = keep_law(net, known, set, weights)?;
+                return Ok(Some(law));
+            }
+        }
+        Proposal::Cover(numbers) => {
+            if let Some(species) = cover_of(net, set, numbers.as_slice()) {
+                let cover = keep_cover(net, known, set, numbers, species)?;
+                return Ok(Some(cover));
+            }
+        }
+        Proposal::Nothing => {}
+    }
+    engine.give_up();
+    Ok(None)
+}
+
+// The solver of system 2, which is taken out, or made.
+fn solver_of(alloc: Global, net: &Network, kept: &mut Option<Solver>) -> Result<Solver, NoMemory>
+    requires { IfSome kept.old (λ s. s.matrix ≡ reaction_system net.now) }
+    ensures matrix { IfOk result (λ made. made.matrix ≡ reaction_system net.now) }
+    ensures kept { OnOk result
+        (IfSome kept.new (λ s. s.matrix ≡ reaction_system net.now)) }
+{
+    match kept.take() {
+        Some(solver) => Ok(solver),
+        None => {
+            let matrix = reaction_matrix(alloc, net)?;
+            Solver::new(alloc, &matrix)
+        }
+    }
+}
+
 // Asks the solver for a law within the set, or for numbers that increase each member, and keeps the answer.
-fn ask(
+fn settle(
     alloc: Global,
     net: &Network,
     solver: &mut Solver,
@@ -142,31 +225,52 @@ fn ask(
     let kinds = siphon_kinds(alloc, net, set)?;
     match solver.settle(&kinds)? {
         Decision::Feasible(cover) => {
-            let species = increased(net, cover.as_slice());
-            make_room(net, &mut known.covers);
-            let place = put_fact(&mut known.covers, cover, species)?;
-            known.first = place;
-            Ok(Finding::Cover(place))
+            let species = covered(net, set, cover.as_slice());
+            Ok(keep_cover(net, known, set, cover, species)?)
         }
-        Decision::Infeasible(weights) => {
-            let species = support(weights.as_slice());
-            let place = put_fact(&mut known.laws, weights, species)?;
-            Ok(Finding::Law(place))
-        }
+        Decision::Infeasible(weights) => Ok(keep_law(net, known, set, weights)?),
     }
+}
+
+// Asks the engine, and the solver where nothing proposed passes its test.
+#[inline(never)]
+fn ask(
+    alloc: Global,
+    net: &Network,
+    solvers: &mut Solvers,
+    known: &mut Known,
+    set: SpeciesSet,
+) -> Result<Finding, Stop>
+    requires solver { IfSome solvers.old.solver (λ s. s.matrix ≡ reaction_system net.now) }
+    requires known { IsKnown net.now known.old }
+    ensures solver { OnOk result
+        (IfSome solvers.new.solver (λ s. s.matrix ≡ reaction_system net.now)) }
+    ensures known { OnOk result (IsKnown net.now known.new) }
+    ensures kept { OnOk result (HasMore known.old.laws.items known.new.laws.items) }
+    ensures answer { MatchResult result (λ f. IsFinding net.now set known.new f)
+        (λ s. IsSearchStop net.now s) }
+{
+    if let Some(finding) = propose(alloc, net, &mut solvers.engine, known, set)? {
+        return Ok(finding);
+    }
+    let mut solver = solver_of(alloc, net, &mut solvers.solver)?;
+    let found = settle(alloc, net, &mut solver, known, set)?;
+    solvers.solver = Some(solver);
+    Ok(found)
 }
 
 /// A law within the set, or numbers that increase each member.
 pub(crate) fn find(
     alloc: Global,
     net: &Network,
-    solver: &mut Solver,
+    solvers: &mut Solvers,
     known: &mut Known,
     set: SpeciesSet,
 ) -> Result<Finding, Stop>
-    requires matrix { solver.old.matrix ≡ reaction_system net.now }
+    requires solver { IfSome solvers.old.solver (λ s. s.matrix ≡ reaction_system net.now) }
     requires known { IsKnown net.now known.old }
-    ensures matrix { solver.new.matrix ≡ reaction_system net.now }
+    ensures solver { OnOk result
+        (IfSome solvers.new.solver (λ s. s.matrix ≡ reaction_system net.now)) }
     ensures known { OnOk result (IsKnown net.now known.new) }
     ensures kept { OnOk result (HasMore known.old.laws.items known.new.laws.items) }
     ensures answer { MatchResult result (λ f. IsFinding net.now set known.new f)
@@ -175,12 +279,12 @@ pub(crate) fn find(
     if set.is_within(known.covers[known.first].species) {
         return Ok(Finding::Cover(known.first));
     }
+    if let Some(k) = known_law(net, &known.laws, set) {
+        return Ok(Finding::Law(k));
+    }
     if let Some(k) = known_cover(net, &known.covers, set) {
         known.first = k;
         return Ok(Finding::Cover(k));
     }
-    if let Some(k) = known_law(net, &known.laws, set) {
-        return Ok(Finding::Law(k));
-    }
-    ask(alloc, net, solver, known, set)
+    ask(alloc, net, solvers, known, set)
 }

@@ -2,13 +2,18 @@
 #![tactic(auto)]
 
 mod answer;
+mod dictionary;
 mod ends;
+mod engine;
 mod kinds;
 mod known;
 mod node;
 mod place;
+mod row;
 mod search;
 mod sets;
+mod terms;
 mod tree;
+mod trial;
 
 pub use answer::persist;

@@ -4,21 +4,21 @@ ghost use Rattle.crn_siphon.specs.Inner.Known.{HasMore, IsSearchStop};
 ghost use Rattle.crn_siphon.specs.Inner.Search.{EndsAt, EndsBelow, HasGrown, IsReady, IsShown, IsVisit, NoneStopsIf};
 
 use crate::ends::{Holders, stopping};
-use crate::known::{Finding, Known, find};
+use crate::known::{Finding, Known, Solvers, find};
 use crate::node::Node;
 use crate::place::{Place, child, is_void};
 use crate::sets::SpeciesSet;
 use crate::tree::put_node;
-use crn_farkas::{Solver, Stop};
+use crn_farkas::Stop;
 use crn_net::Network;
 use std::alloc::Global;
 
-/// What a search works with: memory, the solver of system 2, the reactions that hold each species, what visits have shown,
+/// What a search works with: memory, what is asked of sets, the reactions that hold each species, what visits have shown,
 /// the nodes of the visits so far, and the visits that are left.
 #[derive(Drop)]
 pub(crate) struct Search {
     pub alloc: Global,
-    pub solver: Solver,
+    pub solvers: Solvers,
     pub holders: Vec<Holders>,
     pub known: Known,
     pub nodes: Vec<Node>,
@@ -69,7 +69,7 @@ fn look(net: &Network, search: &mut Search, place: Place) -> Result<Standing, St
     let found = find(
         search.alloc,
         net,
-        &mut search.solver,
+        &mut search.solvers,
         &mut search.known,
         place.inside,
     )?;

@@ -1,7 +1,7 @@
 -- For the contracts of private functions alone.
 -- How the visits of a prefix of sets of species, of its children and of all below them end.
 -- Shapes: `left` visits are allowed where it begins, and `after` where it ends; a search is given before and after.
-use Rattle.std.specs.Prelude.{◌≡◌, ◌+◌, ◌++◌, ℕ, ℤ, false, true, Bool, List, [], ◌∷◌, length, map, Option, None, Some}
+use Rattle.std.specs.Prelude.{◌≡◌, ◌+◌, ◌++◌, ℕ, ℤ, false, true, Bool, List, [], ◌∷◌, length, map, Option, None, Some, IfSome}
 use Rattle.crn_vec.specs.Network.{Net}
 use Rattle.crn_vec.specs.NetSystems.{reaction_system}
 use Rattle.crn_cert.specs.Ranges.{AreFree}
@@ -24,9 +24,9 @@ use Rattle.crn_siphon.specs.Inner.Places.{AreAllHolders, NoneStops}
 use Rattle.crn_siphon.specs.Inner.Known.{HasMore, IsFactAt, IsKnown}
 use Rattle.crn_siphon.specs.Inner.Nodes.{IsLeaf, Lists}
 
--- the solver is that of system 2, the reactions are those that hold each species, and what is known holds
+-- a solver is that of system 2, the reactions are those that hold each species, and what is known holds
 pub record IsReady (net : Net) (s : Search) : Type 0 where
-  pub matrix : s.solver.matrix ≡ reaction_system net
+  pub solver : IfSome s.solvers.solver (λ x. x.matrix ≡ reaction_system net)
   pub holders : AreAllHolders net (length net.names) s.holders.items
   pub known : IsKnown net s.known
 

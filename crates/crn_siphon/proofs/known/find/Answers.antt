@@ -11,11 +11,5 @@ returns-then-is_within-clause-answer c =
 pub returns-then-is_within-clause-kept : goal.returns-then-is_within-clause-kept
 returns-then-is_within-clause-kept c = more_same c.args.known.now.laws.items
 
-pub returns-in-Some-clause-known : goal.returns-in-Some-clause-known
-returns-in-Some-clause-known c =
-    let at = subst (λ (l : List Fact). IsCoverOf c.args.net.now c.args.set l c.in-Some.k) c.deref.ensures.value c.in-Some.ensures in
-    let fact = at.1 in
-    record { covers = c.requires.known.covers; first = fact.inside; laws = c.requires.known.laws }
-
 pub returns-in-Some-clause-kept : goal.returns-in-Some-clause-kept
 returns-in-Some-clause-kept c = more_same c.args.known.now.laws.items
