@@ -22,7 +22,7 @@ from pathlib import Path
 import ends
 import prove
 import second_opinion
-from end_to_end import NETWORKS, NO_WORDS, READ_FAULT, SECONDS, WRITE_FAULT, first_version, joined
+from end_to_end import NETWORKS, NO_WORDS, READ_FAULT, REJECTED, SECONDS, WRITE_FAULT, first_version, joined
 from tally import Tally
 
 NO_MEMORY = 7
@@ -31,6 +31,25 @@ PROOF = prove.PARTS["persist"].PROGRAM.prove(b"A <-> B\n")[1]
 COMPILER = next(filter(None, map(shutil.which, ["cc", "gcc", "clang"])), None)
 # more requests or calls than any run makes
 MOST_CALLS = 100_000
+# The beginning of a document, the most bytes of a read, the read after the one that brings the first fault, and the line that
+# says it. The last of the reads of 4,096 bytes brings the byte by which a line is too long.
+FAULTS_FIRST = [
+    (b"crn certificate 3\n", 64, 2, b"rejected 21 BadHeader at line 1\n"),
+    (b"crn certificate 3\n", 1, 19, b"rejected 21 BadHeader at line 1\n"),
+    (b"crn certificate 3\n", 18, 2, b"rejected 21 BadHeader at line 1\n"),
+    (b"crn certificate 2\nnetwork 0\n", 1, 29, b"rejected 22 BadNetwork at line 2\n"),
+    (b"crn certificate 2\nnetwork 0\n", 64, 2, b"rejected 22 BadNetwork at line 2\n"),
+    (b"", 4_096, 6, b"rejected 30 LineTooLong at line 1\n"),
+]
+# How many bytes come before a tail, the most bytes of a read, and the line that says the first fault.
+LENGTHS = [
+    (16_384, b"\nab", 4_096, b"rejected 21 BadHeader at line 1\n"),
+    (16_384, b"\nab", 7, b"rejected 21 BadHeader at line 1\n"),
+    (16_384, b"", 64, b"rejected 27 EndsEarly at line 1\n"),
+    (16_385, b"\nab", 4_096, b"rejected 30 LineTooLong at line 1\n"),
+    (16_385, b"\nab", 1, b"rejected 30 LineTooLong at line 1\n"),
+    (16_385, b"", 64, b"rejected 30 LineTooLong at line 1\n"),
+]
 
 
 class Hostile:
@@ -42,7 +61,7 @@ class Hostile:
 
     def run(self, words, text, **refusals):
         """The status, what was written, and whether a call was refused. A pipe would give what is there, so standard input is
-        a file, and so is standard output, of which nothing is then lost."""
+        a file, and so is standard output, of which nothing is then lost. `taken` says how many bytes were read."""
         if os.path.exists(self.mark):
             os.unlink(self.mark)
         environment = {"LD_PRELOAD": self.library, "REFUSED": self.mark, **{name: str(n) for name, n in refusals.items()}}
@@ -51,6 +70,7 @@ class Hostile:
             source.seek(0)
             done = subprocess.run([self.program, *words], stdin=source, stdout=sink, stderr=subprocess.PIPE, env=environment,
                                   timeout=SECONDS)
+            self.taken = os.lseek(source.fileno(), 0, os.SEEK_CUR)
             sink.seek(0)
             return (done.returncode, sink.read(), done.stderr), os.path.exists(self.mark)
 
@@ -125,6 +145,7 @@ def refusals(hostile):
 def few(hostile):
     """Each read and each write of one input for each command fails in turn."""
     sites = (NETWORKS / "two_site_futile_cycle.crn").read_bytes()
+    yield from what_is_read(hostile)
     for name, words, text, most in [
         ("report on the two-site futile cycle", ["report"], sites, 7), ("report on one reaction", ["report"], b"A -> B\n", 1),
         ("check of A <-> B", ["check"], joined(ends.ENDS), 64),
@@ -141,6 +162,24 @@ def few(hostile):
     ]:
         may_be = is_write_fault_after(most)
         yield from hostile.each(f"writes of at most {most}, {name}", words, text, "FAIL_WRITE", may_be, MOST_WRITTEN=most)
+
+
+def what_is_read(hostile):
+    """Nothing is read after a read that failed, nor by `check` after the read that brings the first fault; a line is as long as
+    the limit and no longer."""
+    seen, _ = hostile.run(["report"], b"A -> B", MOST_READ=1, FAIL_READ=2)
+    yield "a read fails: nothing more is read", (seen, hostile.taken) == ((READ_FAULT, b"", b""), 1), (seen, hostile.taken)
+    for begins, most, after, line in FAULTS_FIRST:
+        text, name = begins + 32_768 * b"x", f"{line.decode().strip()}, reads of at most {most}"
+        seen, was_refused = hostile.run(["check"], text, MOST_READ=most, FAIL_READ=after)
+        good = seen == (REJECTED, line, b"") and not was_refused and hostile.taken == most * (after - 1)
+        yield f"{name}: nothing more is read", good, (seen, hostile.taken)
+        seen, _ = hostile.run(["check"], text, MOST_READ=most, FAIL_READ=after - 1)
+        good = seen == (READ_FAULT, b"", b"") and hostile.taken == most * (after - 2)
+        yield f"{name}: the read before fails", good, (seen, hostile.taken)
+    for count, tail, most, line in LENGTHS:
+        seen, _ = hostile.run(["check"], count * b"a" + tail, MOST_READ=most)
+        yield f"a line of {count} bytes before {tail}, reads of at most {most}", seen == (REJECTED, line, b""), seen
 
 
 def pieces(hostile):
@@ -171,7 +210,7 @@ def main():
         return 0 if are_few else 1
     with tempfile.TemporaryDirectory() as folder:
         hostile = Hostile(program, folder)
-        for name, good, seen in few(hostile) if are_few else [*refusals(hostile), *pieces(hostile), *cuts(program)]:
+        for name, good, seen in few(hostile) if are_few else [*refusals(hostile), *what_is_read(hostile), *pieces(hostile), *cuts(program)]:
             tally.count(name, good, seen)
     return tally.end()
 

@@ -4,8 +4,6 @@
 #[cfg(test)]
 mod answers;
 #[cfg(test)]
-mod devices;
-#[cfg(test)]
 mod faults;
 #[cfg(test)]
 mod fractions;
@@ -15,8 +13,6 @@ mod lists;
 mod matrices;
 #[cfg(test)]
 mod reports;
-#[cfg(test)]
-mod runs;
 #[cfg(test)]
 mod statuses;
 #[cfg(test)]

@@ -2,28 +2,9 @@ ghost use Rattle.std.specs.Prelude.{◌≡◌, true};
 
 use crn_io::{
     Bytes, Lines, MemSink, MemSource, Next, Pull, Push, QuietSink, QuietSource, ReadStop, Sink,
-    Source, StdSink, StdSource, WriteFault, put_all, put_between, put_parts, read_all,
+    Source, StdSink, WriteFault, put_all, put_between, put_parts, read_all,
 };
-use std::io;
-use std::io::Read;
 use std::process::Abort;
-
-// A reader that gives one byte and fails from then on.
-#[derive(Drop)]
-struct Halting {
-    halted: bool,
-}
-
-impl Read for Halting {
-    fn read(&mut self, buf: &mut [u8]) -> io::Result<usize> {
-        if self.halted || buf.is_empty() {
-            return Err(io::Error::from(io::ErrorKind::Other));
-        }
-        self.halted = true;
-        buf[0] = b'A';
-        Ok(1)
-    }
-}
 
 const TEXT: &[u8] = b"A -> B";
 
@@ -207,19 +188,6 @@ fn a_quiet_source_gives_its_bytes(rt: HostRuntime) {
     assert!(rt; is_read(&read_all(rt.alloc(), &mut source, 3), &Ok(b"> B")));
 }
 
-#[test]
-fn readers_of_std_are_sources(rt: HostRuntime) {
-    let mut source = StdSource::new(TEXT);
-    assert!(rt; is_read(&read_all(rt.alloc(), &mut source, 6), &Ok(TEXT)));
-    let mut source = StdSource::new(Halting { halted: false });
-    assert!(rt;
-        is_read(
-            &read_all(rt.alloc(), &mut source, 6),
-            &Err(ReadStop::Failed)
-        )
-    );
-}
-
 // The second write takes no bytes.
 #[test]
 fn writers_of_std_are_sinks(rt: HostRuntime) {
@@ -289,33 +257,6 @@ fn gives(
 fn lines_are_given_one_after_another(rt: HostRuntime) {
     for (name, text, most, wanted) in CALLS {
         assert!(rt; gives(&rt, text, *most, wanted), "{name}");
-    }
-}
-
-// Each row: how many bytes come before a tail, the most bytes a pull, and the answer and the length of the line.
-const LENGTHS: &[(usize, &[u8], usize, Next, usize)] = &[
-    (16_384, b"\nab", 4_096, Next::Line, 16_384),
-    (16_384, b"\nab", 7, Next::Line, 16_384),
-    (16_384, b"", 64, Next::Last, 16_384),
-    (16_385, b"\nab", 4_096, Next::LineTooLong, 0),
-    (16_385, b"\nab", 1, Next::LineTooLong, 0),
-    (16_385, b"", 64, Next::LineTooLong, 0),
-];
-
-fn is_so_long(rt: &(impl Abort + AllocGlobal), row: &(usize, &[u8], usize, Next, usize)) -> bool {
-    let (count, tail, most, answer, length) = row;
-    assert!(rt; *most >= 1);
-    let mut text = vec![in rt.alloc(); b'a'; *count].expect(rt, "memory");
-    text.extend_from_slice(tail).expect(rt, "memory");
-    let mut source = MemSource::new(rt.alloc(), &text, *most, &[]).expect(rt, "memory");
-    let mut lines = Lines::new(rt.alloc()).expect(rt, "memory");
-    lines.next(&mut source) == *answer && lines.line().len() == *length
-}
-
-#[test]
-fn a_line_is_as_long_as_the_limit_and_no_longer(rt: HostRuntime) {
-    for row in LENGTHS {
-        assert!(rt; is_so_long(&rt, row), "{} bytes, {} a pull", row.0, row.2);
     }
 }
 
