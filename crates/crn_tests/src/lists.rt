@@ -1,52 +1,7 @@
 use crn_vec::{
-    Ints, Kind, Matrix, Nums, Sign, agrees, counts, dot, may_take, may_weigh, opposite, product,
-    rules_out, sign_of, support,
+    Kind, Sign, agrees, counts, dot, may_take, may_weigh, opposite, product, rules_out, sign_of,
+    support,
 };
-
-#[test]
-fn ints_take_and_give_back(rt: HostRuntime) {
-    let mut ints = Ints::with_room(rt.alloc(), 1).expect(&rt, "memory");
-    ints.push(-7).expect(&rt, "memory");
-    ints.push(8).expect(&rt, "memory");
-    let copy = ints.copy().expect(&rt, "memory");
-    ints.clear();
-    assert!(rt; ints.as_slice().is_empty());
-    let same = Ints::from_vec(copy.into_vec());
-    assert!(rt; same.as_slice() == [-7, 8].as_slice());
-}
-
-#[test]
-fn ints_are_made_of_lists(rt: HostRuntime) {
-    let ints = Ints::from_slice(rt.alloc(), &[3, 4]).expect(&rt, "memory");
-    assert!(rt; ints.as_slice() == [3, 4].as_slice());
-}
-
-#[test]
-fn nums_take_and_give_back(rt: HostRuntime) {
-    let mut nums = Nums::with_room(rt.alloc(), 1).expect(&rt, "memory");
-    nums.push(7).expect(&rt, "memory");
-    nums.push(8).expect(&rt, "memory");
-    let copy = nums.copy().expect(&rt, "memory");
-    nums.clear();
-    assert!(rt; nums.as_slice().is_empty());
-    let same = Nums::from_vec(copy.into_vec());
-    assert!(rt; same.as_slice() == [7, 8].as_slice());
-}
-
-#[test]
-fn nums_are_made_of_lists(rt: HostRuntime) {
-    let nums = Nums::from_slice(rt.alloc(), &[5, 6]).expect(&rt, "memory");
-    assert!(rt; nums.as_slice() == [5, 6].as_slice());
-}
-
-#[test]
-fn entries_are_row_by_row(rt: HostRuntime) {
-    let made = Matrix::new(rt.alloc(), 2, 3, &[1, -2, 3, -99, 5, 99]).expect(&rt, "memory");
-    assert!(rt; made.rows() == 2 && made.cols() == 3);
-    let copy = made.copy().expect(&rt, "memory");
-    assert!(rt; copy.row(0) == [1, -2, 3].as_slice() && copy.row(1) == [-99, 5, 99].as_slice());
-    assert!(rt; copy.entry(0, 2) == 3 && copy.entry(1, 0) == -99);
-}
 
 #[test]
 fn signs_by_table(rt: HostRuntime) {
