@@ -1,9 +1,9 @@
 ghost use Rattle.std.specs.Prelude.{◌≡◌};
 
-use super::matrices::{at, chain, fan, matrix};
+use super::matrices::Entries::{Chain, Fan, Rows};
+use super::matrices::{Shape, matrix};
 use crn_tab::{ColumnStop, Refused, Tableau, Wide};
 use crn_vec::{Ints, Kind, Matrix, Sign};
-use std::alloc::Global;
 use std::process::Abort;
 
 // Exchanges two coordinates, after each condition was tested.
@@ -74,13 +74,14 @@ fn has_row(rt: &impl Abort, matrix: &Matrix, t: &Tableau, k: usize, want: &[i128
     is_up_to_sign(row(rt, matrix, t, k).as_slice(), want)
 }
 
-// So for its column.
+// So for its column, which is wide if the list is empty.
 fn has_column(rt: &impl Abort, matrix: &Matrix, t: &Tableau, k: usize, want: &[i128]) -> bool
     requires { t.now.matrix ≡ matrix.now }
 {
     match column(rt, matrix, t, k) {
         Ok(made) => is_up_to_sign(made.as_slice(), want),
-        Err(_) => false,
+        Err(ColumnStop::Wide) => want.is_empty(),
+        Err(ColumnStop::NoMemory) => false,
     }
 }
 
@@ -109,30 +110,6 @@ fn has_next(
 {
     assert!(rt; enter < matrix.cols() + matrix.rows());
     t.basis_after(leave, enter).expect(rt, "memory").as_slice() == want
-}
-
-#[test]
-fn calls_worked_by_hand(rt: HostRuntime) {
-    let matrix = matrix(&rt, rt.alloc(), 1, 2, &[-1, 1]);
-    let mut t = Tableau::new(rt.alloc(), &matrix).expect(&rt, "memory");
-    assert!(rt; has_row(&rt, &matrix, &t, 2, &[1, -1, 1]));
-    assert!(rt; exchange(&rt, &matrix, &mut t, 0, 2).is_ok());
-    assert!(rt; has_row(&rt, &matrix, &t, 0, &[1, -1, 1]));
-    assert!(rt; has_column(&rt, &matrix, &t, 1, &[1, 1, 0]));
-    assert!(rt; has_basis(&rt, &t, &[1, 2]));
-    assert!(rt; puts(&rt, &matrix, &t, 0, &[1, -1, 1]) && puts(&rt, &matrix, &t, 1, &[1, 1, 0]));
-}
-
-// The second row depends on the first.
-#[test]
-fn rows_enter_as_far_as_they_can(rt: HostRuntime) {
-    let matrix = matrix(&rt, rt.alloc(), 3, 2, &[1, 2, 2, 4, 0, 1]);
-    let mut t = Tableau::new(rt.alloc(), &matrix).expect(&rt, "memory");
-    assert!(rt; has_next(&rt, &matrix, &t, 0, 3, &[2, 4]));
-    assert!(rt; has_next(&rt, &matrix, &t, 1, 1, &[1, 2]));
-    assert!(rt; t.enter_rows(2).is_ok());
-    assert!(rt; has_basis(&rt, &t, &[2, 4]));
-    assert!(rt; has_row(&rt, &matrix, &t, 3, &[0, 0, -2, 1, 0]));
 }
 
 // The least level of a wrong coordinate, in the row or the column of a coordinate.
@@ -170,69 +147,8 @@ fn cuts(rt: &impl Abort, matrix: &Matrix, t: &Tableau, k: usize, kinds: &[Kind])
     t.row_cuts(k, kinds)
 }
 
-// Each row: what it shows, the coordinate of a vector, its sign, the first level that counts, and the least wrong level.
-const WRONGS: &[(&str, usize, Sign, usize, usize)] = &[
-    ("minus one where it may not be", 2, Sign::Plus, 0, 1),
-    ("the other sign", 2, Sign::Minus, 0, 0),
-    ("after the first", 2, Sign::Minus, 1, 3),
-    ("not zero where it has to be", 0, Sign::Plus, 0, 2),
-    ("its own sign", 0, Sign::Minus, 0, 0),
-    ("not zero again", 1, Sign::Plus, 1, 2),
-];
-
-// The vectors (1, -1, 1) of the row, (1, 0, -1) and (0, 1, 1) of the columns.
-#[test]
-fn wrong_levels_are_found_by_slots(rt: HostRuntime) {
-    let matrix = matrix(&rt, rt.alloc(), 1, 2, &[-1, 1]);
-    let t = Tableau::new(rt.alloc(), &matrix).expect(&rt, "memory");
-    let asked = [Kind::Pos, Kind::Pos, Kind::Zero];
-    for (name, k, sign, from, want) in WRONGS {
-        let found = wrong(&rt, &matrix, &t, *k, *sign, &asked, *from);
-        assert!(rt; found == *want, "{name}");
-    }
-}
-
-// Each row: what it shows, the kinds, and the sign with which the row cuts.
-const CUTS: &[(&str, &[Kind], Option<Sign>)] = &[
-    (
-        "a weight of each sign",
-        &[Kind::Pos, Kind::Pos, Kind::Zero],
-        None,
-    ),
-    (
-        "as it is",
-        &[Kind::Pos, Kind::Neg, Kind::Zero],
-        Some(Sign::Plus),
-    ),
-    (
-        "its negative",
-        &[Kind::Neg, Kind::Pos, Kind::Zero],
-        Some(Sign::Minus),
-    ),
-    (
-        "nothing is asked",
-        &[Kind::Zero, Kind::Zero, Kind::Zero],
-        None,
-    ),
-    (
-        "no weight where it may have none",
-        &[Kind::Pos, Kind::Neg, Kind::Free],
-        None,
-    ),
-];
-
-#[test]
-fn rows_cut_by_their_slots(rt: HostRuntime) {
-    let matrix = matrix(&rt, rt.alloc(), 1, 2, &[-1, 1]);
-    let t = Tableau::new(rt.alloc(), &matrix).expect(&rt, "memory");
-    for (name, kinds, want) in CUTS {
-        let found = cuts(&rt, &matrix, &t, 2, kinds);
-        assert!(rt; found == *want, "{name}");
-    }
-}
-
 // Exchanges each of the first columns with the row of the same number.
-fn exchange_diagonal(rt: &impl Abort, matrix: &Matrix, t: &mut Tableau, count: usize)
+fn exchange_diagonal(rt: &impl Abort, matrix: &Matrix, t: &mut Tableau, count: usize) -> bool
     requires { t.old.matrix ≡ matrix.now }
     ensures { t.new.matrix ≡ matrix.now }
 {
@@ -241,76 +157,212 @@ fn exchange_diagonal(rt: &impl Abort, matrix: &Matrix, t: &mut Tableau, count: u
         let done = exchange(rt, matrix, t, i, matrix.cols() + i);
         assert!(rt; done.is_ok());
     }
+    true
 }
 
-// The row of the first coordinate, once nine exchanges were made.
-fn has_factors(made: &[i128]) -> bool {
-    at(made, 0).unsigned_abs() == 1 && at(made, 9).unsigned_abs() == 913517247483640899
+// A call, and what it has to show. Vectors are up to their sign.
+#[derive(Clone, Copy)]
+enum Step {
+    // The row of a coordinate.
+    Row(usize, &'static [i128]),
+    // Its column, which is wide if the list is empty.
+    Column(usize, &'static [i128]),
+    // The vector of three numbers that is put into a list.
+    Put(usize, &'static [i128]),
+    Basis(&'static [u32]),
+    // The basis once one coordinate is exchanged for another.
+    Next(usize, usize, &'static [u32]),
+    Exchange(usize, usize, Result<(), Wide>),
+    // So many of the first columns are exchanged, each with the row of its number.
+    Diagonal(usize),
+    Enter(usize, Result<(), Refused>),
+    // The least wrong level of a coordinate's vector of this sign, from a level on.
+    Wrong(usize, Sign, usize, usize),
+    // The sign with which the row of coordinate 2 rules these kinds out.
+    Cuts(&'static [Kind], Option<Sign>),
 }
 
-#[test]
-fn the_tenth_factor_of_99_is_wide(rt: HostRuntime) {
-    let matrix = matrix(&rt, rt.alloc(), 11, 12, &chain(&rt, rt.alloc(), 11));
-    let mut t = Tableau::new(rt.alloc(), &matrix).expect(&rt, "memory");
-    exchange_diagonal(&rt, &matrix, &mut t, 9);
-    let made = row(&rt, &matrix, &t, 0);
-    assert!(rt; has_factors(made.as_slice()));
-    assert!(rt; exchange(&rt, &matrix, &mut t, 9, 21) == Err(Wide { index: 1 }));
-    let again = row(&rt, &matrix, &t, 0);
-    assert!(rt; again.as_slice() == made.as_slice());
-}
+const ASKED: [Kind; 3] = [Kind::Pos, Kind::Pos, Kind::Zero];
 
-#[test]
-fn rows_enter_until_a_vector_is_wide(rt: HostRuntime) {
-    let matrix = matrix(&rt, rt.alloc(), 11, 12, &chain(&rt, rt.alloc(), 11));
-    let mut t = Tableau::new(rt.alloc(), &matrix).expect(&rt, "memory");
-    let refused = Refused {
-        leave: 9,
-        enter: 21,
-        index: 1,
-    };
-    assert!(rt; t.enter_rows(12) == Err(refused));
-    let want = [11, 12, 13, 14, 15, 16, 17, 18, 19, 20, 21, 22];
-    assert!(rt; has_next(&rt, &matrix, &t, 9, 21, &want));
-}
-
-// The column of the last coordinate, once each other one depends on it.
-fn last_of_fan(rt: &impl Abort, alloc: Global, numbers: &[i128]) -> Result<Ints, ColumnStop> {
-    let count = numbers.len();
-    let matrix = matrix(
-        rt,
-        alloc,
-        count,
-        count.wrapping_add(1),
-        &fan(rt, alloc, numbers),
-    );
-    let mut t = Tableau::new(alloc, &matrix).expect(rt, "memory");
-    exchange_diagonal(rt, &matrix, &mut t, count);
-    column(rt, &matrix, &t, count)
-}
-
-const PRIMES: [i128; 11] = [97, 89, 83, 79, 73, 71, 67, 61, 59, 53, 47];
-
-// Whether a column is that of the first ten of these, by their product.
-fn is_of_ten(column: &Result<Ints, ColumnStop>) -> bool {
-    match column {
-        Ok(made) => {
-            at(made.as_slice(), 10).unsigned_abs() == 3749562977351496827
-                && at(made.as_slice(), 0).unsigned_abs() == 3749562977351496827 / 97
-        }
-        Err(_) => false,
+// Whether a call shows what it has to.
+fn shows(rt: &impl Abort, matrix: &Matrix, t: &mut Tableau, step: Step) -> bool
+    requires { t.old.matrix ≡ matrix.now }
+    ensures { t.new.matrix ≡ matrix.now }
+{
+    match step {
+        Step::Row(k, want) => has_row(rt, matrix, t, k, want),
+        Step::Column(k, want) => has_column(rt, matrix, t, k, want),
+        Step::Put(k, want) => puts(rt, matrix, t, k, want),
+        Step::Basis(want) => has_basis(rt, t, want),
+        Step::Next(leave, enter, want) => has_next(rt, matrix, t, leave, enter, want),
+        Step::Exchange(leave, enter, want) => exchange(rt, matrix, t, leave, enter) == want,
+        Step::Diagonal(count) => exchange_diagonal(rt, matrix, t, count),
+        Step::Enter(first, want) => t.enter_rows(first) == want,
+        Step::Wrong(k, sign, from, want) => wrong(rt, matrix, t, k, sign, &ASKED, from) == want,
+        Step::Cuts(kinds, want) => cuts(rt, matrix, t, 2, kinds) == want,
     }
 }
 
-fn is_wide(column: &Result<Ints, ColumnStop>) -> bool {
-    match column {
-        Err(ColumnStop::Wide) => true,
-        _ => false,
+// Once nine exchanges were made x_0 is 99^9 x_9 less the rows, of which each counts 99 times as much as the one before.
+const FACTORS: &[i128] = &[
+    1,
+    0,
+    0,
+    0,
+    0,
+    0,
+    0,
+    0,
+    0,
+    -913_517_247_483_640_899,
+    0,
+    0,
+    1,
+    99,
+    9_801,
+    970_299,
+    96_059_601,
+    9_509_900_499,
+    941_480_149_401,
+    93_206_534_790_699,
+    9_227_446_944_279_201,
+    0,
+    0,
+];
+
+const TEN: &[i128] = &[97, 89, 83, 79, 73, 71, 67, 61, 59, 53];
+
+const ELEVEN: &[i128] = &[97, 89, 83, 79, 73, 71, 67, 61, 59, 53, 47];
+
+// The product of the ten primes.
+const ALL: i128 = 3_749_562_977_351_496_827;
+
+// Where the rows are 0, a coordinate times its prime is the last one.
+const QUOTIENTS: &[i128] = &[
+    ALL / 97,
+    ALL / 89,
+    ALL / 83,
+    ALL / 79,
+    ALL / 73,
+    ALL / 71,
+    ALL / 67,
+    ALL / 61,
+    ALL / 59,
+    ALL / 53,
+    ALL,
+    0,
+    0,
+    0,
+    0,
+    0,
+    0,
+    0,
+    0,
+    0,
+    0,
+];
+
+const LAST: Refused = Refused {
+    leave: 9,
+    enter: 21,
+    index: 1,
+};
+
+use Step::{Basis, Column, Cuts, Diagonal, Enter, Exchange, Next, Put, Row, Wrong};
+
+// The row (1, -1, 1), and once it has entered the columns (1, 1, 0) and (0, 1, 1).
+const BY_HAND: &[Step] = &[
+    Row(2, &[1, -1, 1]),
+    Exchange(0, 2, Ok(())),
+    Row(0, &[1, -1, 1]),
+    Column(1, &[1, 1, 0]),
+    Basis(&[1, 2]),
+    Put(0, &[1, -1, 1]),
+    Put(1, &[1, 1, 0]),
+];
+
+// The second row depends on the first.
+const DEPENDENT: &[Step] = &[
+    Next(0, 3, &[2, 4]),
+    Next(1, 1, &[1, 2]),
+    Enter(2, Ok(())),
+    Basis(&[2, 4]),
+    Row(3, &[0, 0, -2, 1, 0]),
+];
+
+// The vectors (1, -1, 1) of the row, (1, 0, -1) and (0, 1, 1) of the columns.
+const LEVELS: &[Step] = &[
+    Wrong(2, Sign::Plus, 0, 1),
+    Wrong(2, Sign::Minus, 0, 0),
+    Wrong(2, Sign::Minus, 1, 3),
+    Wrong(0, Sign::Plus, 0, 2),
+    Wrong(0, Sign::Minus, 0, 0),
+    Wrong(1, Sign::Plus, 1, 2),
+];
+
+// A weight of each sign, the row as it is, its negative, nothing asked, and a weight where there may be none.
+const SIGNS: &[Step] = &[
+    Cuts(&[Kind::Pos, Kind::Pos, Kind::Zero], None),
+    Cuts(&[Kind::Pos, Kind::Neg, Kind::Zero], Some(Sign::Plus)),
+    Cuts(&[Kind::Neg, Kind::Pos, Kind::Zero], Some(Sign::Minus)),
+    Cuts(&[Kind::Zero, Kind::Zero, Kind::Zero], None),
+    Cuts(&[Kind::Pos, Kind::Neg, Kind::Free], None),
+];
+
+// Each row: what it shows, a matrix, and the calls.
+const CASES: &[(&str, Shape, &[Step])] = &[
+    ("calls worked by hand", Shape(1, 2, Rows(&[-1, 1])), BY_HAND),
+    (
+        "rows enter as far as they can",
+        Shape(3, 2, Rows(&[1, 2, 2, 4, 0, 1])),
+        DEPENDENT,
+    ),
+    ("wrong levels", Shape(1, 2, Rows(&[-1, 1])), LEVELS),
+    ("rows that cut", Shape(1, 2, Rows(&[-1, 1])), SIGNS),
+    (
+        "the tenth factor of 99 is wide",
+        Shape(11, 12, Chain),
+        &[
+            Diagonal(9),
+            Row(0, FACTORS),
+            Exchange(9, 21, Err(Wide { index: 1 })),
+            Row(0, FACTORS),
+        ],
+    ),
+    (
+        "rows enter until a vector is wide",
+        Shape(11, 12, Chain),
+        &[
+            Enter(12, Err(LAST)),
+            Next(9, 21, &[11, 12, 13, 14, 15, 16, 17, 18, 19, 20, 21, 22]),
+        ],
+    ),
+    (
+        "a column of ten primes",
+        Shape(10, 11, Fan(TEN)),
+        &[Diagonal(10), Column(10, QUOTIENTS)],
+    ),
+    (
+        "a column is wide by its common multiple",
+        Shape(11, 12, Fan(ELEVEN)),
+        &[Diagonal(11), Column(11, &[])],
+    ),
+];
+
+// Whether each call shows what it has to, on a new tableau.
+fn all_show(rt: &(impl Abort + AllocGlobal), shape: Shape, steps: &[Step]) -> bool {
+    let matrix = matrix(rt, rt.alloc(), shape);
+    let mut t = Tableau::new(rt.alloc(), &matrix).expect(rt, "memory");
+    let mut good = true;
+    for step in steps {
+        good = shows(rt, &matrix, &mut t, *step) && good;
     }
+    good
 }
 
 #[test]
-fn a_column_is_wide_by_its_common_multiple(rt: HostRuntime) {
-    assert!(rt; is_of_ten(&last_of_fan(&rt, rt.alloc(), &PRIMES[..10])));
-    assert!(rt; is_wide(&last_of_fan(&rt, rt.alloc(), &PRIMES)));
+fn tableaus_by_table(rt: HostRuntime) {
+    for (name, shape, steps) in CASES {
+        assert!(rt; all_show(&rt, *shape, steps), "{name}");
+    }
 }
