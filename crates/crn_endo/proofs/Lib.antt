@@ -4,5 +4,6 @@ mod Searched
 mod NodeCounts
 mod Answered
 mod WeakWords
+mod SpanLaws
 mod Steps
 mod Prelude

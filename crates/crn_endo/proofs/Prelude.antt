@@ -7,7 +7,9 @@ pub use Rattle.crn_cert.specs.declared.tree_node.TreeNode.{TreeNode}
 pub use Rattle.crn_endo.specs.Answer.{AreRefuted, AreRefutedWithin, FindWithin, IsEndoAnswer, PassTogether, PassingVisitsAreSpent, all_nodes}
 pub use Rattle.crn_endo.specs.Inner.Asked.{AreRaised, AskFirmly, IsAskable, ShowsWeak, firm_kind}
 pub use Rattle.crn_endo.specs.Inner.Decided.{AreDone, EndsAnswer, IsDecidedAt}
+pub use Rattle.crn_endo.specs.Inner.Spans.{AreSpans, IsSpan}
 pub use Rattle.crn_endo.specs.declared.answer.Decided.TheVariants.{Ended, Refuted, Refuted as RefutedBy}
+pub use Rattle.crn_endo.specs.declared.spans.Span.{Span}
 pub use Rattle.crn_endo_check.proofs.CallerLemmas.{slope_basis, slope_width, slopes_are_lawful, slopes_feasible, trees_formed}
 pub use Rattle.crn_endo_check.specs.Endo.{AreValidTrees, NamesReaction}
 pub use Rattle.crn_endo_check.specs.Endotactic.{IsAgainst, reaction_at}
@@ -23,7 +25,7 @@ pub use Rattle.crn_sign.specs.Search.{IsSearchEnd}
 pub use Rattle.crn_sign.specs.declared.bits.Bits.{Bits}
 pub use Rattle.crn_sign.specs.declared.end.SearchEnd.TheVariants.{Found}
 pub use Rattle.crn_sign.specs.declared.problem.Asked.{Asked}
-pub use Rattle.crn_vec.proofs.CallerLemmas.{above_ascending, above_in, all_at, all_push, any_default, are_one, at_in, below_or, eq_or, filter_ascending, filter_from, held, longer_by, lt_or, map_more, range_ascending, row_chosen, written}
+pub use Rattle.crn_vec.proofs.CallerLemmas.{above_ascending, above_in, all_at, all_push, any_default, are_one, at_in, below_or, eq_or, filter_ascending, filter_from, held, longer_by, lt_or, map_more, range_ascending, range_bounds, row_chosen, written}
 pub use Rattle.crn_vec.specs.Concordance.{is_plus, kind_of_sign, row_kinds}
 pub use Rattle.crn_vec.specs.Elementary.{width}
 pub use Rattle.crn_vec.specs.Kept.{KeptInts}
@@ -37,10 +39,10 @@ pub use Rattle.crn_vec.specs.declared.signs.Kind.{Kind}
 pub use Rattle.crn_vec.specs.declared.signs.Kind.TheVariants.{Free, Neg, NonNeg, Pos}
 pub use Rattle.crn_vec.specs.declared.signs.Sign.{Sign}
 pub use Rattle.crn_vec.specs.declared.signs.Sign.TheVariants.{Minus, Plus, Zero}
-pub use Rattle.std.proofs.Common.{Bool, List, [], add-one, ap, ap₂, arith, cond, drop, false, filter, get_or, inl, inr, length, map, of_z, refl, replicate, subst, suc, sym, take, to_z, true, zero, ℕ, ◌%◌, ◌++◌, ◌+◌, ◌-◌, ◌/◌, ◌<◌, ◌∙◌, ◌∷◌, ◌≡◌, ◌≢◌, ◌≤◌, ◌⊎◌}
+pub use Rattle.std.proofs.Common.{Bool, List, [], add-one, ap, ap₂, arith, cond, drop, false, filter, get_or, inl, inr, length, map, of_z, refl, replicate, set, subst, suc, sym, take, to_z, true, zero, ℕ, ◌%◌, ◌++◌, ◌+◌, ◌-◌, ◌/◌, ◌<◌, ◌∙◌, ◌∷◌, ◌≡◌, ◌≢◌, ◌≤◌, ◌⊎◌}
 pub use Rattle.std.proofs.lemmas.Bool.{eq-eqb, false≢true, ne_eqb}
 pub use Rattle.std.proofs.lemmas.Int.{fits_signed_from_abs, ints}
-pub use Rattle.std.proofs.lemmas.List.{get_or-append_right, get_or-replicate, get_or_append_left, length-append, length-map, length-replicate, map-append}
+pub use Rattle.std.proofs.lemmas.List.{get_or-append_right, get_or-replicate, get_or-set_other, get_or-set_same, get_or_append_left, length-append, length-map, length-replicate, length-set, map-append}
 pub use Rattle.std.proofs.lemmas.List.FromFn.{get_or-map-range_with_len, length-map-range_with_len}
 pub use Rattle.std.proofs.lemmas.List.Sums.{sum_by_push}
 pub use Rattle.std.proofs.lemmas.Nat.Bits.{bit_at-zero}

@@ -1,3 +1,4 @@
 -- For the contracts of private functions alone.
 pub mod Decided
 pub mod Asked
+pub mod Spans

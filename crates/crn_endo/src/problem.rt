@@ -6,7 +6,9 @@ ghost use Rattle.crn_sign.specs.Options.{asked_kind, bit_of, word_count};
 ghost use Rattle.crn_sign.specs.Search.{IsSearchEnd, IsSearchStop};
 ghost use Rattle.crn_endo_check.specs.Slopes.{IsSmallEnough, others, reactants, slope_matrix, slopes};
 ghost use Rattle.crn_endo.specs.Inner.Asked.{AreRaised, AskFirmly, ShowsWeak, firm_kind};
+ghost use Rattle.crn_endo.specs.Inner.Spans.{AreSpans, IsSpan};
 
+use crate::spans::{Span, spans_of};
 use crn_endo_check::Slopes;
 use crn_farkas::Solver;
 use crn_net::Network;
@@ -17,17 +19,19 @@ use crn_sign::{
 use crn_vec::{Kind, Matrix, NoMemory, Sign};
 use std::alloc::Global;
 
-/// The sign problem of a reaction, with its further reactant complexes, its matrix and the coordinates that are at least 0 at
-/// some prefix.
+/// The sign problem of a reaction, with its further reactant complexes, the spans of all complexes, its matrix and the
+/// coordinates that are at least 0 at some prefix.
 #[derive(Drop)]
 pub(crate) struct SlopeProblem<'a> {
     pub given: &'a Slopes<'a>,
     pub net: &'a Network,
     pub further: Vec<usize>,
+    pub spans: Vec<Span>,
     pub matrix: Matrix,
     pub weak: Vec<u64>,
     ghost net_is: { given.now.net ≡ net.now },
     ghost further_is: { further.items ≡ others net.now given.now.reaction },
+    ghost spans_are: { AreSpans net.now (length net.now.reactions) spans.items },
     ghost matrix_is: { matrix ≡ slope_matrix given.now.net given.now.reaction },
     ghost weak_is: { ShowsWeak given.now.net given.now.reaction weak.items },
 }
@@ -82,13 +86,14 @@ fn further_of(alloc: Global, complexes: &[usize], own: usize) -> Result<Vec<usiz
     Ok(made)
 }
 
-// Requires a positive number, or one at least 0, of the rises along the reactions from a complex.
-fn put_rises(net: &Network, words: &mut [Bits], c: usize)
-    requires { length net.now.names + length net.now.reactions ≤ length words.old * 64 }
+// Requires a positive number, or one at least 0, of the rises along the reactions from a complex with this span.
+fn put_rises(net: &Network, words: &mut [Bits], c: usize, span: &Span)
+    requires room { length net.now.names + length net.now.reactions ≤ length words.old * 64 }
+    requires span { IsSpan net.now c (length net.now.reactions) span.now }
     ensures { AreRaised net.now c (length net.now.reactions) words.old words.new }
 {
     let species = net.species();
-    for q in 0..net.reactions() {
+    for q in span.first..span.end {
         let from = net.reactant(q);
         if from == c {
             put_asked(words, species + q, asked_of_sign(Sign::Plus));
@@ -126,7 +131,7 @@ impl SlopeProblem<'_> {
             asked_of_sign(option),
         );
         match option {
-            Sign::Plus => put_rises(self.net, words, c),
+            Sign::Plus => put_rises(self.net, words, c, &self.spans[c]),
             Sign::Zero => {}
             Sign::Minus => {}
         }
@@ -228,11 +233,13 @@ pub(crate) fn search_slopes(
     let matrix = given.matrix(alloc)?;
     let weak = weak_words(alloc, given, &matrix)?;
     let further = further_of(alloc, complexes, net.reactant(reaction))?;
+    let spans = spans_of(alloc, net)?;
     let solver = Solver::new(alloc, &matrix)?;
     let problem = SlopeProblem {
         given,
         net,
         further,
+        spans,
         matrix,
         weak,
     };
