@@ -1,6 +1,7 @@
 -- The tokens of a text.
 use Rattle.crn_text.proofs.Prelude.{◌≡◌, ℕ, zero, suc, ◌-◌, ◌<◌, ◌≤◌, Bool, true, false, eqb, List, [], ◌∷◌, ◌++◌, Bor, length, take, drop, get_or, refl, sym, ap, ap₂, ◌∙◌, inl, inr, arith, codes, nat_eq, prefix_len, starts_with, list_all, cases_Bool, ne_eqb, length-take, take-append-drop, prefix_len-le-length, is_letter, is_name_byte, begins_name, token, first_token, tokens_after, tokens, is_digit, is_blank, is_name_kind, is_number_kind, Begins, BeginsWith, TokenKind, Number, Name, Plus, Arrow, BothWays, Back, Stray}
 use Rattle.crn_text.proofs.Lists.{one_more}
+use Rattle.crn_text.proofs.Chosen.{name_is_no_digit, name_is_letter, number_is_digit}
 
 pub begins_number : (rest : List ℕ) → 0 < length rest → is_digit (get_or rest 0 0) ≡ true → Begins rest Number (prefix_len is_digit rest)
 unfolding first_token
@@ -111,46 +112,10 @@ unfolding first_token
 begins_named [] kind width b name = absurd (let i = b.inside in let s = b.some in omega arith)
 begins_named (x ∷ bs) kind width b name =
     let is : is_name_kind (first_token (x ∷ bs)).kind ≡ true = ap is_name_kind b.same ∙ name in
-    elim (cases_Bool (is_digit x)) [
-      | inl d ↦ absurd (let e = rw d at is in cc)
-      | inr d ↦ elim (cases_Bool (is_letter x)) [
-        | inl l ↦ let text = rw (d, l, one_more) at b.text in ap begins_name (sym text) ∙ rw l (all_prefix is_name_byte bs)
-        | inr l ↦ elim (cases_Bool (eqb x 43)) [
-          | inl p ↦ absurd (let e = rw (d, l, p) at is in cc)
-          | inr p ↦ elim (cases_Bool (starts_with nat_eq (x ∷ bs) (codes "->"))) [
-            | inl s ↦ absurd (let e = rw (d, l, p, s) at is in cc)
-            | inr s ↦ elim (cases_Bool (starts_with nat_eq (x ∷ bs) (codes "<->"))) [
-              | inl t ↦ absurd (let e = rw (d, l, p, s, t) at is in cc)
-              | inr t ↦ elim (cases_Bool (starts_with nat_eq (x ∷ bs) (codes "<-"))) [
-                | inl u ↦ absurd (let e = rw (d, l, p, s, t, u) at is in cc)
-                | inr u ↦ absurd (let e = rw (d, l, p, s, t, u) at is in cc)
-              ]
-            ]
-          ]
-        ]
-      ]
-    ]
-
--- a token that begins with another byte than a digit is not a number
-other_number : (x : ℕ) (bs : List ℕ) → is_digit x ≡ false → is_number_kind (first_token (x ∷ bs)).kind ≡ true → ⊥
-unfolding first_token
-other_number x bs d is =
-    elim (cases_Bool (is_letter x)) [
-      | inl l ↦ absurd (let e = rw (d, l) at is in cc)
-      | inr l ↦ elim (cases_Bool (eqb x 43)) [
-        | inl p ↦ absurd (let e = rw (d, l, p) at is in cc)
-        | inr p ↦ elim (cases_Bool (starts_with nat_eq (x ∷ bs) (codes "->"))) [
-          | inl s ↦ absurd (let e = rw (d, l, p, s) at is in cc)
-          | inr s ↦ elim (cases_Bool (starts_with nat_eq (x ∷ bs) (codes "<->"))) [
-            | inl t ↦ absurd (let e = rw (d, l, p, s, t) at is in cc)
-            | inr t ↦ elim (cases_Bool (starts_with nat_eq (x ∷ bs) (codes "<-"))) [
-              | inl u ↦ absurd (let e = rw (d, l, p, s, t, u) at is in cc)
-              | inr u ↦ absurd (let e = rw (d, l, p, s, t, u) at is in cc)
-            ]
-          ]
-        ]
-      ]
-    ]
+    let d : is_digit x ≡ false = name_is_no_digit _ _ _ _ _ _ _ _ _ _ _ is in
+    let l : is_letter x ≡ true = name_is_letter _ _ _ _ _ _ _ _ _ _ _ is in
+    let text = rw (d, l, one_more) at b.text in
+    ap begins_name (sym text) ∙ rw l (all_prefix is_name_byte bs)
 
 -- a token of the kind of numbers is digits
 pub begins_digits : (rest : List ℕ) (kind : TokenKind) (width : ℕ) → Begins rest kind width → is_number_kind kind ≡ true → list_all is_digit (take width rest) ≡ true
@@ -158,12 +123,9 @@ unfolding first_token
 begins_digits [] kind width b number = absurd (let i = b.inside in let s = b.some in omega arith)
 begins_digits (x ∷ bs) kind width b number =
     let is : is_number_kind (first_token (x ∷ bs)).kind ≡ true = ap is_number_kind b.same ∙ number in
-    elim (cases_Bool (is_digit x)) [
-      | inl d ↦
-          let first : (first_token (x ∷ bs)).text ≡ take (prefix_len is_digit (x ∷ bs)) (x ∷ bs) = rw d refl in
-          ap (list_all is_digit) (sym (sym first ∙ b.text)) ∙ all_prefix is_digit (x ∷ bs)
-      | inr d ↦ absurd (other_number x bs d is)
-    ]
+    let d : is_digit x ≡ true = number_is_digit _ _ _ _ _ _ _ _ _ _ _ is in
+    let first : (first_token (x ∷ bs)).text ≡ take (prefix_len is_digit (x ∷ bs)) (x ∷ bs) = rw d refl in
+    ap (list_all is_digit) (sym (sym first ∙ b.text)) ∙ all_prefix is_digit (x ∷ bs)
 
 -- ---- the first token of a text
 
