@@ -10,14 +10,8 @@ mod lists;
 #[cfg(test)]
 mod matrices;
 #[cfg(test)]
-mod reports;
-#[cfg(test)]
-mod statuses;
-#[cfg(test)]
 mod streams;
 #[cfg(test)]
 mod systems;
 #[cfg(test)]
 mod tableaus;
-#[cfg(test)]
-mod versions;

@@ -6,11 +6,10 @@ use crn_vec::{MAX_AMOUNT, Matrix};
 use std::alloc::Global;
 use std::process::Abort;
 
-// Entries row by row or column by column, the rows -x_i + 99 x_(i + 1), and the rows p x_i - x_last, for each p.
+// Entries row by row, the rows -x_i + 99 x_(i + 1), and the rows p x_i - x_last, for each p.
 #[derive(Clone, Copy)]
 pub enum Entries {
     Rows(&'static [i128]),
-    Columns(&'static [i128]),
     Chain,
     Fan(&'static [i128]),
 }
@@ -29,10 +28,9 @@ pub fn at(list: &[i128], place: usize) -> i128 {
 
 // The entry in row i and column j.
 fn entry(shape: Shape, i: usize, j: usize) -> i128 {
-    let Shape(rows, cols, entries) = shape;
+    let Shape(_, cols, entries) = shape;
     match entries {
         Entries::Rows(list) => at(list, i.wrapping_mul(cols).wrapping_add(j)),
-        Entries::Columns(list) => at(list, j.wrapping_mul(rows).wrapping_add(i)),
         Entries::Chain if j == i => -1,
         Entries::Chain if j == i.wrapping_add(1) => 99,
         Entries::Fan(numbers) if j == i => at(numbers, i),

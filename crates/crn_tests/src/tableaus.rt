@@ -2,29 +2,9 @@ ghost use Rattle.std.specs.Prelude.{◌≡◌};
 
 use super::matrices::Entries::{Chain, Fan, Rows};
 use super::matrices::{Shape, matrix};
-use crn_tab::{ColumnStop, Refused, Tableau, Wide};
-use crn_vec::{Ints, Kind, Matrix, Sign};
+use crn_tab::{ColumnStop, Refused, Tableau};
+use crn_vec::{Ints, Matrix};
 use std::process::Abort;
-
-// Exchanges two coordinates, after each condition was tested.
-fn exchange(
-    rt: &impl Abort,
-    matrix: &Matrix,
-    t: &mut Tableau,
-    leave: usize,
-    enter: usize,
-) -> Result<(), Wide>
-    requires { t.old.matrix ≡ matrix.now }
-    ensures { t.new.matrix ≡ matrix.now }
-{
-    let size = matrix.cols() + matrix.rows();
-    assert!(rt; leave < size);
-    assert!(rt; enter < size);
-    assert!(rt; t.is_basic(leave));
-    assert!(rt; !t.is_basic(enter));
-    assert!(rt; t.entry(enter, leave).num() != 0);
-    t.pivot(leave, enter)
-}
 
 fn row(rt: &impl Abort, matrix: &Matrix, t: &Tableau, k: usize) -> Ints
     requires { t.now.matrix ≡ matrix.now }
@@ -40,20 +20,6 @@ fn column(rt: &impl Abort, matrix: &Matrix, t: &Tableau, k: usize) -> Result<Int
     assert!(rt; k < matrix.cols() + matrix.rows());
     assert!(rt; t.is_basic(k));
     t.column(k)
-}
-
-// The vector of a coordinate, into a list that is lent.
-fn put_vector(rt: &impl Abort, matrix: &Matrix, t: &Tableau, k: usize, into: &mut [i128]) -> bool
-    requires { t.now.matrix ≡ matrix.now }
-{
-    let size = matrix.cols() + matrix.rows();
-    assert!(rt; k < size);
-    assert!(rt; into.len() == size);
-    if t.is_basic(k) {
-        return t.put_column(k, into).is_ok();
-    }
-    t.put_row(k, into);
-    true
 }
 
 // Whether the list is the wanted one or its negative.
@@ -85,79 +51,8 @@ fn has_column(rt: &impl Abort, matrix: &Matrix, t: &Tableau, k: usize, want: &[i
     }
 }
 
-// So for its vector of three numbers in a list that is lent.
-fn puts(rt: &impl Abort, matrix: &Matrix, t: &Tableau, k: usize, want: &[i128]) -> bool
-    requires { t.now.matrix ≡ matrix.now }
-{
-    let mut into = [7i128; 3];
-    put_vector(rt, matrix, t, k, &mut into) && is_up_to_sign(&into, want)
-}
-
 fn has_basis(rt: &impl Abort, t: &Tableau, want: &[u32]) -> bool {
     t.basis().expect(rt, "memory").as_slice() == want
-}
-
-// Whether a basis has these members once two coordinates are exchanged.
-fn has_next(
-    rt: &impl Abort,
-    matrix: &Matrix,
-    t: &Tableau,
-    leave: usize,
-    enter: usize,
-    want: &[u32],
-) -> bool
-    requires { t.now.matrix ≡ matrix.now }
-{
-    assert!(rt; enter < matrix.cols() + matrix.rows());
-    t.basis_after(leave, enter).expect(rt, "memory").as_slice() == want
-}
-
-// The least level of a wrong coordinate, in the row or the column of a coordinate.
-fn wrong(
-    rt: &impl Abort,
-    matrix: &Matrix,
-    t: &Tableau,
-    k: usize,
-    sign: Sign,
-    kinds: &[Kind],
-    from: usize,
-) -> usize
-    requires { t.now.matrix ≡ matrix.now }
-{
-    let level = [0, 1, 2];
-    let size = matrix.cols() + matrix.rows();
-    assert!(rt; k < size);
-    assert!(rt; kinds.len() == size);
-    assert!(rt; level.len() == size);
-    assert!(rt; from <= 3);
-    if t.is_basic(k) {
-        return t.wrong_in_column(k, sign, kinds, &level, from, 3);
-    }
-    t.wrong_in_row(k, sign, kinds, &level, from, 3)
-}
-
-// The sign with which the vectors of a coordinate rule a system out.
-fn cuts(rt: &impl Abort, matrix: &Matrix, t: &Tableau, k: usize, kinds: &[Kind]) -> Option<Sign>
-    requires { t.now.matrix ≡ matrix.now }
-{
-    let size = matrix.cols() + matrix.rows();
-    assert!(rt; k < size);
-    assert!(rt; kinds.len() == size);
-    assert!(rt; !t.is_basic(k));
-    t.row_cuts(k, kinds)
-}
-
-// Exchanges each of the first columns with the row of the same number.
-fn exchange_diagonal(rt: &impl Abort, matrix: &Matrix, t: &mut Tableau, count: usize) -> bool
-    requires { t.old.matrix ≡ matrix.now }
-    ensures { t.new.matrix ≡ matrix.now }
-{
-    assert!(rt; count <= matrix.rows());
-    for i in 0..count {
-        let done = exchange(rt, matrix, t, i, matrix.cols() + i);
-        assert!(rt; done.is_ok());
-    }
-    true
 }
 
 // A call, and what it has to show. Vectors are up to their sign.
@@ -167,22 +62,9 @@ enum Step {
     Row(usize, &'static [i128]),
     // Its column, which is wide if the list is empty.
     Column(usize, &'static [i128]),
-    // The vector of three numbers that is put into a list.
-    Put(usize, &'static [i128]),
     Basis(&'static [u32]),
-    // The basis once one coordinate is exchanged for another.
-    Next(usize, usize, &'static [u32]),
-    Exchange(usize, usize, Result<(), Wide>),
-    // So many of the first columns are exchanged, each with the row of its number.
-    Diagonal(usize),
     Enter(usize, Result<(), Refused>),
-    // The least wrong level of a coordinate's vector of this sign, from a level on.
-    Wrong(usize, Sign, usize, usize),
-    // The sign with which the row of coordinate 2 rules these kinds out.
-    Cuts(&'static [Kind], Option<Sign>),
 }
-
-const ASKED: [Kind; 3] = [Kind::Pos, Kind::Pos, Kind::Zero];
 
 // Whether a call shows what it has to.
 fn shows(rt: &impl Abort, matrix: &Matrix, t: &mut Tableau, step: Step) -> bool
@@ -192,14 +74,8 @@ fn shows(rt: &impl Abort, matrix: &Matrix, t: &mut Tableau, step: Step) -> bool
     match step {
         Step::Row(k, want) => has_row(rt, matrix, t, k, want),
         Step::Column(k, want) => has_column(rt, matrix, t, k, want),
-        Step::Put(k, want) => puts(rt, matrix, t, k, want),
         Step::Basis(want) => has_basis(rt, t, want),
-        Step::Next(leave, enter, want) => has_next(rt, matrix, t, leave, enter, want),
-        Step::Exchange(leave, enter, want) => exchange(rt, matrix, t, leave, enter) == want,
-        Step::Diagonal(count) => exchange_diagonal(rt, matrix, t, count),
         Step::Enter(first, want) => t.enter_rows(first) == want,
-        Step::Wrong(k, sign, from, want) => wrong(rt, matrix, t, k, sign, &ASKED, from) == want,
-        Step::Cuts(kinds, want) => cuts(rt, matrix, t, 2, kinds) == want,
     }
 }
 
@@ -268,46 +144,19 @@ const LAST: Refused = Refused {
     index: 1,
 };
 
-use Step::{Basis, Column, Cuts, Diagonal, Enter, Exchange, Next, Put, Row, Wrong};
+use Step::{Basis, Column, Enter, Row};
 
 // The row (1, -1, 1), and once it has entered the columns (1, 1, 0) and (0, 1, 1).
 const BY_HAND: &[Step] = &[
     Row(2, &[1, -1, 1]),
-    Exchange(0, 2, Ok(())),
+    Enter(2, Ok(())),
     Row(0, &[1, -1, 1]),
     Column(1, &[1, 1, 0]),
     Basis(&[1, 2]),
-    Put(0, &[1, -1, 1]),
-    Put(1, &[1, 1, 0]),
 ];
 
 // The second row depends on the first.
-const DEPENDENT: &[Step] = &[
-    Next(0, 3, &[2, 4]),
-    Next(1, 1, &[1, 2]),
-    Enter(2, Ok(())),
-    Basis(&[2, 4]),
-    Row(3, &[0, 0, -2, 1, 0]),
-];
-
-// The vectors (1, -1, 1) of the row, (1, 0, -1) and (0, 1, 1) of the columns.
-const LEVELS: &[Step] = &[
-    Wrong(2, Sign::Plus, 0, 1),
-    Wrong(2, Sign::Minus, 0, 0),
-    Wrong(2, Sign::Minus, 1, 3),
-    Wrong(0, Sign::Plus, 0, 2),
-    Wrong(0, Sign::Minus, 0, 0),
-    Wrong(1, Sign::Plus, 1, 2),
-];
-
-// A weight of each sign, the row as it is, its negative, nothing asked, and a weight where there may be none.
-const SIGNS: &[Step] = &[
-    Cuts(&[Kind::Pos, Kind::Pos, Kind::Zero], None),
-    Cuts(&[Kind::Pos, Kind::Neg, Kind::Zero], Some(Sign::Plus)),
-    Cuts(&[Kind::Neg, Kind::Pos, Kind::Zero], Some(Sign::Minus)),
-    Cuts(&[Kind::Zero, Kind::Zero, Kind::Zero], None),
-    Cuts(&[Kind::Pos, Kind::Neg, Kind::Free], None),
-];
+const DEPENDENT: &[Step] = &[Enter(2, Ok(())), Basis(&[2, 4]), Row(3, &[0, 0, -2, 1, 0])];
 
 // Each row: what it shows, a matrix, and the calls.
 const CASES: &[(&str, Shape, &[Step])] = &[
@@ -317,35 +166,20 @@ const CASES: &[(&str, Shape, &[Step])] = &[
         Shape(3, 2, Rows(&[1, 2, 2, 4, 0, 1])),
         DEPENDENT,
     ),
-    ("wrong levels", Shape(1, 2, Rows(&[-1, 1])), LEVELS),
-    ("rows that cut", Shape(1, 2, Rows(&[-1, 1])), SIGNS),
     (
-        "the tenth factor of 99 is wide",
+        "rows enter until the tenth factor of 99, which is wide",
         Shape(11, 12, Chain),
-        &[
-            Diagonal(9),
-            Row(0, FACTORS),
-            Exchange(9, 21, Err(Wide { index: 1 })),
-            Row(0, FACTORS),
-        ],
-    ),
-    (
-        "rows enter until a vector is wide",
-        Shape(11, 12, Chain),
-        &[
-            Enter(12, Err(LAST)),
-            Next(9, 21, &[11, 12, 13, 14, 15, 16, 17, 18, 19, 20, 21, 22]),
-        ],
+        &[Enter(12, Err(LAST)), Row(0, FACTORS)],
     ),
     (
         "a column of ten primes",
         Shape(10, 11, Fan(TEN)),
-        &[Diagonal(10), Column(10, QUOTIENTS)],
+        &[Enter(11, Ok(())), Column(10, QUOTIENTS)],
     ),
     (
         "a column is wide by its common multiple",
         Shape(11, 12, Fan(ELEVEN)),
-        &[Diagonal(11), Column(11, &[])],
+        &[Enter(12, Ok(())), Column(11, &[])],
     ),
 ];
 
