@@ -39,12 +39,17 @@ fn add_digits(piece: &mut Piece, number: u128)
     add_bytes(piece, buffer.format(number).as_bytes())
 }
 
-// A space, and the sign of a negative number.
-fn sign(number: &i128) -> &'static [u8]
-    ensures text { number_text number.now ≡ result.now ++ decimal (unsigned_abs number.now) }
-    ensures short { length result.now ≤ 2 }
+// Adds a space, and the sign of a negative number.
+fn add_sign(piece: &mut Piece, number: &i128)
+    requires { array_vec_len piece.old + 43 ≤ 256 }
+    ensures text { piece.new.items ++ decimal (unsigned_abs number.now)
+        ≡ piece.old.items ++ number_text number.now }
+    ensures len { array_vec_len piece.new ≤ array_vec_len piece.old + 2 }
 {
-    if *number < 0 { b" -" } else { b" " }
+    piece.push(b' ');
+    if *number < 0 {
+        piece.push(b'-');
+    }
 }
 
 // Adds a number after a space.
@@ -53,7 +58,7 @@ fn add_int(piece: &mut Piece, number: &i128)
     ensures text { piece.new.items ≡ piece.old.items ++ number_text number.now }
     ensures room { array_vec_len piece.new < 256 }
 {
-    add_bytes(piece, sign(number));
+    add_sign(piece, number);
     add_digits(piece, number.unsigned_abs());
 }
 

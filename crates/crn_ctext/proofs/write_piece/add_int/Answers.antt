@@ -1,8 +1,7 @@
-use Rattle.crn_ctext.proofs.Pieces.{added}
-use Rattle.crn_ctext.proofs.Prelude.{◌≡◌, arith, ints, unsigned_abs}
+use Rattle.crn_ctext.proofs.Prelude.{◌≡◌, arith, ints, unsigned_abs, ◌∙◌}
 use Rattle.crn_ctext.proofs.write_piece.add_int.Goals as goal
 
 pub returns-clause-text : goal.returns-clause-text
 returns-clause-text c =
     let ua : c.unsigned_abs.result ≡ unsigned_abs c.args.number.now = omega (arith, ints) in
-    added _ _ _ c.sign.ensures.text c.add_bytes.ensures.text (rw ua at c.add_digits.ensures.text)
+    (rw ua at c.add_digits.ensures.text) ∙ c.add_sign.ensures.text
