@@ -2,7 +2,7 @@
 pub use Rattle.crn_farkas.specs.Decision.{IsDecision, IsSmallCut, IsSmallSolution, IsStop, IsTargetStop, WitnessesMakeSolutions, factor}
 pub use Rattle.crn_farkas.specs.Inner.Sums.{AreZeros, HasPartSum, IsGoalStop, IsPart, IsPartSum, IsWitness}
 pub use Rattle.crn_farkas.specs.Inner.Views.{AgreeBeyond, AreLevels, HasCrossed, IsFirstWrong, IsOrder, IsRight, IsRightBetween, IsRightEverywhere, IsSeen, IsSettled, IsSwapped, IsView, IsViewed, IsWrongHere, is_early_kind, lead_at, level_count, level_of}
-pub use Rattle.crn_farkas.specs.Solver.{AreCutSigns, AreNamedMultipliers, AreWitnessSigns, CutsBy, HasKeptCut, IsNamedCut, IsNear, IsNearStop, IsRefusedStop, IsRuledOut, IsUnsolvable}
+pub use Rattle.crn_farkas.specs.Solver.{AreCutSigns, AreNamedMultipliers, AreSignsOf, AreWitnessSigns, CutsBy, HasKeptCut, IsNamedCut, IsNear, IsNearStop, IsRefusedStop, IsRuledOut, IsUnsolvable}
 pub use Rattle.crn_farkas.specs.declared.decision.Decision.{Decision}
 pub use Rattle.crn_farkas.specs.declared.fault.Stop.{Stop}
 pub use Rattle.crn_farkas.specs.declared.fault.Stop.TheVariants.{NoMemory, Wide}

@@ -1,5 +1,5 @@
 -- Lists that rule a system out, from their entries.
-use Rattle.crn_farkas.proofs.Prelude.{◌≡◌, ◌≢◌, ℕ, zero, suc, ◌+◌, ◌<◌, ◌≤◌, inl, inr, List, [], ◌∷◌, ◌++◌, length, take, drop, refl, sym, ap, subst, ◌∙◌, add-one, arith, ℤ, pos, ◌*ℤ◌, unsigned_abs, Bool, true, false, ints, false≢true, get_or-drop, WIDE_ENTRY, Kind, Free, Sign, Zero, Mat, entry, HasSign, scale, IsIn, width, InDualSpace, IsNamed, IsNamedRow, HasWeight, IsCut, MayWeigh, kind_at, is_signed, kinds_at, weights_decide_cuts, lt_or, past_end, zip_from, entry-scale, no_zero, NamesRows, RulesBelow, one_row, as_row, IsSmallCut, factor, CutsBy, AreNamedMultipliers}
+use Rattle.crn_farkas.proofs.Prelude.{◌≡◌, ◌≢◌, ℕ, zero, suc, ◌+◌, ◌<◌, ◌≤◌, inl, inr, List, [], ◌∷◌, ◌++◌, length, get_or, take, drop, refl, sym, ap, subst, ◌∙◌, add-one, arith, ℤ, pos, ◌*ℤ◌, unsigned_abs, Bool, true, false, ints, false≢true, get_or-drop, WIDE_ENTRY, Kind, Free, Sign, Zero, Mat, entry, HasSign, scale, IsIn, width, InDualSpace, IsNamed, IsNamedRow, HasWeight, IsCut, MayWeigh, kind_at, is_signed, kinds_at, weights_decide_cuts, lt_or, past_end, zip_from, entry-scale, no_zero, NamesRows, RulesBelow, one_row, as_row, IsSmallCut, factor, CutsBy, AreNamedMultipliers, AreSignsOf, IsRowOfSign}
 use lib.IntN.{zero-*ℤ}
 use Rattle.crn_farkas.proofs.Pairs.{named_scaled, dual_scaled, drop-scale, own_some}
 
@@ -103,6 +103,25 @@ multipliers_from a basis e s w u out named same =
       space = dual_scaled a q w (as_row a basis e w out named).space;
       rows = drop-scale q a.cols w ∙ sym same;
     }
+
+-- they are those of a vector of this sign at its coordinate
+pub row_from : (a : Mat) (basis : List ℕ) (e : ℕ) (sign : Sign) (s : Bool) (w u : List ℤ) → NamesRows a basis → e < width a → ¬ IsIn e basis → sign ≢ Zero → IsNamed a basis e w
+    → (entry w e ≢ pos 0 → sign ≢ Zero → HasSign sign (factor s *ℤ entry w e)) → u ≡ scale (factor s) (drop a.cols w) → (v : List ℤ) × IsRowOfSign a basis e sign v × (drop a.cols v ≡ u)
+row_from a basis e sign s w u t lt out some named signs same =
+    let q = factor s in
+    let signed = signs (own_some a basis e w t lt out named) some in
+    (scale q w, (named_scaled a basis e q w (as_row a basis e w out named), subst (HasSign sign) (sym (entry-scale q w e)) signed), drop-scale q a.cols w ∙ sym same)
+
+-- the signs of all such vectors are those of the one with these multipliers
+pub signs_of_row : (a : Mat) (basis : List ℕ) (e : ℕ) (sign : Sign) (u : List ℤ) (signs : List Sign) → length signs ≡ width a
+    → ((w : List ℤ) → IsRowOfSign a basis e sign w → (k : ℕ) → k < width a → HasSign (get_or signs k Zero) (entry w k)) → (w : List ℤ) × IsRowOfSign a basis e sign w × (drop a.cols w ≡ u) → AreSignsOf a u signs
+signs_of_row a basis e sign u signs long are r = record {
+  w = r.0;
+  space = r.1.0.space;
+  rows = r.2;
+  are = zip_from HasSign Zero (pos 0) signs r.0 (r.1.0.space.long ∙ sym long) (λ k lt. are r.0 r.1 k (omega (arith, lt, long)));
+  long = long;
+}
 
 -- a named vector that rules the system out is not 0 at its coordinate
 pub ruling_some : (a : Mat) (basis : List ℕ) (kinds : List Kind) (e : ℕ) (w : List ℤ) → NamesRows a basis → IsNamedRow a basis e w → IsCut a kinds (drop a.cols w) → entry w e ≢ pos 0

@@ -134,6 +134,14 @@ pub record AreCutSigns (a : Mat) (basis : List ℕ) (g : ℕ) (sign : Sign) (sig
   pub at_goal : HasSign sign (entry w g)
   pub are : AllZip HasSign signs w
 
+-- the signs of the list (-uA, u)
+pub record AreSignsOf (a : Mat) (u : List ℤ) (signs : List Sign) : Type 0 where
+  pub w : List ℤ
+  pub space : InDualSpace a w
+  pub rows : drop a.cols w ≡ u
+  pub are : AllZip HasSign signs w
+  pub long : length signs ≡ width a
+
 -- the signs of a witness, or of the vector by which the system is ruled out
 abbrev pub IsAlternative : Mat → List ℕ → List Kind → ℕ → List Sign → Alternative → Type 0
 IsAlternative a basis kinds g signs Witness = AreWitnessSigns a basis kinds g signs

@@ -4,6 +4,7 @@ ghost use Rattle.crn_vec.specs.Vectors.{entry, HasSign, scale};
 ghost use Rattle.crn_vec.specs.Lists.{IsIn};
 ghost use Rattle.crn_vec.specs.Elementary.{width, IsNamedRow};
 ghost use Rattle.crn_vec.specs.Systems.{HasSigned};
+ghost use Rattle.crn_tab.specs.Tableau.{IsRowOfSign};
 ghost use Rattle.crn_farkas.specs.Decision.{factor};
 ghost use Rattle.crn_farkas.specs.Solver.{IsCutBy, HasKeptCut, IsNamedCut};
 
@@ -93,6 +94,9 @@ pub(crate) fn multipliers(
     ensures work { length work.new ≡ length work.old }
     ensures named { IfOk result
         (λ u. IsNamedCut tableau.now.matrix tableau.now.basis kinds.now u.list) }
+    ensures row { IfOk result (λ u. (w : List ℤ)
+        × IsRowOfSign tableau.now.matrix tableau.now.basis cut.now.row cut.now.sign w
+        × (drop tableau.now.matrix.cols w ≡ u.list)) }
 {
     tableau.names_rows();
     tableau.put_row(cut.row, work);

@@ -4,7 +4,7 @@ ghost use Rattle.crn_vec.specs.Elementary.{width, IsBasis};
 ghost use Rattle.crn_vec.specs.Systems.{HasOneRowCut, is_signed, kind_at, signed_count};
 ghost use Rattle.crn_vec.specs.declared.limits.TheConstants.{MAX_SIGNED};
 ghost use Rattle.crn_tab.specs.Tableau.{NamesRows};
-ghost use Rattle.crn_farkas.specs.Solver.{HasKeptCut, IsCutBy, IsAlternative, IsUnsolvable, IsNamedCut, IsNamedDecision, IsNearStop, IsRefusedStop, IsRuledOut, IsFeasibility};
+ghost use Rattle.crn_farkas.specs.Solver.{AreSignsOf, HasKeptCut, IsCutBy, IsAlternative, IsUnsolvable, IsNamedCut, IsNamedDecision, IsNearStop, IsRefusedStop, IsRuledOut, IsFeasibility};
 ghost use Rattle.crn_farkas.specs.Decision.{IsDecision, IsTargetStop};
 ghost use Rattle.crn_farkas.specs.Inner.Sums.{CanDecide};
 
@@ -259,15 +259,25 @@ impl Solver {
         result
     }
 
-    /// The multipliers of the vector by which `feasibility` or `alternative` has found that the system has no solution. It takes memory for them.
-    pub fn multipliers(&mut self, kinds: &[Kind], cut: &Cut) -> Result<Ints, NoMemory>
+    /// The multipliers of the vector by which `feasibility` or `alternative` has found that the system has no solution, and the signs
+    /// of this vector. It takes memory for the multipliers.
+    pub fn multipliers(
+        &mut self,
+        kinds: &[Kind],
+        cut: &Cut,
+        signs: &mut [Sign],
+    ) -> Result<Ints, NoMemory>
         requires kinds { length kinds.now ≡ width self.old.matrix }
+        requires signs { length signs.old ≡ width self.old.matrix }
         requires cut { IsCutBy self.old.matrix self.old.basis kinds.now cut.now.row cut.now.sign }
         ensures same { self.new ≡ self.old }
         ensures named { IfOk result
             (λ u. IsNamedCut self.new.matrix self.new.basis kinds.now u.list) }
+        ensures count { length signs.new ≡ length signs.old }
+        ensures signs { IfOk result (λ u. AreSignsOf self.new.matrix u.list signs.new) }
     {
         let alloc = *self.order.allocator();
+        self.tableau.put_signs(cut.row, cut.sign, signs);
         multipliers(alloc, &self.tableau, kinds, &mut self.work, cut)
     }
 

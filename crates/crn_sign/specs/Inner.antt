@@ -1,4 +1,3 @@
-pub mod Columns
 pub mod Walk
 pub mod Ready
 pub mod RowSigns

@@ -2,7 +2,6 @@
 #![tactic(auto)]
 
 mod bits;
-mod columns;
 mod end;
 mod fault;
 mod finder;

@@ -87,8 +87,11 @@ impl Part {
             (λ u. IsSmallCut matrix.now (kinds_of matrix.now weak.now asked.now) u.value.list) }
     {
         let kinds = kinds_of(self.finder.alloc, matrix, weak, asked)?;
-        let u = self.finder.solver.multipliers(&kinds, cut)?;
-        let past = Past::new(self.finder.alloc, matrix, &kinds, u)?;
+        let finder = &mut self.finder;
+        let u = finder
+            .solver
+            .multipliers(&kinds, cut, &mut finder.witness_signs)?;
+        let past = Past::new(finder.alloc, matrix, &kinds, &finder.witness_signs, u)?;
         let u = share(&past.multipliers)?;
         keep_cut(&mut self.past_cuts, matrix, past, depth)?;
         Ok(u)

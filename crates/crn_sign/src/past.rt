@@ -1,19 +1,20 @@
-ghost use Rattle.std.specs.Prelude.{◌≡◌, ◌<◌, ◌*◌, ◌*ℤ◌, ℕ, ℤ, List, neg_ℤ, length, drop, false, unsigned_abs, IsTrue, IfOk, OnOk, MatchOption};
+ghost use Rattle.std.specs.Prelude.{◌≡◌, ◌<◌, ◌*◌, ◌*ℤ◌, ℕ, ℤ, List, length, false, unsigned_abs, IsTrue, IfOk, OnOk, MatchOption};
 ghost use Rattle.std.specs.Int.{bit_at};
-ghost use Rattle.crn_vec.specs.Vectors.{Mat, HasSign, entry, scale};
-ghost use Rattle.crn_vec.specs.Elementary.{InDualSpace, width};
+ghost use Rattle.std.specs.List.{AllZip};
+ghost use Rattle.crn_vec.specs.Vectors.{HasSign, entry, scale};
+ghost use Rattle.crn_vec.specs.Elementary.{width};
 ghost use Rattle.crn_vec.specs.declared.limits.TheConstants.{WIDE_ENTRY};
 ghost use Rattle.crn_farkas.specs.Decision.{IsSmallCut, factor};
-ghost use Rattle.crn_sign.specs.Inner.Columns.{IsSummedAt};
-ghost use Rattle.crn_sign.specs.Inner.Bits.{IsMarked, mark_in, word_count};
+ghost use Rattle.crn_farkas.specs.Solver.{AreSignsOf};
+ghost use Rattle.crn_sign.specs.declared.marks.Mark.TheVariants.{Zero};
+ghost use Rattle.crn_sign.specs.Inner.Bits.{IsMarked, mark_at, mark_in, word_count};
 ghost use Rattle.crn_sign.specs.Inner.Marks.{kinds_of, sign_mark};
 ghost use Rattle.crn_sign.specs.Inner.Past.{AllWeigh, AreMarksOf, Counts, SomeCounts, Weighs, mark_of_multiple};
 ghost use Rattle.crn_sign.specs.Inner.PastCuts.{AreAllPast, ArePastCuts, IsPastOf};
 
 use crate::bits::{Bits, NONE, put_mark, word_of};
-use crate::columns::{column_product, support_of};
-use crate::marks::{mark_of_sign, opposite as negatives_of, word_count};
-use crn_vec::{Ints, Kind, Matrix, NoMemory, Sign, sign_of};
+use crate::marks::{Mark, opposite as negatives_of, word_count};
+use crn_vec::{Ints, Kind, Matrix, NoMemory, Sign};
 use std::alloc::Global;
 use std::rc::Rc;
 
@@ -41,17 +42,6 @@ pub(crate) struct Trial {
 pub(crate) struct PastCuts {
     pub items: Vec<Past>,
     pub trials: Vec<Trial>,
-}
-
-// The sign of minus a number.
-fn opposite(sign: Sign) -> Sign
-    ensures { (x : ℤ) → HasSign sign x → HasSign result (neg_ℤ x) }
-{
-    match sign {
-        Sign::Zero => Sign::Zero,
-        Sign::Plus => Sign::Minus,
-        Sign::Minus => Sign::Plus,
-    }
 }
 
 // The marks of numbers, or of their negatives.
@@ -107,44 +97,28 @@ fn some_counts(asked: &[Bits], weak: &[u64], marks: &[Bits]) -> bool
     false
 }
 
-// The sign of the list (-uA, u) at a coordinate.
-fn sign_at(matrix: &Matrix, u: &[i128], support: &[usize], c: usize) -> Sign
-    requires support { IsSummedAt u.now support.now }
-    requires long { length u.now ≡ length matrix.now.rows }
-    requires small { (k : ℕ) → unsigned_abs (entry u.now k) < WIDE_ENTRY }
-    requires inside { c < width matrix.now }
-    ensures { (w : List ℤ) → InDualSpace matrix.now w → drop matrix.now.cols w ≡ u.now
-        → HasSign result (entry w c) }
-{
-    let cols = matrix.cols();
-    let _ = matrix.rows();
-    if c < cols {
-        let sum = column_product(matrix, u, support, c);
-        return opposite(sign_of(sum));
-    }
-    sign_of(u[c - cols])
-}
-
-// Puts the mark of numbers of a sign.
+// Puts the mark of numbers of a sign at a coordinate that has none.
 fn put_sign(marks: &mut Vec<Bits>, c: usize, sign: Sign)
-    requires { c < length marks.old.items * 64 }
+    requires inside { c < length marks.old.items * 64 }
+    requires none { mark_at marks.old.items c ≡ Zero }
     ensures { IsMarked marks.old.items c (sign_mark sign) marks.new.items }
 {
-    put_mark(marks, c, mark_of_sign(sign));
+    match sign {
+        Sign::Zero => {}
+        Sign::Plus => put_mark(marks, c, Mark::Plus),
+        Sign::Minus => put_mark(marks, c, Mark::Minus),
+    }
 }
 
-// The marks of the list (-uA, u).
-fn marks_of(alloc: Global, matrix: &Matrix, u: &[i128]) -> Result<Vec<Bits>, NoMemory>
-    requires long { length u.now ≡ length matrix.now.rows }
-    requires small { (k : ℕ) → unsigned_abs (entry u.now k) < WIDE_ENTRY }
-    ensures { (w : List ℤ) → InDualSpace matrix.now w → drop matrix.now.cols w ≡ u.now
+// The marks of the vectors of these signs.
+fn marks_of(alloc: Global, matrix: &Matrix, signs: &[Sign]) -> Result<Vec<Bits>, NoMemory>
+    requires { length signs.now ≡ width matrix.now }
+    ensures { (w : List ℤ) → AllZip HasSign signs.now w
         → IfOk result (λ made. AreMarksOf matrix.now w made.items) }
 {
-    let support = support_of(alloc, u)?;
     let mut marks = vec![in alloc; NONE; word_count(matrix)]?;
-    for c in 0..matrix.cols() + matrix.rows() {
-        let sign = sign_at(matrix, u, &support, c);
-        put_sign(&mut marks, c, sign);
+    for c in 0..signs.len() {
+        put_sign(&mut marks, c, signs[c]);
     }
     Ok(marks)
 }
@@ -190,14 +164,21 @@ pub(crate) fn share(list: &Rc<Ints>) -> Result<Rc<Ints>, NoMemory>
 }
 
 impl Past {
-    /// Keeps multipliers that rule a system of the matrix out.
-    pub fn new(alloc: Global, matrix: &Matrix, _kinds: &[Kind], u: Ints) -> Result<Past, NoMemory>
+    /// Keeps multipliers that rule a system of the matrix out, by the signs of the list (-uA, u).
+    pub fn new(
+        alloc: Global,
+        matrix: &Matrix,
+        _kinds: &[Kind],
+        signs: &[Sign],
+        u: Ints,
+    ) -> Result<Past, NoMemory>
+        requires signs { AreSignsOf matrix.now u.list signs.now }
         requires cut { IsSmallCut matrix.now _kinds.now u.list }
         ensures past { IfOk result (λ made. IsPastOf matrix.now made) }
         ensures multipliers { IfOk result (λ made. made.multipliers.value ≡ u) }
     {
         Ok(Past {
-            marks: marks_of(alloc, matrix, u.as_slice())?,
+            marks: marks_of(alloc, matrix, signs)?,
             negatives: shared(alloc, negatives(alloc, u.as_slice())?)?,
             multipliers: shared(alloc, u)?,
         })
