@@ -1,5 +1,5 @@
 -- The answers that the end of a search over a table, or its stop, gives.
-use Rattle.crn_conc.proofs.Prelude.{◌≡◌, ℕ, zero, suc, ◌+◌, ◌<◌, ◌≤◌, ◌⊎◌, inl, inr, List, [], ◌∷◌, ◌++◌, true, false, length, take, refl, sym, subst, arith, length-take-le, ℤ, unsigned_abs, Option, Some, None, IfSome, AllByRecursion, MAX_BUDGET, WIDE_SOLUTION, Sign, Kind, KeptInts, KeptNums, Net, IsNetwork, reaction_system, Mat, entry, NamesWide, IsTable, IsDiscordant, concordance, plain_table, strong_table, PassesBudget, root, all_in, longer_by, networks_have_tables, tables_feasible, rows_count, some_species, Answer, Earlier, IsOpen, Question, Q14, Q15, AreFree, IsNarrow, AllHold, Plan, places, IsFormedTree, Fits, tree_tests, IsBasisOf, IsFormed, IsValid, IsAnswer, valid_answers_are_true, tests_decide_valid_trees, wide_basis, count_places, formed_tree, IsSmallSolution, SearchEnd, Found, Refuted, Spent, SearchStop, WideA, WideB, NoMemory, IsSearchEnd, IsSearchStop, HasFewNodes, WideName, IsNameOf, IsNamed, IsStopAnswer, end_answer, AreWide, ListsTableVisits, plain_answer, Wide, Unknown}
+use Rattle.crn_conc.proofs.Prelude.{◌≡◌, ℕ, zero, suc, ◌+◌, ◌<◌, ◌≤◌, ◌⊎◌, inl, inr, List, [], ◌∷◌, ◌++◌, Bool, true, false, length, take, refl, sym, ap, subst, ◌∙◌, arith, length-take-le, ℤ, unsigned_abs, Option, Some, None, IfSome, AllByRecursion, MAX_BUDGET, WIDE_SOLUTION, Sign, Kind, KeptInts, KeptNums, Net, IsNetwork, reaction_system, Mat, entry, NamesWide, IsTable, IsDiscordant, concordance, plain_table, strong_table, PassesBudget, root, all_in, longer_by, networks_have_tables, tables_feasible, rows_count, some_species, Answer, Earlier, Question, Q14, Q15, AreFree, IsNarrow, AllHold, Plan, places, IsFormedTree, Fits, tree_tests, IsBasisOf, IsFormed, IsValid, IsAnswer, valid_answers_are_true, tests_decide_valid_trees, wide_basis, count_places, formed_tree, IsSmallSolution, SearchEnd, Found, Refuted, Infeasible, Spent, SearchStop, WideA, WideB, NoMemory, IsSearchEnd, IsOutcome, IsSearchStop, WideName, IsNameOf, IsNamed, IsStopAnswer, end_answer, AreWide, IsTableAnswer, AnswersTable, outcome_of, plain_answer, Wide, Unknown}
 use Rattle.crn_conc.proofs.Starts.{start_passes}
 
 -- the question that a table of the network answers
@@ -63,50 +63,66 @@ open_answer strong budget earlier index basis b w = record { formed = (record { 
 
 -- ---- by the end of the search
 
-pub ended : {net : Net} {table : List (List Sign)} {q : Question} → Asks net table q → (budget : ℕ) (earlier : Earlier) (e : SearchEnd) → IsNetwork net → 1 ≤ budget → budget ≤ MAX_BUDGET
-    → IsSearchEnd (concordance (reaction_system net) table) budget e → IsAnswer net budget earlier q (end_answer budget e)
-ended {net} {table} asks budget earlier (Found p a b) n low high h =
+spent_table : {net : Net} {table : List (List Sign)} {q : Question} → Asks net table q → (budget : ℕ) → 1 ≤ budget → budget ≤ MAX_BUDGET → PassesBudget (concordance (reaction_system net) table) budget → IsTableAnswer net budget q table (end_answer budget Spent)
+spent_table asks budget low high pass = record { is = λ earlier. spent_answer asks budget earlier low high pass; few = tt; visits = tt; spent = λ p. tt }
+
+wide_table : {net : Net} {table : List (List Sign)} {q : Question} → Asks net table q → (budget index : ℕ) (basis : KeptNums) → NamesWide (reaction_system net) index basis.list → IsTableAnswer net budget q table (plain_answer (Unknown (Wide 2 0 index basis)))
+wide_table {net} asks budget index basis h =
+    let b = wide_basis (reaction_system net) (length net.reactions) (length net.names) index basis.list refl (rows_count net) h in
+    record { is = λ earlier. open_answer asks budget earlier index basis b h; few = tt; visits = tt; spent = λ p. tt }
+
+-- a search that ends with a discordance or a tree stays within the budget
+ended : {net : Net} {table : List (List Sign)} {q : Question} → Asks net table q → (budget : ℕ) (e : SearchEnd) → IsNetwork net → 1 ≤ budget → budget ≤ MAX_BUDGET
+    → IsSearchEnd (concordance (reaction_system net) table) budget e → IsTableAnswer net budget q table (end_answer budget e)
+ended {net} {table} asks budget (Found p a b) n low high h =
     let m = reaction_system net in
     let w = concordance m table in
     let s = h.0 in
     let d = (tables_feasible m table (table_fits n asks)).named p a.list b.list s.full s.opened (s.part_a.v, s.part_a.solves) (s.part_b.v, s.part_b.solves) in
-    no_answer asks budget earlier p a b n (solution_free m (w.kinds_a p) a.list s.part_a) (solution_free m (w.kinds_b p) b.list s.part_b) d
-ended {net} {table} asks budget earlier (Refuted tree) n low high h =
+    record {
+      is = λ earlier. no_answer asks budget earlier p a b n (solution_free m (w.kinds_a p) a.list s.part_a) (solution_free m (w.kinds_b p) b.list s.part_b) d;
+      few = tt;
+      visits = tt;
+      spent = λ pass. absurd (omega (arith, h.3, longer_by w root (h.1 ++ p ∷ []) true budget h.2 pass));
+    }
+ended {net} {table} asks budget (Refuted tree) n low high h =
     let m = reaction_system net in
     let w = concordance m table in
     let formed = formed_tree w [] tree h.0.valid h.0.narrow in
     let tests = (tests_decide_valid_trees w (length m.rows) (length m.rows) 1 [] tree formed).1 h.0.valid in
-    yes_answer asks budget earlier tree n (subst (λ (k : ℕ). IsFormedTree k k k [] tree) (rows_count net) formed) tests
-ended asks budget earlier Spent n low high h = spent_answer asks budget earlier low high h
-
-pub stopped : {net : Net} {table : List (List Sign)} {q : Question} → Asks net table q → (budget : ℕ) (earlier : Earlier) (s : SearchStop) (answer : Answer) → IsSearchStop (concordance (reaction_system net) table) s → IsStopAnswer s answer → IsAnswer net budget earlier q answer
-stopped {net} {table} {q} asks budget earlier (WideA index basis) answer h e =
-    subst (IsAnswer net budget earlier q) (sym e) (open_answer asks budget earlier index basis (wide_basis (reaction_system net) (length net.reactions) (length net.names) index basis.list refl (rows_count net) h) h)
-stopped {net} {table} {q} asks budget earlier (WideB index basis is_first) answer h e =
-    subst (IsAnswer net budget earlier q) (sym e) (open_answer asks budget earlier index basis (wide_basis (reaction_system net) (length net.reactions) (length net.names) index basis.list refl (rows_count net) h) h)
-stopped asks budget earlier NoMemory answer h e = absurd e
-
-pub few_nodes : (m : Mat) (table : List (List Sign)) (budget : ℕ) (e : SearchEnd) → IsSearchEnd (concordance m table) budget e → HasFewNodes budget (end_answer budget e).proof
-few_nodes m table budget (Found p a b) h = tt
-few_nodes m table budget (Refuted tree) h = omega (arith, h.2, count_places [] tree)
-few_nodes m table budget Spent h = tt
-
-pub few_open : (budget : ℕ) (s : SearchStop) (answer : Answer) → IsStopAnswer s answer → HasFewNodes budget answer.proof
-few_open budget (WideA index basis) answer e = subst (λ (a : Answer). HasFewNodes budget a.proof) (sym e) tt
-few_open budget (WideB index basis is_first) answer e = subst (λ (a : Answer). HasFewNodes budget a.proof) (sym e) tt
-few_open budget NoMemory answer e = absurd e
-
--- a search that ends with a discordance or a tree stays within the budget
-pub end_open : (m : Mat) (table : List (List Sign)) (budget : ℕ) (e : SearchEnd) → IsSearchEnd (concordance m table) budget e → PassesBudget (concordance m table) budget → IsOpen (end_answer budget e).verdict
-end_open m table budget (Found q a b) h pass = absurd (omega (arith, h.3, longer_by (concordance m table) root (h.1 ++ q ∷ []) true budget h.2 pass))
-end_open m table budget (Refuted tree) h pass = absurd (omega (arith, h.2, longer_by (concordance m table) root (places [] tree) false budget h.1 pass))
-end_open m table budget Spent h pass = tt
+    record {
+      is = λ earlier. yes_answer asks budget earlier tree n (subst (λ (k : ℕ). IsFormedTree k k k [] tree) (rows_count net) formed) tests;
+      few = omega (arith, h.2, count_places [] tree);
+      visits = h.1;
+      spent = λ pass. absurd (omega (arith, h.2, longer_by w root (places [] tree) false budget h.1 pass));
+    }
+ended asks budget Infeasible n low high h = absurd h
+ended asks budget Spent n low high h = spent_table asks budget low high h
 
 -- and one that stops leaves the question open
-pub stop_open : (s : SearchStop) (answer : Answer) → IsStopAnswer s answer → IsOpen answer.verdict
-stop_open (WideA index basis) answer e = subst (λ (a : Answer). IsOpen a.verdict) (sym e) tt
-stop_open (WideB index basis is_first) answer e = subst (λ (a : Answer). IsOpen a.verdict) (sym e) tt
-stop_open NoMemory answer e = absurd e
+stopped : {net : Net} {table : List (List Sign)} {q : Question} → Asks net table q → (budget : ℕ) (s : SearchStop) (answer : Answer) → IsSearchStop (concordance (reaction_system net) table) s → IsStopAnswer s answer → IsTableAnswer net budget q table answer
+stopped {net} {table} {q} asks budget (WideA index basis) answer h e = subst (IsTableAnswer net budget q table) (sym e) (wide_table asks budget index basis h)
+stopped {net} {table} {q} asks budget (WideB index basis is_first) answer h e = subst (IsTableAnswer net budget q table) (sym e) (wide_table asks budget index basis h)
+stopped asks budget NoMemory answer h e = absurd e
+
+-- ---- with a tree or without
+
+-- an answer that holds all serves in both cases
+either : {net : Net} {table : List (List Sign)} {q : Question} (keeps : Bool) (budget : ℕ) (answer : Answer) → IsTableAnswer net budget q table answer → AnswersTable keeps net budget q table answer
+either true budget answer h = h
+either false budget answer h = (answer, refl, h)
+
+-- what is left of an end without its tree gives the same verdict
+same_verdict : (budget : ℕ) (e : SearchEnd) → (end_answer budget (outcome_of e)).verdict ≡ (end_answer budget e).verdict
+same_verdict budget (Found p a b) = refl
+same_verdict budget (Refuted tree) = refl
+same_verdict budget Infeasible = refl
+same_verdict budget Spent = refl
+
+outcome_answers : {net : Net} {table : List (List Sign)} {q : Question} → Asks net table q → (keeps : Bool) (budget : ℕ) (e : SearchEnd) → IsNetwork net → 1 ≤ budget → budget ≤ MAX_BUDGET
+    → IsOutcome (concordance (reaction_system net) table) budget keeps e → AnswersTable keeps net budget q table (end_answer budget e)
+outcome_answers asks true budget e n low high h = ended asks budget e n low high h
+outcome_answers asks false budget e n low high h = (end_answer budget h.0, ap (λ (x : SearchEnd). (end_answer budget x).verdict) h.1 ∙ same_verdict budget h.0, ended asks budget h.0 n low high h.2)
 
 -- ---- what both searches begin with
 
@@ -121,14 +137,14 @@ stop_names net m table s None e h n = tt
 stop_names net m table s (Some name) e h n = subst (λ (a : Mat). NamesWide a name.index name.basis.list) e (name_wide m table s name h n)
 
 -- the answer that names a wide vector
-pub named_by : {net : Net} {asked : List (List Sign)} {q : Question} → Asks net asked q → (budget index : ℕ) (basis : KeptNums) (answer : Answer) → NamesWide (reaction_system net) index basis.list → answer ≡ plain_answer (Unknown (Wide 2 0 index basis))
-    → (earlier : Earlier) → IsAnswer net budget earlier q answer
-named_by asks budget index basis answer h e earlier = stopped asks budget earlier (WideB index basis true) answer h e
+pub named_by : {net : Net} {asked : List (List Sign)} {q : Question} → Asks net asked q → (keeps : Bool) (budget index : ℕ) (basis : KeptNums) (answer : Answer) → NamesWide (reaction_system net) index basis.list
+    → answer ≡ plain_answer (Unknown (Wide 2 0 index basis)) → AnswersTable keeps net budget q asked answer
+named_by {net} {asked} {q} asks keeps budget index basis answer h e = either keeps budget answer (subst (IsTableAnswer net budget q asked) (sym e) (wide_table asks budget index basis h))
 
 -- the answer of a search whose budget is spent by the visits that it begins with
-pub spent_by : {net : Net} {asked : List (List Sign)} {q : Question} → Asks net asked q → (budget : ℕ) (answer : Answer) → 1 ≤ budget → budget ≤ MAX_BUDGET → answer ≡ end_answer budget Spent
-    → PassesBudget (concordance (reaction_system net) asked) budget → (earlier : Earlier) → IsAnswer net budget earlier q answer
-spent_by {net} {asked} {q} asks budget answer low high e pass earlier = subst (IsAnswer net budget earlier q) (sym e) (spent_answer asks budget earlier low high pass)
+pub spent_by : {net : Net} {asked : List (List Sign)} {q : Question} → Asks net asked q → (keeps : Bool) (budget : ℕ) (answer : Answer) → 1 ≤ budget → budget ≤ MAX_BUDGET → answer ≡ end_answer budget Spent
+    → PassesBudget (concordance (reaction_system net) asked) budget → AnswersTable keeps net budget q asked answer
+spent_by {net} {asked} {q} asks keeps budget answer low high e pass = either keeps budget answer (subst (IsTableAnswer net budget q asked) (sym e) (spent_table asks budget low high pass))
 
 -- ---- by what the code knows
 
@@ -140,41 +156,17 @@ fits net m table n e (inr p) = subst (λ (a : Mat). IsTable a table) (sym e) (su
 pub rows_wide : (m : Mat) (table : List (List Sign)) → IsTable m table → AreWide (length m.rows) table
 rows_wide m table t signs i = all_in (λ (row : List Sign). length row ≡ length m.rows) table signs t.species i
 
-pub end_by : {net : Net} {asked : List (List Sign)} {q : Question} → Asks net asked q → (m : Mat) (table : List (List Sign)) (budget : ℕ) (e : SearchEnd) (answer : Answer) → IsNetwork net → 1 ≤ budget → budget ≤ MAX_BUDGET
-    → m ≡ reaction_system net → answer ≡ end_answer budget e → IsSearchEnd (concordance m table) budget e → table ≡ asked → (earlier : Earlier) → IsAnswer net budget earlier q answer
-end_by {net} {asked} {q} asks m table budget e answer n low high me ae h te earlier =
-    let at : IsSearchEnd (concordance (reaction_system net) asked) budget e = subst (λ (t : List (List Sign)). IsSearchEnd (concordance (reaction_system net) t) budget e) te (subst (λ (a : Mat). IsSearchEnd (concordance a table) budget e) me h) in
-    subst (IsAnswer net budget earlier q) (sym ae) (ended asks budget earlier e n low high at)
+pub end_by : {net : Net} {asked : List (List Sign)} {q : Question} → Asks net asked q → (m : Mat) (table : List (List Sign)) (keeps : Bool) (budget : ℕ) (e : SearchEnd) (answer : Answer) → IsNetwork net → 1 ≤ budget → budget ≤ MAX_BUDGET
+    → m ≡ reaction_system net → answer ≡ end_answer budget e → IsOutcome (concordance m table) budget keeps e → table ≡ asked → AnswersTable keeps net budget q asked answer
+end_by {net} {asked} {q} asks m table keeps budget e answer n low high me ae h te =
+    let at : IsOutcome (concordance (reaction_system net) asked) budget keeps e = subst (λ (t : List (List Sign)). IsOutcome (concordance (reaction_system net) t) budget keeps e) te (subst (λ (a : Mat). IsOutcome (concordance a table) budget keeps e) me h) in
+    subst (AnswersTable keeps net budget q asked) (sym ae) (outcome_answers asks keeps budget e n low high at)
 
-pub stop_by : {net : Net} {asked : List (List Sign)} {q : Question} → Asks net asked q → (m : Mat) (table : List (List Sign)) (budget : ℕ) (s : SearchStop) (answer : Answer)
-    → m ≡ reaction_system net → IsSearchStop (concordance m table) s → table ≡ asked → IsStopAnswer s answer → (earlier : Earlier) → IsAnswer net budget earlier q answer
-stop_by {net} {asked} asks m table budget s answer me h te a earlier =
+pub stop_by : {net : Net} {asked : List (List Sign)} {q : Question} → Asks net asked q → (m : Mat) (table : List (List Sign)) (keeps : Bool) (budget : ℕ) (s : SearchStop) (answer : Answer)
+    → m ≡ reaction_system net → IsSearchStop (concordance m table) s → table ≡ asked → IsStopAnswer s answer → AnswersTable keeps net budget q asked answer
+stop_by {net} {asked} asks m table keeps budget s answer me h te a =
     let at : IsSearchStop (concordance (reaction_system net) asked) s = subst (λ (t : List (List Sign)). IsSearchStop (concordance (reaction_system net) t) s) te (subst (λ (x : Mat). IsSearchStop (concordance x table) s) me h) in
-    stopped asks budget earlier s answer at a
-
-pub few_by : (m : Mat) (table : List (List Sign)) (budget : ℕ) (e : SearchEnd) (answer : Answer) → answer ≡ end_answer budget e → IsSearchEnd (concordance m table) budget e → HasFewNodes budget answer.proof
-few_by m table budget e answer ae h = subst (λ (a : Answer). HasFewNodes budget a.proof) (sym ae) (few_nodes m table budget e h)
-
--- a tree that the search ends with lists its visits
-ended_visits : (net : Net) (table : List (List Sign)) (budget : ℕ) (e : SearchEnd) → IsSearchEnd (concordance (reaction_system net) table) budget e → ListsTableVisits net table (end_answer budget e).proof
-ended_visits net table budget (Found p a b) h = tt
-ended_visits net table budget (Refuted tree) h = h.1
-ended_visits net table budget Spent h = tt
-
-pub visits_by : (net : Net) (m : Mat) (table : List (List Sign)) (budget : ℕ) (e : SearchEnd) (answer : Answer) → m ≡ reaction_system net → answer ≡ end_answer budget e → IsSearchEnd (concordance m table) budget e
-    → ListsTableVisits net table answer.proof
-visits_by net m table budget e answer me ae h =
-    subst (λ (a : Answer). ListsTableVisits net table a.proof) (sym ae) (ended_visits net table budget e (subst (λ (a : Mat). IsSearchEnd (concordance a table) budget e) me h))
-
-pub stop_visits : (net : Net) (table : List (List Sign)) (s : SearchStop) (answer : Answer) → IsStopAnswer s answer → ListsTableVisits net table answer.proof
-stop_visits net table (WideA index basis) answer e = subst (λ (a : Answer). ListsTableVisits net table a.proof) (sym e) tt
-stop_visits net table (WideB index basis is_first) answer e = subst (λ (a : Answer). ListsTableVisits net table a.proof) (sym e) tt
-stop_visits net table NoMemory answer e = absurd e
-
-pub open_by : (net : Net) (m : Mat) (table : List (List Sign)) (budget : ℕ) (e : SearchEnd) (answer : Answer) → m ≡ reaction_system net → answer ≡ end_answer budget e → IsSearchEnd (concordance m table) budget e
-    → PassesBudget (concordance (reaction_system net) table) budget → IsOpen answer.verdict
-open_by net m table budget e answer me ae h pass =
-    subst (λ (a : Answer). IsOpen a.verdict) (sym ae) (end_open m table budget e h (subst (λ (a : Mat). PassesBudget (concordance a table) budget) (sym me) pass))
+    either keeps budget answer (stopped asks budget s answer at a)
 
 -- the visits that each search begins with exceed the budget
 pub soon_spent : (net : Net) (table : List (List Sign)) (budget : ℕ) → IsNetwork net → (table ≡ plain_table net) ⊎ (table ≡ strong_table net) → budget ≤ length net.names + 1 → PassesBudget (concordance (reaction_system net) table) budget

@@ -5,32 +5,30 @@ pub use Rattle.crn_cert.specs.Answers.{plain as plain_answer}
 pub use Rattle.crn_cert.specs.Data.{IsBasisOf}
 pub use Rattle.crn_cert.specs.Formed.{IsFormed}
 pub use Rattle.crn_cert.specs.Nodes.{Fits}
-pub use Rattle.crn_cert.specs.Questions.{Earlier, IsOpen, Q14, Q15, Question}
+pub use Rattle.crn_cert.specs.Questions.{Earlier, Q14, Q15, Question}
 pub use Rattle.crn_cert.specs.Ranges.{AreFree, IsNarrow}
 pub use Rattle.crn_cert.specs.Tests.{AllHold}
-pub use Rattle.crn_cert.specs.TreeSizes.{HasFewNodes}
 pub use Rattle.crn_cert.specs.TreeTests.{tree_tests}
 pub use Rattle.crn_cert.specs.Trees.{IsFormedTree, Plan, places}
 pub use Rattle.crn_cert.specs.Valid.{IsValid}
 pub use Rattle.crn_cert.specs.declared.answer.Answer.{Answer}
 pub use Rattle.crn_cert.specs.declared.answer.Gap.TheVariants.{Wide}
-pub use Rattle.crn_cert.specs.declared.answer.Verdict.{Verdict}
 pub use Rattle.crn_cert.specs.declared.answer.Verdict.TheVariants.{Unknown}
+pub use Rattle.crn_conc.specs.Answers.{AnswersTable, IsTableAnswer}
 pub use Rattle.crn_conc.specs.Inner.Answers.{IsNameOf, IsNamed, IsStopAnswer, end_answer}
 pub use Rattle.crn_conc.specs.Inner.Columns.{AreMade, AreSettled, AreSignsOf, AreSums, IsAskedOf, IsChosen, IsExtended, signs_at}
 pub use Rattle.crn_conc.specs.Inner.Rows.{AreWide, IsLast}
-pub use Rattle.crn_conc.specs.Visits.{ListsTableVisits}
 pub use Rattle.crn_conc.specs.declared.answer.Searched.{Searched}
 pub use Rattle.crn_conc.specs.declared.answer.WideName.{WideName}
 pub use Rattle.crn_conc.specs.declared.chosen.Chosen.{Chosen}
 pub use Rattle.crn_farkas.specs.Decision.{IsSmallSolution}
 pub use Rattle.crn_sign.proofs.CallerLemmas.{firm_kinds, row_kept}
 pub use Rattle.crn_sign.specs.Options.{AskKinds, IsPut, kind_of_bits, minus_at, none, plus_at, sign_at, word_at, word_count}
-pub use Rattle.crn_sign.specs.Search.{IsSearchEnd, IsSearchStop}
+pub use Rattle.crn_sign.specs.Search.{IsOutcome, IsSearchEnd, IsSearchStop, outcome_of}
 pub use Rattle.crn_sign.specs.Settled.{SettlesOnly}
 pub use Rattle.crn_sign.specs.declared.bits.Bits.{Bits}
 pub use Rattle.crn_sign.specs.declared.end.SearchEnd.{SearchEnd}
-pub use Rattle.crn_sign.specs.declared.end.SearchEnd.TheVariants.{Found, Refuted, Spent}
+pub use Rattle.crn_sign.specs.declared.end.SearchEnd.TheVariants.{Found, Infeasible, Refuted, Spent}
 pub use Rattle.crn_sign.specs.declared.fault.SearchStop.{SearchStop}
 pub use Rattle.crn_sign.specs.declared.fault.SearchStop.TheVariants.{NoMemory, WideA, WideB}
 pub use Rattle.crn_sign.specs.declared.problem.Asked.{Asked}

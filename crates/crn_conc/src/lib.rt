@@ -9,9 +9,7 @@ mod kinds;
 mod problem;
 mod system;
 
-pub use concordance_answer::{
-    ConcordanceAnswers, ConcordanceVerdicts, concordance_verdicts, decide_concordance,
-};
+pub use concordance_answer::{ConcordanceAnswers, decide_concordance};
 pub use influence::{Influence, concordance_table, strong_table};
 pub use kinds::asked_of_row;
 pub use system::reaction_matrix;

@@ -81,6 +81,7 @@ fn decide_at(
             Ok(Decided::Ended(Endo::No { reaction, slope }))
         }
         Ok(SearchEnd::Refuted(tree)) => Ok(Decided::Refuted(tree)),
+        Ok(SearchEnd::Infeasible) => unreachable!(),
         Ok(SearchEnd::Spent) => Ok(Decided::Ended(Endo::Spent {
             reaction,
             nodes: budget,

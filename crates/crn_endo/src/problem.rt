@@ -243,5 +243,5 @@ pub(crate) fn search_slopes(
         matrix,
         weak,
     };
-    search(alloc, &problem, solver, budget)
+    search(alloc, &problem, solver, budget, true)
 }

@@ -150,6 +150,7 @@ fn by_negative(
             found_answer(alloc, net, strong, -1, pattern.as_slice(), &a, b)
         }
         Ok(SearchEnd::Refuted(second)) => Ok(two_answer(tree, second)),
+        Ok(SearchEnd::Infeasible) => unreachable!(),
         Ok(SearchEnd::Spent) => Ok(Answer::plain(Verdict::Unknown(Gap::Budget { nodes: budget }))),
         Err(stop) => stop_answer(stop),
     }
@@ -207,6 +208,7 @@ pub fn signal(
                 Ok(one_answer(tree))
             }
         }
+        Ok(SearchEnd::Infeasible) => unreachable!(),
         Ok(SearchEnd::Spent) => Ok(Answer::plain(Verdict::Unknown(Gap::Budget { nodes: budget }))),
         Err(stop) => stop_answer(stop),
     }

@@ -172,5 +172,5 @@ pub(crate) fn search_over(
         choices,
         coordinates_b,
     };
-    search(alloc, &problem, solver, budget)
+    search(alloc, &problem, solver, budget, true)
 }

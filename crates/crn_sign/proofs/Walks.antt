@@ -1,5 +1,5 @@
 -- How the visits of a prefix, of its children and of all below them end.
-use Rattle.crn_sign.proofs.Prelude.{◌≡◌, ℕ, suc, ◌+◌, ◌<◌, List, [], ◌∷◌, ◌++◌, length, map, Bool, true, false, refl, sym, ap, subst, ◌∙◌, arith, append_assoc, append-nil, length-append, map-append, false≢true, Sign, cuts_exclude_solutions, IsSmallCut, TreeNode, Flat, Signed, IsFull, IsFeasible, children, all_zero, options_below, SolvesA, SolvesB, Visits, over, fallen, ended, opened, Passes, begun, below, Plan, Both, Three, RulesA, RulesB, places, Listed, ListedSplitTwo, ListedSplitThree, ListedCutA, ListedCutB, listed, preorder, visits_then, visits_ended, passes_at, passes_first, passes_then, same_tree, narrow_all, SearchEnd, FoundEnd, RefutedEnd, SpentEnd, Ending, Listing, Found, Refuted, Spent, IsFeasibleBy, IsOutcome, IsSearchEnd, IsTreeAt, EndsWith, EndsWithout, RunsOut, EndsAt, EndsBelow, HasTree, IsEndOf, IsFoundAt, IsLeafAt, Appends, outcome_at}
+use Rattle.crn_sign.proofs.Prelude.{◌≡◌, ℕ, suc, ◌+◌, ◌<◌, List, [], ◌∷◌, ◌++◌, length, map, Bool, true, false, refl, sym, ap, subst, ◌∙◌, arith, append_assoc, append-nil, length-append, map-append, false≢true, Sign, cuts_exclude_solutions, IsSmallCut, TreeNode, Flat, Signed, IsFull, IsFeasible, children, all_zero, options_below, SolvesA, SolvesB, Visits, over, fallen, ended, opened, Passes, begun, below, Plan, Both, Three, RulesA, RulesB, places, Listed, ListedSplitTwo, ListedSplitThree, ListedCutA, ListedCutB, listed, preorder, visits_then, visits_ended, passes_at, passes_first, passes_then, same_tree, narrow_all, SearchEnd, FoundEnd, RefutedEnd, SpentEnd, Ending, Listing, Found, Refuted, Spent, IsFeasibleBy, IsOutcome, IsSearchEnd, IsTreeAt, EndsWith, EndsWithout, RunsOut, EndsAt, EndsBelow, HasTree, IsEndOf, IsFoundAt, IsLeafAt, Appends}
 use Rattle.std.specs.Prelude.{ℤ}
 use Rattle.crn_vec.specs.declared.signs.Sign.TheVariants.{Zero, Plus, Minus}
 use Rattle.crn_cert.specs.Trees.{Level}
@@ -254,22 +254,19 @@ feasible_from w p q e c b a = record { opened = c; part_a = (a.0, subst (λ (t :
 all_nodes : (old new : Listing) (tree : Plan) → old.keeps ≡ true → old.nodes.items ≡ [] → Appends old new tree → map listed new.nodes.items ≡ preorder tree
 all_nodes old new tree on none h = h.nodes on ∙ ap (λ (ns : List TreeNode). map listed ns ++ preorder tree) none
 
--- the end of the visits of the prefix with no choice leaves the nodes of a tree, if it is one
+-- the end of the visits of the prefix with no choice leaves the nodes of a tree, if it is one and nodes are kept
 pub has_tree : (w : Signed) (budget after : ℕ) (old new : Listing) (e : Ending) → old.keeps ≡ true → old.nodes.items ≡ [] → EndsAt w [] budget after old new e → HasTree e new.nodes.items
 has_tree w budget after old new (Found f) on none h = tt
 has_tree w budget after old new Refuted on none h = (h.0, all_nodes old new h.0 on none h.1)
 has_tree w budget after old new Spent on none h = tt
 
 -- and it is that of the search
-pub search_end : (w : Signed) (budget after : ℕ) (old new : Listing) (e : Ending) (end : SearchEnd) → IsEndOf e new.nodes.items end → old.keeps ≡ true → old.nodes.items ≡ [] → EndsAt w [] budget after old new e → IsSearchEnd w budget end
-search_end w budget after old new (Found f) end is on none h = subst (λ (x : SearchEnd). IsSearchEnd w budget x) (sym is) (h.0, h.1.before, h.1.visits, omega (arith, h.1.count))
-search_end w budget after old new Refuted end is on none h =
+pub search_end : (w : Signed) (budget after : ℕ) (keeps : Bool) (old new : Listing) (e : Ending) (end : SearchEnd) → IsEndOf keeps e new.nodes.items end → old.keeps ≡ keeps → old.nodes.items ≡ [] → EndsAt w [] budget after old new e → IsOutcome w budget keeps end
+search_end w budget after true old new (Found f) end is on none h = subst (λ (x : SearchEnd). IsSearchEnd w budget x) (sym is) (h.0, h.1.before, h.1.visits, omega (arith, h.1.count))
+search_end w budget after true old new Refuted end is on none h =
     let same : h.0 ≡ is.0 = same_tree h.0 is.0 new.nodes.items (all_nodes old new h.0 on none h.1) is.2 in
     subst (λ (x : SearchEnd). IsSearchEnd w budget x) (ap RefutedEnd same ∙ sym is.1) (h.2, h.3.visits, omega (arith, h.3.count))
-search_end w budget after old new Spent end is on none h = subst (λ (x : SearchEnd). IsSearchEnd w budget x) (sym is) h.passes
-
--- the same if no tree is kept
-pub search_outcome : (w : Signed) (budget after : ℕ) (old new : Listing) (e : Ending) → EndsAt w [] budget after old new e → IsOutcome w budget (outcome_at e)
-search_outcome w budget after old new (Found f) h = (FoundEnd f.value.pattern f.value.a f.value.b, refl, (h.0, h.1.before, h.1.visits, omega (arith, h.1.count)))
-search_outcome w budget after old new Refuted h = (RefutedEnd h.0, refl, (h.2, h.3.visits, omega (arith, h.3.count)))
-search_outcome w budget after old new Spent h = (SpentEnd, refl, h.passes)
+search_end w budget after true old new Spent end is on none h = subst (λ (x : SearchEnd). IsSearchEnd w budget x) (sym is) h.passes
+search_end w budget after false old new (Found f) end is on none h = (FoundEnd f.value.pattern f.value.a f.value.b, is, (h.0, h.1.before, h.1.visits, omega (arith, h.1.count)))
+search_end w budget after false old new Refuted end is on none h = (RefutedEnd h.0, is, (h.2, h.3.visits, omega (arith, h.3.count)))
+search_end w budget after false old new Spent end is on none h = (SpentEnd, is, h.passes)

@@ -3,7 +3,7 @@
 -- coordinate, as in Minty (1974) and Rockafellar (1969).
 -- Shapes: a prefix has a sign for each of the first choices; `a` has a number for each column of
 -- part A's matrix, and `b` one for each column of part B's.
-use Rattle.std.specs.Prelude.{◌≡◌, ◌≤◌, ℕ, ℤ, true, false, List, [], ◌∷◌, ◌++◌, length}
+use Rattle.std.specs.Prelude.{◌≡◌, ◌≤◌, ℕ, ℤ, Bool, true, false, List, [], ◌∷◌, ◌++◌, length}
 use Rattle.crn_vec.specs.declared.signs.Sign.{Sign}
 use Rattle.crn_vec.specs.Elementary.{NamesWide}
 use Rattle.crn_vec.specs.Problems.{Signed, IsFull}
@@ -11,9 +11,7 @@ use Rattle.crn_vec.specs.Visits.{IsVisitList, PassesBudget}
 use Rattle.crn_cert.specs.Trees.{Plan, IsValid, AreNarrow, places}
 use Rattle.crn_farkas.specs.Decision.{IsSmallSolution}
 use Rattle.crn_sign.specs.declared.end.SearchEnd.{SearchEnd}
-use Rattle.crn_sign.specs.declared.end.SearchEnd.TheVariants.{Found, Refuted, Spent}
-use Rattle.crn_sign.specs.declared.end.SearchOutcome.{SearchOutcome}
-use Rattle.crn_sign.specs.declared.end.SearchOutcome.TheVariants.{Found as FoundOutcome, Refuted as RefutedOutcome, Spent as SpentOutcome}
+use Rattle.crn_sign.specs.declared.end.SearchEnd.TheVariants.{Found, Refuted, Infeasible, Spent}
 use Rattle.crn_sign.specs.declared.fault.SearchStop.{SearchStop}
 use Rattle.crn_sign.specs.declared.fault.SearchStop.TheVariants.{WideA, WideB, NoMemory}
 
@@ -37,17 +35,21 @@ IsSearchEnd w budget (Found q a b) = IsFeasibleBy w q a.list b.list
     × (length (before ++ q ∷ []) ≤ budget)
 IsSearchEnd w budget (Refuted tree) = IsTreeAt w [] tree
     × IsVisitList w (places [] tree) false × (length (places [] tree) ≤ budget)
+IsSearchEnd w budget Infeasible = ⊥
 IsSearchEnd w budget Spent = PassesBudget w budget
 
 -- how a search ended, without the tree
-abbrev pub outcome_of : SearchEnd → SearchOutcome
-outcome_of (Found q a b) = FoundOutcome q a b
-outcome_of (Refuted tree) = RefutedOutcome
-outcome_of Spent = SpentOutcome
+abbrev pub outcome_of : SearchEnd → SearchEnd
+outcome_of (Found q a b) = Found q a b
+outcome_of (Refuted tree) = Infeasible
+outcome_of Infeasible = Infeasible
+outcome_of Spent = Spent
 
--- there is an end of the search, and this is what it is without the tree
-abbrev pub IsOutcome : Signed → ℕ → SearchOutcome → Type 0
-IsOutcome w budget outcome = (e : SearchEnd) × (outcome ≡ outcome_of e) × IsSearchEnd w budget e
+-- an end of the search, or, if no tree is kept, what some end of it is without its tree
+abbrev pub IsOutcome : Signed → ℕ → Bool → SearchEnd → Type 0
+IsOutcome w budget true e = IsSearchEnd w budget e
+IsOutcome w budget false e = (whole : SearchEnd) × (e ≡ outcome_of whole)
+    × IsSearchEnd w budget whole
 
 -- a wide vector of one part's matrix by name, or memory runs out
 abbrev pub IsSearchStop : Signed → SearchStop → Type 0

@@ -16,24 +16,8 @@ pub enum SearchEnd {
     },
     /// A tree that shows that no full prefix is feasible.
     Refuted(Tree),
-    /// The visits exceed the budget.
-    Spent,
-}
-
-/// How a search ended that keeps no tree.
-#[derive(Drop)]
-pub enum SearchOutcome {
-    /// The first full feasible prefix, with solutions of both its parts.
-    Found {
-        /// The options of the prefix.
-        pattern: Signs,
-        /// Numbers of the columns of part A's matrix.
-        a: Ints,
-        /// Numbers of the columns of part B's matrix.
-        b: Ints,
-    },
-    /// No full prefix is feasible.
-    Refuted,
+    /// No full prefix is feasible, and no tree is kept.
+    Infeasible,
     /// The visits exceed the budget.
     Spent,
 }

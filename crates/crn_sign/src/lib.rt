@@ -20,9 +20,9 @@ mod walk;
 mod zeros;
 
 pub use bits::{Bits, NONE, put_asked, put_weak};
-pub use end::{SearchEnd, SearchOutcome};
+pub use end::SearchEnd;
 pub use fault::SearchStop;
 pub use marks::word_count;
 pub use problem::{Asked, FREE, SignProblem, asked_of_sign, coordinates};
 pub use signs::Signs;
-pub use walk::{search, search_outcome};
+pub use walk::search;

@@ -6,14 +6,14 @@ ghost use Rattle.crn_vec.specs.declared.limits.TheConstants.{MAX_BUDGET};
 ghost use Rattle.crn_vec.specs.Elementary.{NamesWide};
 ghost use Rattle.crn_vec.specs.Problems.{IsFull, IsFeasible, IsLawful, IsPrefix};
 ghost use Rattle.crn_vec.specs.declared.signs.Sign.{Sign};
-ghost use Rattle.crn_sign.specs.Search.{IsOutcome, IsSearchEnd, IsSearchStop};
-ghost use Rattle.crn_sign.specs.Inner.Walk.{EndsAt, EndsBelow, HasTree, IsEndOf, IsFoundAt, IsLeafAt, IsLeafOrNone, IsWideA, IsWideB, outcome_at, split_node};
+ghost use Rattle.crn_sign.specs.Search.{IsOutcome, IsSearchStop};
+ghost use Rattle.crn_sign.specs.Inner.Walk.{EndsAt, EndsBelow, HasTree, IsEndOf, IsFoundAt, IsLeafAt, IsLeafOrNone, IsWideA, IsWideB, split_node};
 ghost use Rattle.crn_sign.specs.Inner.Parts.{IsRuling};
 ghost use Rattle.crn_sign.specs.Inner.Places.{IsAsked, IsHere, IsPlace};
 ghost use Rattle.crn_sign.specs.Inner.Ready.{AreAround, AreAsked, AreFor, AreMarked, AreRooms, AreRoomsBelow, HasRooms, HasSums, IsLevel, IsReady, SamePlace};
 
 use crate::bits::{Bits, NONE};
-use crate::end::{SearchEnd, SearchOutcome};
+use crate::end::SearchEnd;
 use crate::fault::SearchStop;
 use crate::marks::word_count;
 use crate::part::Part;
@@ -583,32 +583,24 @@ fn first_level<P: SignProblem>(alloc: Global, problem: &P) -> Result<Level, NoMe
     Ok(first)
 }
 
-// How a search ended whose visits ended so, and listed these nodes.
-fn end_of(end: Ending, nodes: Vec<TreeNode>) -> SearchEnd
-    requires { HasTree end nodes.items }
-    ensures { IsEndOf end nodes.items result }
+// How a search ended whose visits ended so, and listed these nodes if a tree is kept.
+fn end_of(end: Ending, nodes: Vec<TreeNode>, keeps: bool) -> SearchEnd
+    requires { IsTrue keeps → HasTree end nodes.items }
+    ensures { IsEndOf keeps end nodes.items result }
 {
     match end {
         Ending::Found(found) => {
             let FullPrefix { pattern, a, b } = Box::into_inner(found);
             SearchEnd::Found { pattern, a, b }
         }
-        Ending::Refuted => SearchEnd::Refuted(Tree::new(nodes)),
-        Ending::Spent => SearchEnd::Spent,
-    }
-}
-
-// The same without the tree.
-fn outcome_at(end: Ending) -> SearchOutcome
-    ensures { result ≡ outcome_at end }
-{
-    match end {
-        Ending::Found(found) => {
-            let FullPrefix { pattern, a, b } = Box::into_inner(found);
-            SearchOutcome::Found { pattern, a, b }
+        Ending::Refuted => {
+            if keeps {
+                SearchEnd::Refuted(Tree::new(nodes))
+            } else {
+                SearchEnd::Infeasible
+            }
         }
-        Ending::Refuted => SearchOutcome::Refuted,
-        Ending::Spent => SearchOutcome::Spent,
+        Ending::Spent => SearchEnd::Spent,
     }
 }
 
@@ -644,7 +636,8 @@ fn visit_all<P: SignProblem>(
 /// Searches for a full feasible prefix, with at most this many visits.
 ///
 /// Its answer is the first full feasible prefix of the visit list, or a tree with one node for each
-/// visit, in their order, or `Spent`. It keeps one solver for each part, and before it uses them it
+/// visit, in their order, or `Spent`. Where no tree is kept, it is `Infeasible` in place of the tree, and
+/// takes less memory. It keeps one solver for each part, and before it uses them it
 /// tries what they gave at other prefixes: multipliers, and vectors that add up to solutions. Part B's
 /// solver is handed in: other questions on its matrix may have led it to a basis from which less is left to do.
 pub fn search<P: SignProblem>(
@@ -652,37 +645,16 @@ pub fn search<P: SignProblem>(
     problem: &P,
     solver_b: Solver,
     budget: u32,
+    keeps: bool,
 ) -> Result<SearchEnd, SearchStop>
     requires solver { solver_b.matrix ≡ (P.signed problem.now).matrix_b }
     requires low { 1 ≤ budget }
     requires high { budget ≤ MAX_BUDGET }
-    ensures { MatchResult result (λ e. IsSearchEnd (P.signed problem.now) budget e)
+    ensures { MatchResult result (λ e. IsOutcome (P.signed problem.now) budget keeps e)
         (λ s. IsSearchStop (P.signed problem.now) s) }
 {
     let nodes = Vec::with_capacity(alloc, 0)?;
-    let mut listing = Listing { nodes, keeps: true };
+    let mut listing = Listing { nodes, keeps };
     let end = visit_all(alloc, problem, solver_b, budget, &mut listing)?;
-    Ok(end_of(end, listing.nodes))
-}
-
-/// The outcome of the same search. It keeps no tree, and takes less memory.
-pub fn search_outcome<P: SignProblem>(
-    alloc: Global,
-    problem: &P,
-    solver_b: Solver,
-    budget: u32,
-) -> Result<SearchOutcome, SearchStop>
-    requires solver { solver_b.matrix ≡ (P.signed problem.now).matrix_b }
-    requires low { 1 ≤ budget }
-    requires high { budget ≤ MAX_BUDGET }
-    ensures { MatchResult result (λ o. IsOutcome (P.signed problem.now) budget o)
-        (λ s. IsSearchStop (P.signed problem.now) s) }
-{
-    let nodes = Vec::with_capacity(alloc, 0)?;
-    let mut listing = Listing {
-        nodes,
-        keeps: false,
-    };
-    let end = visit_all(alloc, problem, solver_b, budget, &mut listing)?;
-    Ok(outcome_at(end))
+    Ok(end_of(end, listing.nodes, keeps))
 }

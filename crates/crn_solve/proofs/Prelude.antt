@@ -24,7 +24,7 @@ pub use Rattle.crn_cert.specs.declared.answer.Verdict.{Verdict}
 pub use Rattle.crn_cert.specs.declared.answer.Verdict.TheVariants.{Classes, NoCycle, NoDependence, NoReaction, NoTerminal, NotApplicable, NotRegular, Rank, Strong, Unknown, Yes, YesVec}
 pub use Rattle.crn_cert.specs.declared.head_kind.HeadKind.{HeadKind}
 pub use Rattle.crn_conc.proofs.CallerLemmas.{column_is, combined_past, if_ok, length-rows_after, reaction_long, row_is, rows_after, rows_count, some_species, vector_at, vector_width, vectors_count, wide_basis, within_append}
-pub use Rattle.crn_conc.specs.Visits.{ListsTableVisits}
+pub use Rattle.crn_conc.specs.Answers.{IsTableAnswer}
 pub use Rattle.crn_defi.proofs.CallerLemmas.{all_places, are_members, ascending_few, few_independent, one_independent, rank_is, same_if_none, strong_right, true_or_open, zero_rests}
 pub use Rattle.crn_farkas.proofs.CallerLemmas.{decision_from}
 pub use Rattle.crn_farkas.specs.Decision.{IsDecision, IsSmallCut, IsSmallSolution, IsStop, IsTargetStop}

@@ -1,5 +1,5 @@
 -- Answers to the questions before the two on concordance and answers to these two are answers to all.
-use Rattle.crn_solve.proofs.Prelude.{◌≡◌, ℕ, List, [], ◌∷◌, ◌++◌, ◌+◌, length, refl, sym, subst, ◌∙◌, arith, ap, append_assoc, length-append, length-map, map-append, Net, Answer, Verdict, IsAnswer, verdicts_of, built, AreFormed, AllTrueOrLicensed, IsLicensedBudget, Earlier, IsOpen, Question, Q13, Q14, Q15, HasFewNodes, HaveFewNodes, AreValid, AreOpenIfSpent, AllListVisits, HaveNodeForEachVisit, plain_table, strong_table, ListsTableVisits, tight, AreAnswers, AreFirstAnswers, FirstAreDecided, IsVectorFirst, first_questions}
+use Rattle.crn_solve.proofs.Prelude.{◌≡◌, ℕ, List, [], ◌∷◌, ◌++◌, ◌+◌, length, refl, sym, subst, ◌∙◌, arith, ap, append_assoc, length-append, length-map, map-append, Net, Answer, Verdict, verdicts_of, built, AreFormed, AllTrueOrLicensed, Earlier, IsOpen, Question, Q13, Q14, Q15, HaveFewNodes, AreValid, AreOpenIfSpent, AllListVisits, HaveNodeForEachVisit, plain_table, strong_table, IsTableAnswer, tight, AreAnswers, AreFirstAnswers, FirstAreDecided, IsVectorFirst, first_questions}
 use Rattle.crn_solve.proofs.AllAnswers.{are_formed, are_valid, are_answered}
 
 -- there are as many answers as questions
@@ -44,24 +44,20 @@ pub record AreSolved (net : Net) (budget : ℕ) (answers : List Answer) : Type 0
 
 -- the answers to questions 14 and 15 after the others
 pub record AreLast (net : Net) (budget : ℕ) (a b : Answer) : Type 0 where
-  pub first : (earlier : Earlier) → IsAnswer net budget earlier Q14 a
-  pub first_few : HasFewNodes budget a.proof
-  pub second : (earlier : Earlier) → IsAnswer net budget earlier Q15 b
-  pub second_few : HasFewNodes budget b.proof
-  pub first_spent : (earlier : Earlier) → IsLicensedBudget net earlier Q14 budget → IsOpen a.verdict
-  pub second_spent : (earlier : Earlier) → IsLicensedBudget net earlier Q15 budget → IsOpen b.verdict
+  pub plain : IsTableAnswer net budget Q14 (plain_table net) a
+  pub strong : IsTableAnswer net budget Q15 (strong_table net) b
 
 -- no question but the last three is licensed by a spent budget
 all_spent : (net : Net) (budget : ℕ) (answers : List Answer) (a b : Answer) → AreFirstAnswers net budget answers → AreLast net budget a b → AreOpenIfSpent net budget (verdicts_of answers ++ a.verdict ∷ b.verdict ∷ [])
 all_spent net budget answers a b f l Q13 pass = f.spent (a.verdict ∷ b.verdict ∷ []) pass
-all_spent net budget answers a b f l Q14 pass = subst IsOpen (sym (f.last a.verdict b.verdict).0) (l.first_spent [] pass)
-all_spent net budget answers a b f l Q15 pass = subst IsOpen (sym (f.last a.verdict b.verdict).1) (l.second_spent [] pass)
+all_spent net budget answers a b f l Q14 pass = subst IsOpen (sym (f.last a.verdict b.verdict).0) (l.plain.spent pass)
+all_spent net budget answers a b f l Q15 pass = subst IsOpen (sym (f.last a.verdict b.verdict).1) (l.strong.spent pass)
 all_spent net budget answers a b f l q pass = absurd pass
 
 pub solved_after : (net : Net) (budget : ℕ) (answers : List Answer) (a b : Answer) → AreFirstAnswers net budget answers → AreLast net budget a b → AreSolved net budget (answers ++ a ∷ b ∷ [])
 solved_after net budget answers a b f l =
-    let h14 = l.first in
-    let h15 = l.second in
+    let h14 = l.plain.is in
+    let h15 = l.strong.is in
     let decided = f.decided in
     let first = f.first in
     let last = a ∷ b ∷ [] in
@@ -72,18 +68,18 @@ solved_after net budget answers a b f l =
       valid = are_valid net budget [] built (answers ++ last) all;
       answered = are_answered net budget [] built (answers ++ last) all;
       decided = subst FirstAreDecided (sym verdicts) (decided (verdicts_of last));
-      nodes = few_then budget answers last f.nodes (l.first_few, (l.second_few, tt));
+      nodes = few_then budget answers last f.nodes (l.plain.few, (l.strong.few, tt));
       spent = subst (AreOpenIfSpent net budget) (sym verdicts) (all_spent net budget answers a b f l);
       first = subst (IsVectorFirst net) (sym verdicts) (first (verdicts_of last));
     }
 
 -- the trees of all answers list the visits, if those on concordance do
-pub visits_after : (net : Net) (budget : ℕ) (answers : List Answer) (a b : Answer) → AreFirstAnswers net budget answers → ListsTableVisits net (plain_table net) a.proof → ListsTableVisits net (strong_table net) b.proof → HaveNodeForEachVisit net (answers ++ a ∷ b ∷ [])
-visits_after net budget answers a b f h k =
+pub visits_after : (net : Net) (budget : ℕ) (answers : List Answer) (a b : Answer) → AreFirstAnswers net budget answers → AreLast net budget a b → HaveNodeForEachVisit net (answers ++ a ∷ b ∷ [])
+visits_after net budget answers a b f l =
     let visited = f.visits in
     let last = a ∷ b ∷ [] in
     subst (λ (vs : List Verdict). AllListVisits net vs built (answers ++ last)) (sym (map-append (λ (x : Answer). x.verdict) answers last))
-    (visits_then net (verdicts_of answers ++ verdicts_of last) first_questions answers (Q14 ∷ Q15 ∷ []) last (visited (verdicts_of last)) (h, (k, tt)))
+    (visits_then net (verdicts_of answers ++ verdicts_of last) first_questions answers (Q14 ∷ Q15 ∷ []) last (visited (verdicts_of last)) (l.plain.visits, (l.strong.visits, tt)))
 
 -- one after another is both at the end
 pub two_more : {A : Type 0} (xs ys zs : List A) (x y : A) → ys ≡ xs ++ x ∷ [] → zs ≡ ys ++ y ∷ [] → zs ≡ xs ++ x ∷ y ∷ []

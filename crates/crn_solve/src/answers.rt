@@ -30,7 +30,7 @@ use crate::strong_answer::strong_answer;
 use crate::systems::species_matrix;
 use crate::zero_answer::zero_answer;
 use crn_cert::{Answer, Answers, Verdict, Verdicts};
-use crn_conc::{concordance_verdicts, decide_concordance, reaction_matrix};
+use crn_conc::{decide_concordance, reaction_matrix};
 use crn_defi::one_hypotheses;
 use crn_farkas::Solver;
 use crn_graph::{linkage, strong};
@@ -162,7 +162,7 @@ pub fn solve(alloc: Global, net: &Network, budget: u32) -> Result<Answers, NoMem
     let first = first_answers(alloc, net, budget)?;
     let mut answers = first.answers;
     let matrix = first.matrix;
-    let on_tables = decide_concordance(alloc, net, &matrix, first.solver, budget)?;
+    let on_tables = decide_concordance(alloc, net, &matrix, first.solver, budget, true)?;
     answers.push(on_tables.plain);
     answers.push(on_tables.strong);
     Ok(answers)
@@ -218,8 +218,10 @@ pub fn solve_verdicts(alloc: Global, net: &Network, budget: u32) -> Result<Verdi
     let first = first_answers(alloc, net, budget)?;
     let mut verdicts = first.answers.into_verdicts()?;
     let matrix = first.matrix;
-    let on_tables = concordance_verdicts(alloc, net, &matrix, first.solver, budget)?;
-    push_verdict(&mut verdicts, on_tables.plain);
-    push_verdict(&mut verdicts, on_tables.strong);
+    let on_tables = decide_concordance(alloc, net, &matrix, first.solver, budget, false)?;
+    let plain = on_tables.plain;
+    let strong = on_tables.strong;
+    push_verdict(&mut verdicts, plain.verdict);
+    push_verdict(&mut verdicts, strong.verdict);
     Ok(verdicts)
 }

@@ -6,7 +6,7 @@ ghost use Rattle.crn_cert.specs.declared.answer.Verdict.TheVariants.{Unknown};
 use crn_cert::{Answer, Gap, Verdict};
 use crn_vec::Nums;
 
-/// The open answer to a question that rests on this one.
+/// The open answer that names this question as the one that it rests on.
 pub(crate) fn rests_on(question: u32) -> Answer
     ensures { result ≡ plain (Unknown (Rests question)) }
 {

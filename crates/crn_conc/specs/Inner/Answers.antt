@@ -11,15 +11,16 @@ use Rattle.crn_cert.specs.declared.answer.Proof.TheVariants.{One}
 use Rattle.crn_cert.specs.declared.answer.Answer.{Answer}
 use Rattle.crn_cert.specs.Answers.{plain}
 use Rattle.crn_sign.specs.declared.end.SearchEnd.{SearchEnd}
-use Rattle.crn_sign.specs.declared.end.SearchEnd.TheVariants.{Found, Refuted, Spent}
+use Rattle.crn_sign.specs.declared.end.SearchEnd.TheVariants.{Found, Refuted, Infeasible, Spent}
 use Rattle.crn_sign.specs.declared.fault.SearchStop.{SearchStop}
 use Rattle.crn_sign.specs.declared.fault.SearchStop.TheVariants.{WideA, WideB, NoMemory}
 use Rattle.crn_conc.specs.declared.answer.WideName.{WideName}
 
--- no with the solutions that were found, yes with the tree, or open by the budget
+-- no with the solutions that were found, yes with the tree if it is kept, or open by the budget
 abbrev pub end_answer : ℕ → SearchEnd → Answer
 end_answer budget (Found q a b) = plain (NoPair a b)
 end_answer budget (Refuted tree) = record { verdict = Yes; proof = One tree }
+end_answer budget Infeasible = plain Yes
 end_answer budget Spent = plain (Unknown (Budget budget))
 
 -- open by the wide vector of system 2 that stopped the search

@@ -14,9 +14,7 @@ use Rattle.crn_cert.specs.Preorder.{AreNodesOf, listed, preorder}
 use Rattle.crn_farkas.specs.declared.fault.Stop.{Stop}
 use Rattle.crn_farkas.specs.declared.fault.Stop.TheVariants.{Wide, NoMemory as StopMemory}
 use Rattle.crn_sign.specs.declared.end.SearchEnd.{SearchEnd}
-use Rattle.crn_sign.specs.declared.end.SearchEnd.TheVariants.{Found as FoundEnd, Refuted as RefutedEnd, Spent as SpentEnd}
-use Rattle.crn_sign.specs.declared.end.SearchOutcome.{SearchOutcome}
-use Rattle.crn_sign.specs.declared.end.SearchOutcome.TheVariants.{Found as FoundOutcome, Refuted as RefutedOutcome, Spent as SpentOutcome}
+use Rattle.crn_sign.specs.declared.end.SearchEnd.TheVariants.{Found as FoundEnd, Refuted as RefutedEnd, Infeasible as InfeasibleEnd, Spent as SpentEnd}
 use Rattle.crn_sign.specs.declared.fault.SearchStop.{SearchStop}
 use Rattle.crn_sign.specs.declared.fault.SearchStop.TheVariants.{WideA, WideB, NoMemory}
 use Rattle.crn_sign.specs.declared.walk.Listing.{Listing}
@@ -96,23 +94,18 @@ IsFoundAt w p (Found f) = (f.value.pattern ≡ p)
 IsFoundAt w p Refuted = ⊥
 IsFoundAt w p Spent = ⊥
 
--- how a search ended whose visits ended so, without the tree
-abbrev pub outcome_at : Ending → SearchOutcome
-outcome_at (Found f) = FoundOutcome f.value.pattern f.value.a f.value.b
-outcome_at Refuted = RefutedOutcome
-outcome_at Spent = SpentOutcome
-
 -- the nodes are those of a tree, if visits that ended so made one
 abbrev pub HasTree : Ending → List TreeNode → Type 0
 HasTree (Found f) nodes = Unit {0}
 HasTree Refuted nodes = (tree : Plan) × AreNodesOf tree nodes
 HasTree Spent nodes = Unit {0}
 
--- how a search ended whose visits ended so, and listed these nodes
-abbrev pub IsEndOf : Ending → List TreeNode → SearchEnd → Type 0
-IsEndOf (Found f) nodes e = e ≡ FoundEnd f.value.pattern f.value.a f.value.b
-IsEndOf Refuted nodes e = (tree : Plan) × (e ≡ RefutedEnd tree) × AreNodesOf tree nodes
-IsEndOf Spent nodes e = e ≡ SpentEnd
+-- how a search ended whose visits ended so, and listed these nodes if a tree is kept
+abbrev pub IsEndOf : Bool → Ending → List TreeNode → SearchEnd → Type 0
+IsEndOf keeps (Found f) nodes e = e ≡ FoundEnd f.value.pattern f.value.a f.value.b
+IsEndOf true Refuted nodes e = (tree : Plan) × (e ≡ RefutedEnd tree) × AreNodesOf tree nodes
+IsEndOf false Refuted nodes e = e ≡ InfeasibleEnd
+IsEndOf keeps Spent nodes e = e ≡ SpentEnd
 
 -- the stop of part A's solver as the stop of the search
 abbrev pub IsWideA : Stop → SearchStop → Type 0

@@ -33,3 +33,8 @@ returns-in-Ok-Refuted c =
     let s = c.in_ok-slopes.slopes in
     let e : IsSearchEnd (slopes s.net s.reaction) c.args.left (Refuted f.tree) = subst (IsSearchEnd (slopes s.net s.reaction) c.args.left) f.field-0-is f.ensures in
     refuted_is c.args.net.now c.args.r c.args.left c.args.budget f.tree (subst (λ (k : KeptSlopes). IsSearchEnd (slopes k.net k.reaction) c.args.left (Refuted f.tree)) c.in_ok-slopes.ensures e)
+
+pub unreachable-requires : goal.unreachable-requires
+unreachable-requires c =
+    let s = c.in_ok-slopes.slopes in
+    subst (IsSearchEnd (slopes s.net s.reaction) c.args.left) c.in-Ok-Infeasible.field-0-is c.in-Ok-Infeasible.ensures

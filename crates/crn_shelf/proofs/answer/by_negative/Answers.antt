@@ -116,3 +116,6 @@ pub returns-clause-spent : goal.returns-clause-spent
 returns-clause-spent c =
     if_ok (IsStopAnswer c.in-Err.stop) (λ (answer : Answer). PassForSignals c.args.net.now (negative c.args.g.now) c.args.budget → IsOpen answer.verdict) c.stop_answer.result
     (λ answer e pass. stop_open c.in-Err.stop answer e) c.stop_answer.ensures
+
+pub unreachable-requires : goal.unreachable-requires
+unreachable-requires c = subst (IsSearchEnd (signals c.negate.new.self (reaction_system c.args.net.now)) c.args.budget) c.in-Ok-Infeasible.field-0-is c.in-Ok-Infeasible.ensures

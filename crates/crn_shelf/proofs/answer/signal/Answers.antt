@@ -180,3 +180,6 @@ pub returns-in-Err-clause-second : goal.returns-in-Err-clause-second
 returns-in-Err-clause-second c =
     if_ok (IsStopAnswer c.in-Err.stop) (λ (answer : Answer). IsTrue c.args.weak → HasNoSignal c.args.net.now c.args.g.now → PassForSignals c.args.net.now (negative c.args.g.now) c.args.budget → IsOpen answer.verdict) c.stop_answer.result
     (λ answer e weak none pass. stop_open c.in-Err.stop answer e) c.stop_answer.ensures
+
+pub unreachable-requires : goal.unreachable-requires
+unreachable-requires c = subst (IsSearchEnd (signals c.in_ok-shape.shape (reaction_system c.args.net.now)) c.args.budget) c.in-Ok-Infeasible.field-0-is c.in-Ok-Infeasible.ensures

@@ -1,5 +1,5 @@
 use Rattle.crn_solve.proofs.Prelude.{[], List, sym, subst, arith, Answer, first_questions, HaveNodeForEachVisit}
-use Rattle.crn_solve.proofs.Solved.{AreSolved, answers_counted, one_more, solved_after, two_more, visits_after}
+use Rattle.crn_solve.proofs.Solved.{AreLast, AreSolved, answers_counted, one_more, solved_after, two_more, visits_after}
 use Rattle.crn_solve.proofs.answers.solve.Goals as goal
 
 pub push-requires : goal.push-requires
@@ -14,9 +14,9 @@ pub returns : goal.returns
 returns c =
     let net = c.args.net.now in
     let budget = c.args.budget in
-    let h = c.in_ok-on_tables.ensures in
-    let s = solved_after net budget c.in_ok-first.first.answers _ _ c.in_ok-first.ensures.answers (record { first = h.plain; first_few = h.plain_nodes; second = h.strong; second_few = h.strong_nodes; first_spent = λ earlier. h.plain_spent; second_spent = λ earlier. h.strong_spent }) in
+    let last : AreLast net budget c.in_ok-on_tables.on_tables.plain c.in_ok-on_tables.on_tables.strong = record { plain = c.in_ok-on_tables.ensures.plain; strong = c.in_ok-on_tables.ensures.strong } in
+    let s = solved_after net budget c.in_ok-first.first.answers _ _ c.in_ok-first.ensures.answers last in
     let t = subst (λ (answers : List Answer). AreSolved net budget answers) (sym (two_more c.in_ok-first.first.answers _ _ _ _ c.push.ensures c.push-2.ensures)) s in
-    let visits = visits_after net budget c.in_ok-first.first.answers _ _ c.in_ok-first.ensures.answers h.plain_visits h.strong_visits in
+    let visits = visits_after net budget c.in_ok-first.first.answers _ _ c.in_ok-first.ensures.answers last in
     let all = subst (HaveNodeForEachVisit net) (sym (two_more c.in_ok-first.first.answers _ _ _ _ c.push.ensures c.push-2.ensures)) visits in
     record { formed = t.formed; valid = t.valid; answered = t.answered; decided = t.decided; nodes = t.nodes; visits = all; spent = t.spent; first = t.first }

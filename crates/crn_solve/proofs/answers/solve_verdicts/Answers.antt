@@ -1,4 +1,4 @@
-use Rattle.crn_solve.proofs.Prelude.{[], ◌∷◌, ◌++◌, List, sym, subst, arith, Verdict, IsOpen, built, AllTrueOrLicensed, AreOpenIfSpent, FirstAreDecided, IsVectorFirst}
+use Rattle.crn_solve.proofs.Prelude.{[], ◌∷◌, ◌++◌, List, sym, subst, arith, Verdict, built, AllTrueOrLicensed, AreOpenIfSpent, FirstAreDecided, IsVectorFirst}
 use Rattle.crn_solve.proofs.Solved.{one_more, solved_after, verdicts_counted, verdicts_with}
 use Rattle.crn_solve.proofs.answers.solve_verdicts.Goals as goal
 
@@ -14,21 +14,12 @@ pub returns : goal.returns
 returns c =
     let net = c.args.net.now in
     let budget = c.args.budget in
-    let on_tables = c.in_ok-on_tables.ensures in
-    let h = on_tables.plain in
-    let k = on_tables.strong in
-    let s = solved_after net budget c.in_ok-first.first.answers h.answer k.answer c.in_ok-first.ensures.answers
-    (record {
-      first = h.is;
-      first_few = h.few;
-      second = k.is;
-      second_few = k.few;
-      first_spent = λ earlier spent. subst IsOpen h.verdict_is (on_tables.plain_spent spent);
-      second_spent = λ earlier spent. subst IsOpen k.verdict_is (on_tables.strong_spent spent);
-    }) in
-    let e = verdicts_with c.in_ok-first.first.answers h.answer k.answer c.in_ok-on_tables.on_tables.plain c.in_ok-on_tables.on_tables.strong _ _ _ h.verdict_is k.verdict_is c.in_ok-verdicts.ensures c.push_verdict.ensures c.push_verdict-2.ensures in
+    let h = c.in_ok-on_tables.ensures.plain in
+    let k = c.in_ok-on_tables.ensures.strong in
+    let s = solved_after net budget c.in_ok-first.first.answers h.0 k.0 c.in_ok-first.ensures.answers (record { plain = h.2; strong = k.2 }) in
+    let e = verdicts_with c.in_ok-first.first.answers h.0 k.0 c.in_ok-on_tables.on_tables.plain.verdict c.in_ok-on_tables.on_tables.strong.verdict _ _ _ h.1 k.1 c.in_ok-verdicts.ensures c.push_verdict.ensures c.push_verdict-2.ensures in
     record {
-      answers = (c.in_ok-first.first.answers ++ h.answer ∷ k.answer ∷ [], e, s.formed, s.valid);
+      answers = (c.in_ok-first.first.answers ++ h.0 ∷ k.0 ∷ [], e, s.formed, s.valid);
       answered = subst (λ (vs : List Verdict). AllTrueOrLicensed net budget [] built vs) (sym e) s.answered;
       decided = subst FirstAreDecided (sym e) s.decided;
       spent = subst (AreOpenIfSpent net budget) (sym e) s.spent;
