@@ -1,6 +1,6 @@
 -- The block of the answer of a block that fits is that block.
 use Rattle.crn_cert.proofs.Prelude.{◌≡◌, ◌≤◌, ◌-◌, ◌++◌, ◌∙◌, ◌==◌, ℕ, zero, suc, Bool, true, false, List, [], ◌∷◌, length, map, take, drop, refl, sym, ap, ap₂, subst, arith, replicate, codes, AllZip, flat_map, range_with_len, length-replicate, take_at, drop_at, zip_long, Net, Earlier, Question, Q1, Q2, Q3, Q4, Q5, Q6, Q7, Q8, Q9, Q10, Q11, Q12, Q13, Q14, Q15, on, Plan, class_places, pair_places, is_yes, HeadKind, No, Datum, Num, Nums, Ints, Marks, Led, FreeSeveral, Side, TreeRow, row, rows, rank_rows, rank_in, class_rows, fields, trees, one_or_two, signal_tree, sizes_of, FitsRow, FitsTree, FitsHead, block_of, verdict_of, proof_of, list_in, one_if, rank_data, rank_proof, class_length, class_proofs, side_data, BlocksAreOfAnswers}
-use Rattle.crn_cert.specs.declared.head_kind.HeadKind.TheVariants.{Classes, Strong, Rank, Deficiency, Yes, YesWeak, YesVec, YesSignal, NoReaction, NoVec, NoNumber, NoTerminal, NoClass, NoSum, NoDependence, NoCycle, NoPair, NotRegular, OnlyZero, Plane, NotApplicable, Wide, Budget, Rests}
+use Rattle.crn_cert.specs.declared.head_kind.HeadKind.TheVariants.{Classes, Strong, Rank, Deficiency, Yes, YesWeak, YesVec, OnlyZero}
 use Rattle.crn_cert.proofs.BlockRows.{free_lists, cut_rows, rank_long}
 use Rattle.crn_cert.proofs.DatumShapes.{AllOf, given, fields_in, fields_of, head_back, rows_back}
 
@@ -98,44 +98,10 @@ pub by_kind : (net : Net) (earlier : Earlier) (q : Question) (kind : HeadKind) (
 by_kind net earlier Q1 Classes h r t f = made net earlier Q1 Classes h r t refl f (λ a b. refl)
 by_kind net earlier Q2 Strong h r t f = made net earlier Q2 Strong h r t refl f (λ a b. refl)
 by_kind net earlier Q3 Yes h r t f = made net earlier Q3 Yes h r t refl f (λ a b. refl)
-by_kind net earlier Q3 NoReaction h r t f = made net earlier Q3 NoReaction h r t refl f (λ a b. refl)
 by_kind net earlier Q4 Yes h r t f = made net earlier Q4 Yes h r t refl f (λ a b. refl)
-by_kind net earlier Q4 NoReaction h r t f = made net earlier Q4 NoReaction h r t refl f (λ a b. refl)
-by_kind net earlier Q5 Wide h r t f = made net earlier Q5 Wide h r t refl f (λ a b. refl)
-by_kind net earlier Q6 Wide h r t f = made net earlier Q6 Wide h r t refl f (λ a b. refl)
-by_kind net earlier Q6 Rests h r t f = made net earlier Q6 Rests h r t refl f (λ a b. refl)
 by_kind net earlier Q7 YesVec h r t f = made net earlier Q7 YesVec h r t refl f (λ a b. refl)
-by_kind net earlier Q7 NoVec h r t f = made net earlier Q7 NoVec h r t refl f (λ a b. refl)
-by_kind net earlier Q7 Wide h r t f = made net earlier Q7 Wide h r t refl f (λ a b. refl)
 by_kind net earlier Q8 YesVec h r t f = made net earlier Q8 YesVec h r t refl f (λ a b. refl)
-by_kind net earlier Q8 NoVec h r t f = made net earlier Q8 NoVec h r t refl f (λ a b. refl)
-by_kind net earlier Q8 Wide h r t f = made net earlier Q8 Wide h r t refl f (λ a b. refl)
-by_kind net earlier Q9 NoNumber h r t f = made net earlier Q9 NoNumber h r t refl f (λ a b. refl)
-by_kind net earlier Q9 Rests h r t f = made net earlier Q9 Rests h r t refl f (λ a b. refl)
 by_kind net earlier Q10 Yes h r t f = made net earlier Q10 Yes h r t refl f (λ a b. refl)
-by_kind net earlier Q10 NoTerminal h r t f = made net earlier Q10 NoTerminal h r t refl f (λ a b. refl)
-by_kind net earlier Q10 NoClass h r t f = made net earlier Q10 NoClass h r t refl f (λ a b. refl)
-by_kind net earlier Q10 NoSum h r t f = made net earlier Q10 NoSum h r t refl f (λ a b. refl)
-by_kind net earlier Q10 Rests h r t f = made net earlier Q10 Rests h r t refl f (λ a b. refl)
-by_kind net earlier Q11 NoTerminal h r t f = made net earlier Q11 NoTerminal h r t refl f (λ a b. refl)
-by_kind net earlier Q11 NoDependence h r t f = made net earlier Q11 NoDependence h r t refl f (λ a b. refl)
-by_kind net earlier Q11 NoCycle h r t f = made net earlier Q11 NoCycle h r t refl f (λ a b. refl)
-by_kind net earlier Q11 Rests h r t f = made net earlier Q11 Rests h r t refl f (λ a b. refl)
-by_kind net earlier Q12 NotRegular h r t f = made net earlier Q12 NotRegular h r t refl f (λ a b. refl)
-by_kind net earlier Q12 Plane h r t f = made net earlier Q12 Plane h r t refl f (λ a b. refl)
-by_kind net earlier Q12 Wide h r t f = made net earlier Q12 Wide h r t refl f (λ a b. refl)
-by_kind net earlier Q12 Rests h r t f = made net earlier Q12 Rests h r t refl f (λ a b. refl)
-by_kind net earlier Q13 YesSignal h r t f = made net earlier Q13 YesSignal h r t refl f (λ a b. refl)
-by_kind net earlier Q13 NotApplicable h r t f = made net earlier Q13 NotApplicable h r t refl f (λ a b. refl)
-by_kind net earlier Q13 Wide h r t f = made net earlier Q13 Wide h r t refl f (λ a b. refl)
-by_kind net earlier Q13 Budget h r t f = made net earlier Q13 Budget h r t refl f (λ a b. refl)
-by_kind net earlier Q13 Rests h r t f = made net earlier Q13 Rests h r t refl f (λ a b. refl)
-by_kind net earlier Q14 NoPair h r t f = made net earlier Q14 NoPair h r t refl f (λ a b. refl)
-by_kind net earlier Q14 Wide h r t f = made net earlier Q14 Wide h r t refl f (λ a b. refl)
-by_kind net earlier Q14 Budget h r t f = made net earlier Q14 Budget h r t refl f (λ a b. refl)
-by_kind net earlier Q15 NoPair h r t f = made net earlier Q15 NoPair h r t refl f (λ a b. refl)
-by_kind net earlier Q15 Wide h r t f = made net earlier Q15 Wide h r t refl f (λ a b. refl)
-by_kind net earlier Q15 Budget h r t f = made net earlier Q15 Budget h r t refl f (λ a b. refl)
 by_kind net earlier Q5 Rank h r t f =
     let a = head_back (fields Q5 (sizes_of net earlier) Rank) h f.0 in
     let below = subst (λ (h : List Datum). AllZip FitsRow (rows net earlier Q5 Rank h) r) a.1 f.1 in
@@ -176,7 +142,7 @@ by_kind net earlier Q14 Yes h r (t ∷ u ∷ ts) f = absurd f.2.1
 by_kind net earlier Q15 Yes h r [] f = absurd f.2
 by_kind net earlier Q15 Yes h r (t ∷ []) f = alone net earlier Q15 Yes h r (t ∷ []) f.0 f.1 (λ a. refl)
 by_kind net earlier Q15 Yes h r (t ∷ u ∷ ts) f = absurd f.2.1
-by_kind net earlier q kind h r t f = absurd f.0
+by_kind net earlier q kind h r t f = made net earlier q kind h r t refl f (λ a b. search f.0)
 
 pub blocks_are_of_answers : BlocksAreOfAnswers
 blocks_are_of_answers net earlier q b f = by_kind net earlier q b.kind b.head b.rows b.trees (f.head, f.rows, f.trees)

@@ -1,5 +1,5 @@
 -- A verdict says the same without the spares of its lists.
-use Rattle.crn_cert.proofs.Prelude.{◌≡◌, ◌++◌, [], ◌∷◌, refl, ap, Net, Gap, Wide, Budget, Rests, Verdict, Unknown, Earlier, Question, Q1, Q2, Q3, Q4, Q5, Q6, Q7, Q8, Q9, Q10, Q11, Q12, Q13, Q14, Q15, labels_of, count_of, exits_of, rank_of, deficiencies_of, vector_given, IsOpen, IsYes, IsNo, tight, all_tight, IsTrueOf, IsTrueOrOpen}
+use Rattle.crn_cert.proofs.Prelude.{◌≡◌, ◌++◌, [], ◌∷◌, refl, ap, Net, Gap, Wide, Budget, Rests, Verdict, Unknown, Earlier, Question, Q1, labels_of, count_of, exits_of, rank_of, deficiencies_of, vector_given, IsOpen, IsYes, IsNo, tight, all_tight, IsTrueOf, IsTrueOrOpen}
 
 pub labels_tight : (v : Verdict) → labels_of (tight v) ≡ labels_of v
 labels_tight (Unknown gap) = refl
@@ -54,38 +54,12 @@ all_tight_then (e ∷ es) q v = ap (λ (x : Earlier). (e.0, tight e.1) ∷ x) (a
 pub true_tight : (net : Net) (q : Question) (v : Verdict) → IsTrueOrOpen net q v → IsTrueOrOpen net q (tight v)
 true_tight net q (Unknown gap) h = tt
 true_tight net Q1 v h = h
-true_tight net Q2 v h = h
-true_tight net Q3 v h = h
-true_tight net Q4 v h = h
-true_tight net Q5 v h = h
-true_tight net Q6 v h = h
-true_tight net Q7 v h = h
-true_tight net Q8 v h = h
-true_tight net Q9 v h = h
-true_tight net Q10 v h = h
-true_tight net Q11 v h = h
-true_tight net Q12 v h = h
-true_tight net Q13 v h = h
-true_tight net Q14 v h = h
-true_tight net Q15 v h = h
+true_tight net q v h = h
 
 -- no open verdict is true
 never_open : (net : Net) (q : Question) (gap : Gap) → IsTrueOf net q (Unknown gap) → ⊥
 never_open net Q1 gap h = h
-never_open net Q2 gap h = h
-never_open net Q3 gap h = h
-never_open net Q4 gap h = h
-never_open net Q5 gap h = h
-never_open net Q6 gap h = h
-never_open net Q7 gap h = h
-never_open net Q8 gap h = h
-never_open net Q9 gap h = h
-never_open net Q10 gap h = h
-never_open net Q11 gap h = h
-never_open net Q12 gap h = h
-never_open net Q13 gap h = h
-never_open net Q14 gap h = h
-never_open net Q15 gap h = h
+never_open net q gap h = h
 
 -- and a true one true
 pub is_true_tight : (net : Net) (q : Question) (v : Verdict) → IsTrueOf net q v → IsTrueOf net q (tight v)

@@ -24,29 +24,15 @@ treeless net earlier q v p none f = no_trees p (subst (λ (ts : List TreeRow). A
 
 -- a proof without trees has none that is too large
 pub treeless_few : (most : ℕ) (p : Proof) → IsTreeless p → HasFewNodes most p
-treeless_few most proof.Nothing h = tt
-treeless_few most (proof.Forest up depth) h = tt
-treeless_few most (proof.Strong from from_depth to to_depth level) h = tt
-treeless_few most (proof.Back back) h = tt
-treeless_few most (proof.Rank p) h = tt
-treeless_few most (proof.Ranks ps) h = tt
-treeless_few most (proof.Sides rows) h = tt
-treeless_few most (proof.Ties rows) h = tt
 treeless_few most (proof.One tree) h = absurd h
 treeless_few most (proof.Two tree second) h = absurd h
+treeless_few most p h = tt
 
 -- what is few for one bound is few for a greater one
 has_more : (most limit : ℕ) (p : Proof) → most ≤ limit → HasFewNodes most p → HasFewNodes limit p
-has_more most limit proof.Nothing le h = tt
-has_more most limit (proof.Forest up depth) le h = tt
-has_more most limit (proof.Strong from from_depth to to_depth level) le h = tt
-has_more most limit (proof.Back back) le h = tt
-has_more most limit (proof.Rank p) le h = tt
-has_more most limit (proof.Ranks ps) le h = tt
-has_more most limit (proof.Sides rows) le h = tt
-has_more most limit (proof.Ties rows) le h = tt
 has_more most limit (proof.One tree) le h = omega (arith, le, h)
 has_more most limit (proof.Two tree second) le h = (omega (arith, le, h.0), omega (arith, le, h.1))
+has_more most limit p le h = tt
 
 pub have_more : (most limit : ℕ) (answers : List Answer) → most ≤ limit → HaveFewNodes most answers → HaveFewNodes limit answers
 have_more most limit [] le h = tt

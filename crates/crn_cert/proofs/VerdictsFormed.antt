@@ -1,5 +1,5 @@
 -- The verdict of a formed answer is formed.
-use Rattle.crn_cert.proofs.Prelude.{Net, Verdict, Classes, Strong, Rank, YesVec, YesSignal, NoVec, NoCycle, NoPair, Plane, Proof, Forest, StrongTrees, RankRows, Ties, Earlier, Question, Q1, Q2, Q3, Q4, Q5, Q6, Q7, Q8, Q9, Q10, Q11, Q12, Q13, Q14, Q15, IsFormedOf, ListsMayBe, FormedAnswersHaveFormedVerdicts, ◌≡◌, sym, subst, List, ℕ, length}
+use Rattle.crn_cert.proofs.Prelude.{Net, Verdict, Classes, Strong, Rank, YesVec, YesSignal, NoVec, NoCycle, NoPair, Plane, Proof, Forest, StrongTrees, RankRows, Ties, Earlier, Question, Q1, Q2, Q5, Q7, Q8, Q11, Q12, Q13, Q14, Q15, IsFormedOf, ListsMayBe, FormedAnswersHaveFormedVerdicts, ◌≡◌, sym, subst, List, ℕ, length}
 use Rattle.crn_cert.proofs.FormedFacts.{bare_formed, same_base, rank_formed}
 
 lists_1 : (net : Net) (e : Earlier) (v : Verdict) (p : Proof) → IsFormedOf net e Q1 v p → ListsMayBe net e Q1 v
@@ -57,19 +57,15 @@ lists_15 net e v p f = tt
 lists : (net : Net) (e : Earlier) (q : Question) (v : Verdict) (p : Proof) → IsFormedOf net e q v p → ListsMayBe net e q v
 lists net e Q1 v p f = lists_1 net e v p f
 lists net e Q2 v p f = lists_2 net e v p f
-lists net e Q3 v p f = tt
-lists net e Q4 v p f = tt
 lists net e Q5 v p f = lists_5 net e v p f
-lists net e Q6 v p f = tt
 lists net e Q7 v p f = lists_7 net e v p f
 lists net e Q8 v p f = lists_8 net e v p f
-lists net e Q9 v p f = tt
-lists net e Q10 v p f = tt
 lists net e Q11 v p f = lists_11 net e v p f
 lists net e Q12 v p f = lists_12 net e v p f
 lists net e Q13 v p f = lists_13 net e v p f
 lists net e Q14 v p f = lists_14 net e v p f
 lists net e Q15 v p f = lists_15 net e v p f
+lists net e q v p f = tt
 
 pub formed_answers_have_formed_verdicts : FormedAnswersHaveFormedVerdicts
 formed_answers_have_formed_verdicts net e q v p f = (f.0.head, lists net e q v p f)

@@ -35,59 +35,20 @@ shown_apart p e = refl
 
 -- no test looks at spares
 rows_tight : (net : Net) (earlier : Earlier) (q : Question) (v : Verdict) (p : Proof) → row_tests net earlier q (tight v) (tight_proof p) ≡ row_tests net earlier q v p
-rows_tight net earlier Q1 (Unknown gap) p = refl
 rows_tight net earlier Q1 (Classes count label) (Forest up depth) = refl
-rows_tight net earlier Q1 (Classes count label) p = refl
-rows_tight net earlier Q1 v p = refl
-rows_tight net earlier Q2 (Unknown gap) p = refl
 rows_tight net earlier Q2 (Strong count terminal label exit) (StrongTrees from from_depth to to_depth level) = refl
-rows_tight net earlier Q2 (Strong count terminal label exit) p = refl
-rows_tight net earlier Q2 v p = refl
-rows_tight net earlier Q3 (Unknown gap) p = refl
 rows_tight net earlier Q3 Yes (Back back) = refl
-rows_tight net earlier Q3 Yes p = refl
-rows_tight net earlier Q3 v p = refl
-rows_tight net earlier Q4 (Unknown gap) p = refl
-rows_tight net earlier Q4 v p = refl
-rows_tight net earlier Q5 (Unknown gap) p = refl
 rows_tight net earlier Q5 (Rank rank base) (RankRows r) = refl
-rows_tight net earlier Q5 (Rank rank base) p = refl
-rows_tight net earlier Q5 v p = refl
-rows_tight net earlier Q6 (Unknown gap) p = refl
 rows_tight net earlier Q6 (Deficiency total classes) (Ranks list) = tests_said net earlier 1 1 list
-rows_tight net earlier Q6 (Deficiency total classes) p = refl
-rows_tight net earlier Q6 v p = refl
 rows_tight net earlier Q7 (Unknown gap) p = refl
-rows_tight net earlier Q7 v p = refl
 rows_tight net earlier Q8 (Unknown gap) p = refl
-rows_tight net earlier Q8 v p = refl
-rows_tight net earlier Q9 (Unknown gap) p = refl
-rows_tight net earlier Q9 v p = refl
-rows_tight net earlier Q10 (Unknown gap) p = refl
-rows_tight net earlier Q10 v p = refl
-rows_tight net earlier Q11 (Unknown gap) p = refl
 rows_tight net earlier Q11 Yes (Sides sides) = refl
-rows_tight net earlier Q11 Yes p = refl
-rows_tight net earlier Q11 v p = refl
-rows_tight net earlier Q12 (Unknown gap) p = refl
 rows_tight net earlier Q12 (YesVec vector) (Ties ties) = refl
-rows_tight net earlier Q12 (YesVec vector) p = refl
 rows_tight net earlier Q12 OnlyZero (Ties ties) = refl
-rows_tight net earlier Q12 OnlyZero p = refl
-rows_tight net earlier Q12 v p = refl
-rows_tight net earlier Q13 (Unknown gap) p = refl
 rows_tight net earlier Q13 No (One tree) = refl
-rows_tight net earlier Q13 No (Two tree second) = refl
-rows_tight net earlier Q13 No p = refl
-rows_tight net earlier Q13 v p = refl
-rows_tight net earlier Q14 (Unknown gap) p = refl
 rows_tight net earlier Q14 Yes (One tree) = refl
-rows_tight net earlier Q14 Yes p = refl
-rows_tight net earlier Q14 v p = refl
-rows_tight net earlier Q15 (Unknown gap) p = refl
 rows_tight net earlier Q15 Yes (One tree) = refl
-rows_tight net earlier Q15 Yes p = refl
-rows_tight net earlier Q15 v p = refl
+rows_tight net earlier q v p = refl
 
 -- the tests of a head on deficiencies, by what they rest on
 abbrev deficiency_tests : Net → ℕ → ℕ → Option ℕ → Type 0 → List {1} Test
@@ -95,69 +56,20 @@ deficiency_tests net total count rank Numbers = test 0 WrongVerdict (IsSome rank
 
 -- the tests of the record of a head are those of the verdict
 claims_are : (known : Known) (q : Question) (v : Verdict) → HeadMayBe known.net known.earlier q v → meaning.head_claims q known (head_of q v) ≡ head_tests known.net known.earlier q v
-claims_are known Q1 v h = refl
-claims_are known Q2 v h = refl
-claims_are known Q3 Yes h = refl
-claims_are known Q3 (NoReaction r) h = refl
-claims_are known Q3 (Unknown (Wide system class index basis)) h = absurd h
-claims_are known Q3 (Unknown (Budget nodes)) h = absurd h
 claims_are known Q3 (Unknown (Rests question)) h = absurd h
-claims_are known Q3 v h = absurd h
-claims_are known Q4 Yes h = refl
-claims_are known Q4 (NoReaction r) h = refl
-claims_are known Q4 (Unknown (Wide system class index basis)) h = absurd h
-claims_are known Q4 (Unknown (Budget nodes)) h = absurd h
 claims_are known Q4 (Unknown (Rests question)) h = absurd h
-claims_are known Q4 v h = absurd h
-claims_are known Q5 v h = refl
 claims_are known Q6 (Deficiency total classes) h =
     ap (λ (xs : List ℕ). deficiency_tests known.net total (linkage_count known.earlier) (rank_of (on known.earlier Q5)) (AreClassNumbers known.net known.earlier 1 xs)) (abs_back classes.list)
-claims_are known Q6 (Unknown (Wide system class index basis)) h = refl
 claims_are known Q6 (Unknown (Rests question)) h = refl
-claims_are known Q6 (Unknown (Budget nodes)) h = absurd h
-claims_are known Q6 v h = absurd h
-claims_are known Q7 v h = refl
-claims_are known Q8 v h = refl
 claims_are known Q9 (YesWeak true) h = refl
-claims_are known Q9 (YesWeak false) h = refl
-claims_are known Q9 (NoNumber d) h = refl
 claims_are known Q9 (Unknown (Rests question)) h = refl
-claims_are known Q9 (Unknown (Wide system class index basis)) h = absurd h
-claims_are known Q9 (Unknown (Budget nodes)) h = absurd h
-claims_are known Q9 v h = absurd h
-claims_are known Q10 Yes h = refl
-claims_are known Q10 (NoTerminal class count) h = refl
-claims_are known Q10 (NoClass class d) h = refl
-claims_are known Q10 (NoSum sum) h = refl
 claims_are known Q10 (Unknown (Rests question)) h = refl
-claims_are known Q10 (Unknown (Wide system class index basis)) h = absurd h
-claims_are known Q10 (Unknown (Budget nodes)) h = absurd h
-claims_are known Q10 v h = absurd h
-claims_are known Q11 Yes h = refl
-claims_are known Q11 (NoTerminal class count) h = refl
-claims_are known Q11 NoDependence h = refl
-claims_are known Q11 (NoCycle r walk) h = refl
 claims_are known Q11 (Unknown (Rests question)) h = refl
-claims_are known Q11 (Unknown (Wide system class index basis)) h = absurd h
-claims_are known Q11 (Unknown (Budget nodes)) h = absurd h
-claims_are known Q11 v h = absurd h
-claims_are known Q12 (YesVec vector) h = refl
-claims_are known Q12 NotRegular h = refl
-claims_are known Q12 OnlyZero h = refl
-claims_are known Q12 (Plane first second one two) h = refl
-claims_are known Q12 (Unknown (Wide system class index basis)) h = refl
 claims_are known Q12 (Unknown (Rests question)) h = refl
-claims_are known Q12 (Unknown (Budget nodes)) h = absurd h
-claims_are known Q12 v h = absurd h
 claims_are known Q13 (YesSignal turn shelves mu level weights) h = ap (λ (z : ℤ). signal_head known.earlier (YesSignal z shelves mu level weights)) (turn_is turn h.0)
-claims_are known Q13 No h = refl
-claims_are known Q13 NotApplicable h = refl
-claims_are known Q13 (Unknown (Wide system class index basis)) h = refl
 claims_are known Q13 (Unknown (Budget nodes)) h = ap (λ (place : ℕ). signal_head known.earlier (verdict_by (kind_at Q13 place) (pos nodes ∷ []) [])) (spent_place (has_vector (on known.earlier Q12)) (sizes_of known))
 claims_are known Q13 (Unknown (Rests question)) h = ap (λ (place : ℕ). signal_head known.earlier (verdict_by (kind_at Q13 place) (pos question ∷ []) [])) (rests_place (has_vector (on known.earlier Q12)) (sizes_of known))
-claims_are known Q13 v h = absurd h
-claims_are known Q14 v h = refl
-claims_are known Q15 v h = refl
+claims_are known q v h = search (refl, h)
 
 -- ---- an answer and its block
 
@@ -249,20 +161,11 @@ by_trees P q v t a b c = absurd t
 
 bare_or : (net : Net) (earlier : Earlier) (q : Question) (v : Verdict) → (trees net earlier q (kind_of v).0 ≡ []) ⊎ HaveTrees q v
 bare_or net earlier Q13 No = inr tt
-bare_or net earlier Q13 (Unknown (Wide system class index basis)) = inl refl
-bare_or net earlier Q13 (Unknown (Budget nodes)) = inl refl
 bare_or net earlier Q13 (Unknown (Rests question)) = inl refl
-bare_or net earlier Q13 v = inl refl
 bare_or net earlier Q14 Yes = inr tt
-bare_or net earlier Q14 (Unknown (Wide system class index basis)) = inl refl
-bare_or net earlier Q14 (Unknown (Budget nodes)) = inl refl
 bare_or net earlier Q14 (Unknown (Rests question)) = inl refl
-bare_or net earlier Q14 v = inl refl
 bare_or net earlier Q15 Yes = inr tt
-bare_or net earlier Q15 (Unknown (Wide system class index basis)) = inl refl
-bare_or net earlier Q15 (Unknown (Budget nodes)) = inl refl
 bare_or net earlier Q15 (Unknown (Rests question)) = inl refl
-bare_or net earlier Q15 v = inl refl
 bare_or net earlier q v = inl refl
 
 -- ---- each question

@@ -65,20 +65,12 @@ written_alone table (w ∷ ws) (r ∷ rs) e z = ap₂ (λ (x : Record) (xs : Lis
 
 section_words : (q : Question) → AllByRecursion (λ name. words_fit (codes "section" ∷ name ∷ []) ≡ true) (opens q)
 section_words Q1 = (refl, tt)
-section_words Q2 = tt
-section_words Q3 = tt
-section_words Q4 = tt
 section_words Q5 = (refl, tt)
-section_words Q6 = tt
 section_words Q7 = (refl, tt)
-section_words Q8 = tt
 section_words Q9 = (refl, tt)
-section_words Q10 = tt
 section_words Q11 = (refl, tt)
-section_words Q12 = tt
-section_words Q13 = tt
 section_words Q14 = (refl, tt)
-section_words Q15 = tt
+section_words q = tt
 
 sections_plain : (version : ℕ) (q : Question) → AllPlain (map section (sections version q))
 sections_plain version q = by (version == 2)

@@ -24,16 +24,9 @@ nodes_counted Level = refl
 
 -- a proof without trees has no nodes
 no_nodes : (p : Proof) → IsTreeless p → length (proof_nodes p) ≡ 0
-no_nodes proof.Nothing h = refl
-no_nodes (proof.Forest up depth) h = refl
-no_nodes (proof.Strong from from_depth to to_depth level) h = refl
-no_nodes (proof.Back back) h = refl
-no_nodes (proof.Rank p) h = refl
-no_nodes (proof.Ranks ps) h = refl
-no_nodes (proof.Sides rows) h = refl
-no_nodes (proof.Ties rows) h = refl
 no_nodes (proof.One tree) h = absurd h
 no_nodes (proof.Two tree second) h = absurd h
+no_nodes p h = refl
 
 -- the one tree, if there is one
 one_few : (most : ℕ) (net : Net) (p : Proof) → IsTreeOrNone net p → HasFewNodes most p → length (proof_nodes p) ≤ most
@@ -62,18 +55,6 @@ short_few q s = record {
 }
 
 few_for : (q : Question) → ShortFor q → IsFewFor q
-few_for Q1 s = short_few Q1 s
-few_for Q2 s = short_few Q2 s
-few_for Q3 s = short_few Q3 s
-few_for Q4 s = short_few Q4 s
-few_for Q5 s = short_few Q5 s
-few_for Q6 s = short_few Q6 s
-few_for Q7 s = short_few Q7 s
-few_for Q8 s = short_few Q8 s
-few_for Q9 s = short_few Q9 s
-few_for Q10 s = short_few Q10 s
-few_for Q11 s = short_few Q11 s
-few_for Q12 s = short_few Q12 s
 few_for Q13 s = record {
   few = λ net earlier v p h few. signals_few net earlier p (signal_trees net earlier v p h) few;
 }
@@ -83,6 +64,7 @@ few_for Q14 s = record {
 few_for Q15 s = record {
   few = λ net earlier v p h few. one_few MAX_BUDGET net p (strongly_tree net earlier v p h) few;
 }
+few_for q s = short_few q s
 
 -- ---- all answers
 

@@ -87,16 +87,9 @@ abbrev pub TakesNarrow : Field → List ℤ → Type 0
 TakesNarrow field zs = Takes field zs × AreNarrow field zs
 
 field_both : (field : Field) (zs : List ℤ) → IsSolid field → Takes field zs → TakesNarrow field zs
-field_both (Small count least greatest) zs s t = (t, tt)
-field_both (Several fewest most least greatest) zs s t = (t, tt)
 field_both (Free count) zs s t = absurd s
 field_both (FreeSeveral fewest most) zs s t = absurd s
-field_both (Rising count greatest) zs s t = (t, tt)
-field_both (Members count members) zs s t = (t, tt)
-field_both (CountAndPart greatest) zs s t = (t, tt)
-field_both (TwoOf greatest) zs s t = (t, tt)
-field_both Turn zs s t = (t, tt)
-field_both (ClassWide species reactions) zs s t = (t, tt)
+field_both field zs s t = (t, tt)
 
 solid_both : (fields : List Field) (zs : List ℤ) → AllByRecursion IsSolid fields → AreOf Takes fields zs → AreOf TakesNarrow fields zs
 solid_both [] zs s t = t
@@ -123,38 +116,17 @@ IsFree other = ⊥
 free_takes : (field : Field) (ys zs : List ℤ) → IsFree field → length ys ≡ length zs → Takes field ys → Takes field zs
 free_takes (Free count) ys zs f e t = sym e ∙ t
 free_takes (FreeSeveral fewest most) ys zs f e t = (omega (arith, e, t.0), omega (arith, e, t.1))
-free_takes (Small count least greatest) ys zs f e t = absurd f
-free_takes (Several fewest most least greatest) ys zs f e t = absurd f
-free_takes (Rising count greatest) ys zs f e t = absurd f
-free_takes (Members count members) ys zs f e t = absurd f
-free_takes (CountAndPart greatest) ys zs f e t = absurd f
-free_takes (TwoOf greatest) ys zs f e t = absurd f
-free_takes Turn ys zs f e t = absurd f
-free_takes (ClassWide species reactions) ys zs f e t = absurd f
+free_takes field ys zs f e t = absurd f
 
 free_narrow : (field : Field) (zs : List ℤ) → IsFree field → AllNarrow zs → AreNarrow field zs
 free_narrow (Free count) zs f h = h
 free_narrow (FreeSeveral fewest most) zs f h = h
-free_narrow (Small count least greatest) zs f h = absurd f
-free_narrow (Several fewest most least greatest) zs f h = absurd f
-free_narrow (Rising count greatest) zs f h = absurd f
-free_narrow (Members count members) zs f h = absurd f
-free_narrow (CountAndPart greatest) zs f h = absurd f
-free_narrow (TwoOf greatest) zs f h = absurd f
-free_narrow Turn zs f h = absurd f
-free_narrow (ClassWide species reactions) zs f h = absurd f
+free_narrow field zs f h = absurd f
 
 narrow_free : (field : Field) (zs : List ℤ) → IsFree field → AreNarrow field zs → AllNarrow zs
 narrow_free (Free count) zs f h = h
 narrow_free (FreeSeveral fewest most) zs f h = h
-narrow_free (Small count least greatest) zs f h = absurd f
-narrow_free (Several fewest most least greatest) zs f h = absurd f
-narrow_free (Rising count greatest) zs f h = absurd f
-narrow_free (Members count members) zs f h = absurd f
-narrow_free (CountAndPart greatest) zs f h = absurd f
-narrow_free (TwoOf greatest) zs f h = absurd f
-narrow_free Turn zs f h = absurd f
-narrow_free (ClassWide species reactions) zs f h = absurd f
+narrow_free field zs f h = absurd f
 
 alone_of : (P : Field → List ℤ → Type 0) (field : Field) (zs : List ℤ) → P field zs → AreOf P (field ∷ []) zs
 alone_of P field zs p = (zs, [], sym (append-nil zs), p, refl)
@@ -189,33 +161,18 @@ free_wide field zs held f e t none = (
 
 solid_shape : (s : Shape) → has_free s ≡ false → AllByRecursion IsSolid (fields_of s)
 solid_shape shape.Empty e = tt
-solid_shape (shape.Small count range) e = (tt, tt)
-solid_shape (shape.Walk complexes) e = (tt, tt)
 solid_shape (shape.Free count) e = absurd cc
 solid_shape shape.Vector e = absurd cc
-solid_shape (shape.Members count members) e = (tt, tt)
-solid_shape (shape.CountAndPart greatest) e = (tt, tt)
-solid_shape (shape.TwoOf greatest) e = (tt, tt)
-solid_shape shape.Turn e = (tt, tt)
 solid_shape (shape.ClassAndCount classes complexes) e = (tt, (tt, tt))
 solid_shape (shape.Side reaction complexes) e = (tt, (tt, tt))
 solid_shape (shape.Wide system columns coordinates) e = (tt, (tt, (tt, (tt, tt))))
 solid_shape (shape.ClassWide species reactions) e = (tt, (tt, tt))
+solid_shape s e = (tt, tt)
 
 free_shape : (s : Shape) → has_free s ≡ true → (field : Field) × (fields_of s ≡ field ∷ []) × IsFree field
-free_shape shape.Empty e = absurd cc
-free_shape (shape.Small count range) e = absurd cc
-free_shape (shape.Walk complexes) e = absurd cc
 free_shape (shape.Free count) e = (Free count, refl, tt)
 free_shape shape.Vector e = (FreeSeveral 1 MAX_NUMBERS, refl, tt)
-free_shape (shape.Members count members) e = absurd cc
-free_shape (shape.CountAndPart greatest) e = absurd cc
-free_shape (shape.TwoOf greatest) e = absurd cc
-free_shape shape.Turn e = absurd cc
-free_shape (shape.ClassAndCount classes complexes) e = absurd cc
-free_shape (shape.Side reaction complexes) e = absurd cc
-free_shape (shape.Wide system columns coordinates) e = absurd cc
-free_shape (shape.ClassWide species reactions) e = absurd cc
+free_shape s e = absurd cc
 
 pub judged_misfit : (s : Shape) (zs held : List ℤ) → HasBounds s → held ≡ map capped zs → (AreOf Takes (fields_of s) held → ⊥) → AreOf Takes (fields_of s) zs → ⊥
 judged_misfit s zs held b e none t = elim (cases_Bool (has_free s)) [

@@ -80,39 +80,13 @@ ordinary_in v (f ∷ forms) form e (inr later) = ordinary_in v forms form (and_c
 
 heads_ordinary_1 : (q : Question) (z : Sizes) → all_ordinary 1 (heads q z) ≡ true
 unfolding all_ordinary is_ordinary
-heads_ordinary_1 Q1 z = refl
-heads_ordinary_1 Q2 z = refl
-heads_ordinary_1 Q3 z = refl
-heads_ordinary_1 Q4 z = refl
-heads_ordinary_1 Q5 z = refl
-heads_ordinary_1 Q6 z = refl
-heads_ordinary_1 Q7 z = refl
-heads_ordinary_1 Q8 z = refl
-heads_ordinary_1 Q9 z = refl
-heads_ordinary_1 Q10 z = refl
-heads_ordinary_1 Q11 z = refl
-heads_ordinary_1 Q12 z = refl
 heads_ordinary_1 Q13 z = elim z.vector as (λ t. all_ordinary 1 (heads Q13 (record z { vector = t })) ≡ true) [ true ↦ refl | false ↦ refl ]
-heads_ordinary_1 Q14 z = refl
-heads_ordinary_1 Q15 z = refl
+heads_ordinary_1 q z = refl
 
 heads_ordinary_2 : (q : Question) (z : Sizes) → all_ordinary 2 (heads q z) ≡ true
 unfolding all_ordinary is_ordinary
-heads_ordinary_2 Q1 z = refl
-heads_ordinary_2 Q2 z = refl
-heads_ordinary_2 Q3 z = refl
-heads_ordinary_2 Q4 z = refl
-heads_ordinary_2 Q5 z = refl
-heads_ordinary_2 Q6 z = refl
-heads_ordinary_2 Q7 z = refl
-heads_ordinary_2 Q8 z = refl
-heads_ordinary_2 Q9 z = refl
-heads_ordinary_2 Q10 z = refl
-heads_ordinary_2 Q11 z = refl
-heads_ordinary_2 Q12 z = refl
 heads_ordinary_2 Q13 z = elim z.vector as (λ t. all_ordinary 2 (heads Q13 (record z { vector = t })) ≡ true) [ true ↦ refl | false ↦ refl ]
-heads_ordinary_2 Q14 z = refl
-heads_ordinary_2 Q15 z = refl
+heads_ordinary_2 q z = refl
 
 -- the words of rows
 rows_ordinary : ℕ → List (List ℕ) → Bool
@@ -187,33 +161,13 @@ due_may_be e x form i = may_be e.due e.version e.after_tree (sizes_of e.sizes) x
 -- ---- how many forms
 
 heads_few : (q : Question) (z : Sizes) → length (heads q z) ≤ 7
-heads_few Q1 z = lit≤ tt
-heads_few Q2 z = lit≤ tt
-heads_few Q3 z = lit≤ tt
-heads_few Q4 z = lit≤ tt
-heads_few Q5 z = lit≤ tt
-heads_few Q6 z = lit≤ tt
-heads_few Q7 z = lit≤ tt
-heads_few Q8 z = lit≤ tt
-heads_few Q9 z = lit≤ tt
-heads_few Q10 z = lit≤ tt
-heads_few Q11 z = lit≤ tt
-heads_few Q12 z = lit≤ tt
 heads_few Q13 z = elim z.vector as (λ t. length (heads Q13 (record z { vector = t })) ≤ 7) [ true ↦ lit≤ tt | false ↦ lit≤ tt ]
-heads_few Q14 z = lit≤ tt
-heads_few Q15 z = lit≤ tt
+heads_few q z = lit≤ tt
 
 due_few : (d : Due) (v : ℕ) (z : Sizes) → length (due_forms d v z) ≤ 7
 due_few (due.Head k) v z = heads_few (question_of k) z
-due_few (due.Base count members) v z = lit≤ tt
-due_few (due.Side reaction) v z = lit≤ tt
-due_few due.Walk v z = lit≤ tt
-due_few (due.Part word count least greatest) v z = lit≤ tt
 due_few (due.Node a b s) v z = elim (cases_Bool (v == 2)) [ inl two ↦ rw two (lit≤ tt) | inr one ↦ rw one (lit≤ tt) ]
-due_few due.Finish v z = lit≤ tt
-due_few due.Table v z = lit≤ tt
-due_few due.Vector v z = lit≤ tt
-due_few (due.Section k) v z = lit≤ tt
+due_few d v z = lit≤ tt
 
 pub forms_few : (e : Expect) → length (forms_of e) ≤ 7
 forms_few e = due_few e.due e.version (sizes_of e.sizes)
@@ -279,16 +233,8 @@ same_kept a b l s = ap₂ (λ (xs : List ℤ) (n : ℕ). kept xs n) l s
 
 -- what is no node
 pub no_node : (d : Due) → ((a b s : ℕ) → d ≡ due.Node a b s → ⊥) → (misplaced d ≡ WrongOrder) × ((b : Bool) → is_after d b ≡ b)
-no_node (due.Head k) none = (refl, λ b. refl)
-no_node (due.Base count members) none = (refl, λ b. refl)
-no_node (due.Side reaction) none = (refl, λ b. refl)
-no_node due.Walk none = (refl, λ b. refl)
-no_node (due.Part word count least greatest) none = (refl, λ b. refl)
 no_node (due.Node a b s) none = absurd (none a b s refl)
-no_node due.Finish none = (refl, λ b. refl)
-no_node due.Table none = (refl, λ b. refl)
-no_node due.Vector none = (refl, λ b. refl)
-no_node (due.Section k) none = (refl, λ b. refl)
+no_node d none = (refl, λ b. refl)
 
 pub refused_kept : (e : Expect) (line : List ℕ) (code : ℕ) (old new : KeptInts) → IsRefusedBy e line code → old.list ≡ [] → new.list ≡ [] → new.spare + length new.list ≡ old.spare → IsRefusedBy e line code × (new ≡ old)
 refused_kept e line code old new r a b s = (r, same_kept new old (b ∙ sym a) (let none : length new.list ≡ 0 = ap length b in omega (arith, none, s)))

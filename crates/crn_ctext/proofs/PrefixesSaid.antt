@@ -38,18 +38,7 @@ plain : (q : Question) (known : Known) (h : Record) (rows nodes : List Record) �
 plain q known h rows nodes none = without (verdict_of q (sizes_of known) h) rows nodes none
 
 pub prefix_says : (Leaf : Problem → List Sign → Record → Type 0) (q : Question) → SaysAlone Leaf q
-prefix_says Leaf Q1 = plain Q1
-prefix_says Leaf Q2 = plain Q2
-prefix_says Leaf Q3 = plain Q3
-prefix_says Leaf Q4 = plain Q4
-prefix_says Leaf Q5 = plain Q5
-prefix_says Leaf Q6 = plain Q6
-prefix_says Leaf Q7 = plain Q7
-prefix_says Leaf Q8 = plain Q8
-prefix_says Leaf Q9 = plain Q9
-prefix_says Leaf Q10 = plain Q10
-prefix_says Leaf Q11 = plain Q11
-prefix_says Leaf Q12 = plain Q12
 prefix_says Leaf Q13 = λ known h rows nodes t. signal_says Leaf known (place_of (heads Q13 (sizes_of known)) h.words) h.numbers rows nodes t
 prefix_says Leaf Q14 = λ known h rows nodes t. concordant_says Leaf known (place_of (heads Q14 (sizes_of known)) h.words) h.numbers rows nodes t
 prefix_says Leaf Q15 = λ known h rows nodes t. strongly_says Leaf known (place_of (heads Q15 (sizes_of known)) h.words) h.numbers rows nodes t
+prefix_says Leaf q = plain q

@@ -48,20 +48,7 @@ head_typed q z r (form, i, f) = from_kinds q z 1 (kinds q) form r i f
 
 has_way : (f : Field) → IsIn (way_of (ways f)) (ways f)
 has_way (One least greatest) = inl refl
-has_way (CountAndPart greatest) = inl refl
-has_way (TwoOf greatest) = inl refl
-has_way (Several count least greatest) = inl refl
-has_way (OneAnd count least greatest) = inl refl
-has_way (Walk greatest) = inl refl
-has_way (Members count members) = inl refl
-has_way Free = inl refl
-has_way (FreeSeveral count) = inl refl
-has_way Turn = inl refl
-has_way (Shelves count) = inl refl
-has_way (Side reaction count) = inl refl
-has_way (Wide s columns rows) = inl refl
-has_way (WideOf s columns rows may t more_columns more_rows) = inl refl
-has_way (ClassWide s columns classes rows) = inl refl
+has_way f = inl refl
 
 pub rows_typed : (due : List Row) (rs : List Record) → AllZip records.Fits (map row_form due) rs → (ds : List Datum) × AllZip FitsRow due ds × (rs ≡ row_records due ds)
 rows_typed [] [] f = ([], tt, refl)

@@ -19,29 +19,13 @@ use Rattle.crn_ctext.proofs.WrittenBlocks.{prefix_plain}
 
 -- without sides the records of a proof are the same, whatever the pairs
 same_rows : (s other : Shapes) (p : Proof) → HoldsNoSides p → proof_records s p ≡ proof_records other p
-same_rows s other proof.Nothing h = refl
-same_rows s other (proof.Forest up depth) h = refl
-same_rows s other (proof.Strong from from_depth to to_depth level) h = refl
-same_rows s other (proof.Back back) h = refl
-same_rows s other (proof.Rank p) h = refl
-same_rows s other (proof.Ranks ps) h = refl
 same_rows s other (proof.Sides rows) h = absurd h
-same_rows s other (proof.Ties rows) h = refl
-same_rows s other (proof.One tree) h = refl
-same_rows s other (proof.Two tree second) h = refl
+same_rows s other p h = refl
 
 -- so they are with the same pairs
 rows_by_pairs : (s other : Shapes) (p : Proof) → s.pair_reactions ≡ other.pair_reactions → proof_records s p ≡ proof_records other p
-rows_by_pairs s other proof.Nothing e = refl
-rows_by_pairs s other (proof.Forest up depth) e = refl
-rows_by_pairs s other (proof.Strong from from_depth to to_depth level) e = refl
-rows_by_pairs s other (proof.Back back) e = refl
-rows_by_pairs s other (proof.Rank p) e = refl
-rows_by_pairs s other (proof.Ranks ps) e = refl
 rows_by_pairs s other (proof.Sides rows) e = ap (λ (pairs : List ℕ). side_records pairs rows) e
-rows_by_pairs s other (proof.Ties rows) e = refl
-rows_by_pairs s other (proof.One tree) e = refl
-rows_by_pairs s other (proof.Two tree second) e = refl
+rows_by_pairs s other p e = refl
 
 same_records : (q : Question) (s other : Shapes) (a : Answer) → proof_records s a.proof ≡ proof_records other a.proof → records q s a ≡ records q other a
 same_records q s other a e = ap (λ (rs : List Record). head_of q a.verdict ∷ (verdict_records a.verdict ++ rs ++ later_records a.verdict) ++ proof_nodes a.proof) e
@@ -100,16 +84,9 @@ record IsPlainFor (q : Question) : Type 0 where
 
 -- a proof without trees has no cuts
 no_cuts : (p : Proof) → IsTreeless p → cuts_in p ≡ []
-no_cuts proof.Nothing h = refl
-no_cuts (proof.Forest up depth) h = refl
-no_cuts (proof.Strong from from_depth to to_depth level) h = refl
-no_cuts (proof.Back back) h = refl
-no_cuts (proof.Rank p) h = refl
-no_cuts (proof.Ranks ps) h = refl
-no_cuts (proof.Sides rows) h = refl
-no_cuts (proof.Ties rows) h = refl
 no_cuts (proof.One tree) h = absurd h
 no_cuts (proof.Two tree second) h = absurd h
+no_cuts p h = refl
 
 short_plain : (q : Question) → IsShortQuestion q → IsPlainFor q
 short_plain q s = record {
@@ -132,21 +109,10 @@ strongly_plain = record {
 }
 
 plain_for : (q : Question) → ShortFor q → IsPlainFor q
-plain_for Q1 s = short_plain Q1 s
-plain_for Q2 s = short_plain Q2 s
-plain_for Q3 s = short_plain Q3 s
-plain_for Q4 s = short_plain Q4 s
-plain_for Q5 s = short_plain Q5 s
-plain_for Q6 s = short_plain Q6 s
-plain_for Q7 s = short_plain Q7 s
-plain_for Q8 s = short_plain Q8 s
-plain_for Q9 s = short_plain Q9 s
-plain_for Q10 s = short_plain Q10 s
-plain_for Q11 s = short_plain Q11 s
-plain_for Q12 s = short_plain Q12 s
 plain_for Q13 s = signal_plain
 plain_for Q14 s = concordant_plain
 plain_for Q15 s = strongly_plain
+plain_for q s = short_plain q s
 
 cuts_by : (net : Net) (earlier : Earlier) (qs : List Question) (xs : List Answer) → IsNetwork net → AllByRecursion ShortFor qs → AreFormed net earlier qs xs → AllByRecursion (IsShareable MAX_NUMBERS) (all_cuts xs)
 cuts_by net earlier [] [] n s h = tt
@@ -301,16 +267,9 @@ tree_cuts (RulesB u) = refl
 tree_cuts Level = refl
 
 proof_cuts : (p : Proof) → cut_lists (proof_nodes p) ≡ cuts_in p
-proof_cuts proof.Nothing = refl
-proof_cuts (proof.Forest up depth) = refl
-proof_cuts (proof.Strong from from_depth to to_depth level) = refl
-proof_cuts (proof.Back back) = refl
-proof_cuts (proof.Rank p) = refl
-proof_cuts (proof.Ranks ps) = refl
-proof_cuts (proof.Sides rows) = refl
-proof_cuts (proof.Ties rows) = refl
 proof_cuts (proof.One tree) = tree_cuts tree
 proof_cuts (proof.Two tree second) = cuts_append (nodes tree) (nodes second) ∙ ap (λ (t : List (List ℤ)). t ++ cut_lists (nodes second)) (tree_cuts tree) ∙ ap (λ (t : List (List ℤ)). cuts_of tree ++ t) (tree_cuts second)
+proof_cuts p = refl
 
 answer_cuts : (q : Question) (s : Shapes) (a : Answer) → cut_lists (records q s a) ≡ cuts_in a.proof
 answer_cuts q s a =

@@ -10,20 +10,7 @@ use Rattle.crn_ctext.proofs.WrittenLeaves.{IsPlain, leaves_append, written_lines
 
 plain_with : (q : Question) (words : List (List ℕ)) (numbers : List ℤ) → IsPlain (head_with q words numbers)
 plain_with Q1 words numbers = refl
-plain_with Q2 words numbers = refl
-plain_with Q3 words numbers = refl
-plain_with Q4 words numbers = refl
-plain_with Q5 words numbers = refl
-plain_with Q6 words numbers = refl
-plain_with Q7 words numbers = refl
-plain_with Q8 words numbers = refl
-plain_with Q9 words numbers = refl
-plain_with Q10 words numbers = refl
-plain_with Q11 words numbers = refl
-plain_with Q12 words numbers = refl
-plain_with Q13 words numbers = refl
-plain_with Q14 words numbers = refl
-plain_with Q15 words numbers = refl
+plain_with q words numbers = refl
 
 plain_head : (q : Question) (v : Verdict) → IsPlain (head_of q v)
 plain_head q v = rw (head_is q v) (plain_with q (head_words v) (head_numbers v))
@@ -31,52 +18,17 @@ plain_head q v = rw (head_is q v) (plain_with q (head_words v) (head_numbers v))
 plain_verdict : (v : Verdict) → AllByRecursion IsPlain (verdict_records v)
 plain_verdict (Classes count label) = (refl, tt)
 plain_verdict (Strong count terminal label exit) = (refl, tt)
-plain_verdict (Rank rank base) = tt
-plain_verdict (Deficiency total classes) = tt
-plain_verdict (Yes) = tt
-plain_verdict (YesWeak weak) = tt
 plain_verdict (YesVec vector) = (refl, tt)
 plain_verdict (YesSignal turn shelves mu m weights) = (refl, (refl, (refl, (refl, tt))))
-plain_verdict (No) = tt
-plain_verdict (NoReaction reaction) = tt
 plain_verdict (NoVec multipliers) = (refl, tt)
-plain_verdict (NoNumber number) = tt
-plain_verdict (NoTerminal class count) = tt
-plain_verdict (NoClass class number) = tt
-plain_verdict (NoSum total) = tt
-plain_verdict (NoDependence) = tt
 plain_verdict (NoCycle reaction walk) = (refl, tt)
 plain_verdict (NoPair alpha weights) = (refl, (refl, tt))
-plain_verdict (NotRegular) = tt
-plain_verdict (OnlyZero) = tt
 plain_verdict (Plane first second one two) = (refl, (refl, tt))
-plain_verdict (NotApplicable) = tt
-plain_verdict (Unknown gap) = tt
+plain_verdict v = tt
 
 plain_later : (v : Verdict) → AllByRecursion IsPlain (later_records v)
-plain_later (Classes count label) = tt
 plain_later (Strong count terminal label exit) = (refl, tt)
-plain_later (Rank rank base) = tt
-plain_later (Deficiency total classes) = tt
-plain_later (Yes) = tt
-plain_later (YesWeak weak) = tt
-plain_later (YesVec vector) = tt
-plain_later (YesSignal turn shelves mu m weights) = tt
-plain_later (No) = tt
-plain_later (NoReaction reaction) = tt
-plain_later (NoVec multipliers) = tt
-plain_later (NoNumber number) = tt
-plain_later (NoTerminal class count) = tt
-plain_later (NoClass class number) = tt
-plain_later (NoSum total) = tt
-plain_later (NoDependence) = tt
-plain_later (NoCycle reaction walk) = tt
-plain_later (NoPair alpha weights) = tt
-plain_later (NotRegular) = tt
-plain_later (OnlyZero) = tt
-plain_later (Plane first second one two) = tt
-plain_later (NotApplicable) = tt
-plain_later (Unknown gap) = tt
+plain_later v = tt
 
 all_both : (xs ys : List Record) → AllByRecursion IsPlain xs → AllByRecursion IsPlain ys → AllByRecursion IsPlain (xs ++ ys)
 all_both [] ys h k = k
@@ -115,20 +67,12 @@ plain_proof s (proof.Two tree other) = tt
 plain_headings : (sections : Bool) (q : Question) → AllByRecursion IsPlain (headings sections q)
 plain_headings false q = tt
 plain_headings true Q1 = (refl, tt)
-plain_headings true Q2 = tt
-plain_headings true Q3 = tt
-plain_headings true Q4 = tt
 plain_headings true Q5 = (refl, tt)
-plain_headings true Q6 = tt
 plain_headings true Q7 = (refl, tt)
-plain_headings true Q8 = tt
 plain_headings true Q9 = (refl, tt)
-plain_headings true Q10 = tt
 plain_headings true Q11 = (refl, tt)
-plain_headings true Q12 = tt
-plain_headings true Q13 = tt
 plain_headings true Q14 = (refl, tt)
-plain_headings true Q15 = tt
+plain_headings true q = tt
 
 -- ---- one answer
 
