@@ -1,5 +1,5 @@
 -- Each text spells a network or has a first fault.
-use Rattle.crn_text.proofs.Prelude.{◌≡◌, ℕ, zero, suc, ◌+◌, ◌<◌, ◌≤◌, false, List, [], ◌∷◌, ◌++◌, Option, Some, None, length, take, get_or, refl, sym, ap, subst, ◌∙◌, append_assoc, add-one, inl, inr, arith, nat_lt, AllByRecursion, cases_Bool, cases_lt, ltb-false, append-nil, take_more, Net, Statement, MAX_SPECIES, MAX_COMPLEXES, MAX_REACTIONS, MAX_TEXT, flat_map_push, option_or, Grown, IsSelf, no_net, names_with, complexes_with, reactions_with, Grown-none, Grown-more, Grown-network, IsSaid, may_grow, lines, line_statements, all_statements, is_self, names_of, complexes_of, reactions_of, statement_fault, statements_fault, own_fault, line_fault, or_else, Spells, Fault, fault_on, AreFaultless, TextCode, TextTooLong, NoReaction}
+use Rattle.crn_text.proofs.Prelude.{◌≡◌, ℕ, zero, suc, ◌+◌, ◌<◌, ◌≤◌, Bool, true, false, if◌then◌else◌, List, [], ◌∷◌, ◌++◌, Option, Some, None, length, take, get_or, refl, sym, ap, subst, ◌∙◌, append_assoc, add-one, inl, inr, arith, nat_lt, AllByRecursion, cases_lt, ltb-false, append-nil, take_more, Net, Statement, MAX_SPECIES, MAX_COMPLEXES, MAX_REACTIONS, MAX_TEXT, flat_map_push, option_or, Grown, IsSelf, no_net, names_with, complexes_with, reactions_with, Grown-none, Grown-more, Grown-network, IsSaid, may_grow, lines, line_statements, all_statements, is_self, names_of, complexes_of, reactions_of, statement_fault, statements_fault, own_fault, line_fault, or_else, Spells, Fault, fault_on, AreFaultless, TextCode, TextTooLong, NoReaction}
 use Rattle.std.proofs.Common.{◌⊎◌}
 use Rattle.std.proofs.lemmas.List.{take_all}
 use Rattle.crn_text.proofs.LinesRead.{none_own, text_ok, text_without}
@@ -15,23 +15,20 @@ record IsWithin (before : List Statement) (s : Statement) : Type 0 where
   complexes : length (complexes_of (before ++ s ∷ [])) ≤ MAX_COMPLEXES
   reactions : length (reactions_of (before ++ s ∷ [])) ≤ MAX_REACTIONS
 
+-- tests that come to no fault: none of them fails
+none_fails : (a b c d : Bool) (x y z w : TextCode) → (if a then Some x else (if b then Some y else (if c then Some z else (if d then Some w else None)))) ≡ None → (a ≡ false) × (b ≡ false) × (c ≡ false) × (d ≡ false)
+none_fails true b c d x y z w h = absurd cc
+none_fails false true c d x y z w h = absurd cc
+none_fails false false true d x y z w h = absurd cc
+none_fails false false false true x y z w h = absurd cc
+none_fails false false false false x y z w h = (refl, refl, refl, refl)
+
 within : (before : List Statement) (s : Statement) → statement_fault before s ≡ None → IsWithin before s
 unfolding statement_fault
 within before s f =
     let all : List Statement = before ++ s ∷ [] in
-    elim (cases_Bool (is_self s)) [
-      | inl y ↦ absurd (let e = rw y at f in cc)
-      | inr a ↦ elim (cases_Bool (nat_lt MAX_SPECIES (length (names_of (before ++ s ∷ []))))) [
-        | inl y ↦ absurd (let e = rw (a, y) at f in cc)
-        | inr b ↦ elim (cases_Bool (nat_lt MAX_COMPLEXES (length (complexes_of (before ++ s ∷ []))))) [
-          | inl y ↦ absurd (let e = rw (a, b, y) at f in cc)
-          | inr c ↦ elim (cases_Bool (nat_lt MAX_REACTIONS (length (reactions_of (before ++ s ∷ []))))) [
-            | inl y ↦ absurd (let e = rw (a, b, c, y) at f in cc)
-            | inr d ↦ record { apart = a; species = ltb-false _ _ b; complexes = ltb-false _ _ c; reactions = ltb-false _ _ d }
-          ]
-        ]
-      ]
-    ]
+    let fine = none_fails (is_self s) (nat_lt MAX_SPECIES (length (names_of all))) (nat_lt MAX_COMPLEXES (length (complexes_of all))) (nat_lt MAX_REACTIONS (length (reactions_of all))) _ _ _ _ f in
+    record { apart = fine.0; species = ltb-false _ _ fine.1; complexes = ltb-false _ _ fine.2; reactions = ltb-false _ _ fine.3 }
 
 -- a network that these statements make
 abbrev Made : List Statement → Type 0
