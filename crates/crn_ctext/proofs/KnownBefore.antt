@@ -1,5 +1,5 @@
 -- The strong classes are known after question 2, and so are the linked pairs within terminal classes.
-use Rattle.crn_ctext.proofs.Prelude.{◌≡◌, ◌==◌, ◌++◌, ℕ, Bool, true, false, if◌then◌else◌, List, [], ◌∷◌, length, refl, sym, ap, subst, inl, inr, slice_index, AllByRecursion, filter, range_with_len, cases_Bool, Net, Wide, Budget, Verdict, Unknown, Proof, Earlier, Question, Q2, number, on, labels_of, exits_of, IsFormedOf, IsTrueOf, IsTrueOrOpen, of_class, ends_at, is_least_of_pair, IsValid, tight, strong_law, is_true_tight, Known, pairs_of}
+use Rattle.crn_ctext.proofs.Prelude.{◌≡◌, ◌==◌, ◌++◌, ℕ, Bool, true, false, if◌then◌else◌, List, [], ◌∷◌, length, refl, sym, ap, subst, inl, inr, slice_index, AllByRecursion, filter, range_with_len, cases_Bool, Net, Wide, Budget, Verdict, Unknown, Proof, Earlier, Question, Q2, number, on, labels_of, exits_of, HeadMayBe, IsFormedOf, IsTrueOf, IsTrueOrOpen, of_class, ends_at, is_least_of_pair, IsValid, tight, strong_law, is_true_tight, Known, pairs_of}
 use Rattle.std.specs.Prelude.{◌||◌, ◌&&◌}
 use Rattle.crn_cert.specs.declared.answer.Gap.TheVariants.{Rests}
 use Rattle.crn_cert.specs.declared.answer.Verdict.TheVariants.{Strong}
@@ -33,12 +33,15 @@ IsRight q v = Unit {0}
 
 -- ---- verdicts of formed answers
 
+head_right : (net : Net) (earlier : Earlier) (v : Verdict) → HeadMayBe net earlier Q2 v → IsStrong v
+head_right net earlier (Strong count terminal label exit) h = tt
+head_right net earlier (Unknown (Wide system class index basis)) h = absurd h
+head_right net earlier (Unknown (Budget nodes)) h = absurd h
+head_right net earlier (Unknown (Rests question)) h = absurd h
+head_right net earlier v h = absurd h
+
 pub formed_right : (net : Net) (earlier : Earlier) (q : Question) (v : Verdict) (p : Proof) → IsFormedOf net earlier q v p → IsRight q v
-formed_right net earlier Q2 (Strong count terminal label exit) p f = tt
-formed_right net earlier Q2 (Unknown (Wide system class index basis)) p f = absurd f.0.head
-formed_right net earlier Q2 (Unknown (Budget nodes)) p f = absurd f.0.head
-formed_right net earlier Q2 (Unknown (Rests question)) p f = absurd f.0.head
-formed_right net earlier Q2 v p f = absurd f.0.head
+formed_right net earlier Q2 v p f = head_right net earlier v f.0.head
 formed_right net earlier q v p f = tt
 
 pub strong_tight : (v : Verdict) → IsStrong v → IsStrong (tight v)

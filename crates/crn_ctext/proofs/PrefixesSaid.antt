@@ -1,5 +1,5 @@
 -- The verdict that a block says depends on no node of its trees.
-use Rattle.crn_ctext.proofs.Prelude.{◌≡◌, ◌++◌, ◌∙◌, ℕ, zero, suc, List, [], refl, ap, ℤ, append-nil, Sign, Verdict, Question, Q1, Q2, Q3, Q4, Q5, Q6, Q7, Q8, Q9, Q10, Q11, Q12, Q13, Q14, Q15, Record, heads, kind_at, Problem, place_of, AreTrees, Known, lists, sizes_of, verdict_by, verdict_of, problems_by, meaning}
+use Rattle.crn_ctext.proofs.Prelude.{◌≡◌, ◌++◌, ◌∙◌, ℕ, zero, suc, List, [], refl, ap, ℤ, append-nil, Sign, Verdict, Question, Q13, Q14, Q15, Record, heads, kind_at, Problem, place_of, AreTrees, Known, lists, sizes_of, verdict_by, verdict_of, problems_by, meaning}
 
 -- trees of these leaves
 abbrev pub Trees : (Problem → List Sign → Record → Type 0) → List {1} Problem → List Record → Type 0
@@ -31,14 +31,15 @@ strongly_says Leaf known zero n rows nodes h = refl
 strongly_says Leaf known (suc zero) n rows nodes h = refl
 strongly_says Leaf known (suc (suc k)) n rows nodes h = without (said_at Q15 (suc (suc k)) n) rows nodes h
 
+-- whatever the form of its head
+says_at : (Leaf : Problem → List Sign → Record → Type 0) (q : Question) → SaysAt Leaf q
+says_at Leaf Q13 = signal_says Leaf
+says_at Leaf Q14 = concordant_says Leaf
+says_at Leaf Q15 = strongly_says Leaf
+says_at Leaf q = λ known place n rows nodes h. without (said_at q place n) rows nodes h
+
 abbrev SaysAlone : (Problem → List Sign → Record → Type 0) → Question → Type 0
 SaysAlone Leaf q = (known : Known) (h : Record) (rows nodes : List Record) → Trees Leaf (meaning.problems q known h) nodes → verdict_of q (sizes_of known) h (rows ++ nodes) ≡ verdict_of q (sizes_of known) h rows
 
-plain : (q : Question) (known : Known) (h : Record) (rows nodes : List Record) → nodes ≡ [] → verdict_of q (sizes_of known) h (rows ++ nodes) ≡ verdict_of q (sizes_of known) h rows
-plain q known h rows nodes none = without (verdict_of q (sizes_of known) h) rows nodes none
-
 pub prefix_says : (Leaf : Problem → List Sign → Record → Type 0) (q : Question) → SaysAlone Leaf q
-prefix_says Leaf Q13 = λ known h rows nodes t. signal_says Leaf known (place_of (heads Q13 (sizes_of known)) h.words) h.numbers rows nodes t
-prefix_says Leaf Q14 = λ known h rows nodes t. concordant_says Leaf known (place_of (heads Q14 (sizes_of known)) h.words) h.numbers rows nodes t
-prefix_says Leaf Q15 = λ known h rows nodes t. strongly_says Leaf known (place_of (heads Q15 (sizes_of known)) h.words) h.numbers rows nodes t
-prefix_says Leaf q = plain q
+prefix_says Leaf q = λ known h rows nodes t. says_at Leaf q known (place_of (heads q (sizes_of known)) h.words) h.numbers rows nodes t
