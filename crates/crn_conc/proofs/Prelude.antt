@@ -16,7 +16,7 @@ pub use Rattle.crn_cert.specs.declared.answer.Gap.TheVariants.{Wide}
 pub use Rattle.crn_cert.specs.declared.answer.Verdict.TheVariants.{Unknown}
 pub use Rattle.crn_conc.specs.Answers.{AnswersTable, IsTableAnswer}
 pub use Rattle.crn_conc.specs.Inner.Answers.{IsNameOf, IsNamed, IsStopAnswer, end_answer}
-pub use Rattle.crn_conc.specs.Inner.Columns.{AreMade, AreSettled, AreSignsOf, AreSums, IsAskedOf, IsChosen, IsExtended, signs_at}
+pub use Rattle.crn_conc.specs.Inner.Columns.{AreMade, AreSettled, AreSettledBelow, AreSignsOf, AreSums, IsAskedOf, IsChosen, IsExtended, settled_below, signs_at}
 pub use Rattle.crn_conc.specs.Inner.Rows.{AreWide, IsLast}
 pub use Rattle.crn_conc.specs.declared.answer.Searched.{Searched}
 pub use Rattle.crn_conc.specs.declared.answer.WideName.{WideName}
@@ -51,9 +51,9 @@ pub use Rattle.crn_vec.specs.declared.signs.Kind.{Kind}
 pub use Rattle.crn_vec.specs.declared.signs.Kind.TheVariants.{Free, Zero as ZeroKind}
 pub use Rattle.crn_vec.specs.declared.signs.Sign.{Sign}
 pub use Rattle.crn_vec.specs.declared.signs.Sign.TheVariants.{Minus, Plus, Zero}
-pub use Rattle.std.proofs.Common.{Bool, List, [], ap, ap₂, arith, drop, false, get_or, inl, inr, length, length-take-le, map, max, of_z, refl, replicate, set, subst, suc, sym, take, to_z, true, zero, ℕ, ◌%◌, ◌&&◌, ◌*◌, ◌++◌, ◌+◌, ◌-◌, ◌/◌, ◌<◌, ◌==◌, ◌∙◌, ◌∷◌, ◌≡◌, ◌≢◌, ◌≤◌, ◌⊎◌}
+pub use Rattle.std.proofs.Common.{Bool, List, [], add-one, ap, ap₂, arith, drop, false, get_or, inl, inr, length, length-take-le, map, max, of_z, refl, replicate, set, subst, suc, sym, take, to_z, true, zero, ℕ, ◌%◌, ◌&&◌, ◌*◌, ◌++◌, ◌+◌, ◌-◌, ◌/◌, ◌<◌, ◌==◌, ◌∙◌, ◌∷◌, ◌≡◌, ◌≢◌, ◌≤◌, ◌⊎◌}
 pub use Rattle.std.proofs.lemmas.Bool.{eq-eqb, false≢true, ne_eqb}
-pub use Rattle.std.proofs.lemmas.List.{append_assoc, get_or-append_right, get_or-set_other, get_or-set_same, get_or_append_left, get_or_past, length-append, length-map, length-replicate, length-set, take_all, take_more}
+pub use Rattle.std.proofs.lemmas.List.{append_assoc, get_or-append_right, get_or-replicate, get_or-set_other, get_or-set_same, get_or_append_left, get_or_past, length-append, length-map, length-replicate, length-set, take_all, take_more}
 pub use Rattle.std.proofs.lemmas.List.FromFn.{get_or-range_with_len, length-range_with_len}
 pub use Rattle.std.proofs.lemmas.Nat.Bits.{bit_at-zero, bit_at_or, bit_at_xor}
 pub use Rattle.std.specs.Int.{bit_at, w128}

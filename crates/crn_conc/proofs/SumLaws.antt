@@ -1,5 +1,5 @@
 -- What a prefix requires of part A of a table's problem, by words that the prefix with one option less gives.
-use Rattle.crn_conc.proofs.Prelude.{◌≡◌, ℕ, zero, suc, ◌+◌, ◌-◌, ◌/◌, ◌%◌, ◌<◌, ◌≤◌, max, inl, inr, List, [], ◌∷◌, ◌++◌, length, get_or, drop, set, Bool, true, false, refl, sym, ap, ap₂, subst, ◌∙◌, arith, if◌then◌else◌, bit_or, bit_xor, bit_at, get_or_append_left, get_or-append_right, get_or_past, get_or-set_same, get_or-set_other, length-append, length-set, bit_at-zero, bit_at_or, bit_at_xor, Sign, Zero, Plus, Minus, Free, ZeroKind, Mat, width, kind_at, one_if, all_zero, column_kind, is_minus, is_plus, kind_of_sum, kinds_a_of, product, products, some_sign, eq_or, lt_or, products_none, column_in_a, row_in_a, Bits, Asked, AskKinds, IsPut, kind_of_bits, minus_at, none, plus_at, sign_at, word_at, word_count, Chosen, AreMade, AreSettled, AreSignsOf, AreSums, IsAskedOf, IsChosen, IsExtended, signs_at}
+use Rattle.crn_conc.proofs.Prelude.{replicate, add-one, get_or-replicate, length-replicate, AreSettledBelow, settled_below, IsLast, ◌≡◌, ℕ, zero, suc, ◌+◌, ◌-◌, ◌/◌, ◌%◌, ◌<◌, ◌≤◌, max, inl, inr, List, [], ◌∷◌, ◌++◌, length, get_or, drop, set, Bool, true, false, refl, sym, ap, ap₂, subst, ◌∙◌, arith, if◌then◌else◌, bit_or, bit_xor, bit_at, get_or_append_left, get_or-append_right, get_or_past, get_or-set_same, get_or-set_other, length-append, length-set, bit_at-zero, bit_at_or, bit_at_xor, Sign, Zero, Plus, Minus, Free, ZeroKind, Mat, width, kind_at, one_if, all_zero, column_kind, is_minus, is_plus, kind_of_sum, kinds_a_of, product, products, some_sign, eq_or, lt_or, products_none, column_in_a, row_in_a, Bits, Asked, AskKinds, IsPut, kind_of_bits, minus_at, none, plus_at, sign_at, word_at, word_count, Chosen, AreMade, AreSettled, AreSignsOf, AreSums, IsAskedOf, IsChosen, IsExtended, signs_at}
 
 -- ---- one option more
 
@@ -205,6 +205,58 @@ filling_step f g old new k asked put p m h = record {
     | inr ne ↦ put.other_minus j ne ∙ h.minus j (omega (arith, lt, ne))
   ];
 }
+
+-- the bits of the coordinates from k on, and below n
+pub record IsLeft (f g : ℕ → Bool) (n : ℕ) (words : List Bits) (k : ℕ) : Type 0 where
+  pub plus : (j : ℕ) → k ≤ j → j < n → plus_at words j ≡ one_if (f j)
+  pub minus : (j : ℕ) → k ≤ j → j < n → minus_at words j ≡ one_if (g j)
+
+pub left_none : (m n : ℕ) (words : List Bits) → words ≡ replicate m none → IsLeft (λ j. false) (λ j. false) n words 0
+left_none m n words e =
+    let long : length words ≡ m = ap (λ (l : List Bits). length l) e ∙ length-replicate m none in
+    let at : (w : ℕ) → word_at words w ≡ none = λ w. elim (lt_or w m) as (λ _. word_at words w ≡ none) [
+      | inl lt ↦ ap (λ (l : List Bits). word_at l w) e ∙ get_or-replicate m w none none lt
+      | inr past ↦ get_or_past words w none (omega (arith, past, long))
+    ] in
+    record {
+      plus = λ j le lt. ap (λ (b : Bits). bit_at b.plus (j % 64)) (at (j / 64)) ∙ bit_at-zero (j % 64);
+      minus = λ j le lt. ap (λ (b : Bits). bit_at b.minus (j % 64)) (at (j / 64)) ∙ bit_at-zero (j % 64);
+    }
+
+pub left_step : (f g : ℕ → Bool) (n : ℕ) (old new : List Bits) (k : ℕ) (asked : Asked) → IsPut old k asked new → IsLeft f g n old k → IsLeft f g n new (k + 1)
+left_step f g n old new k asked put h = record {
+  plus = λ j le lt. put.other_plus j (λ e. omega (arith, le, e)) ∙ h.plus j (omega (arith, le)) lt;
+  minus = λ j le lt. put.other_minus j (λ e. omega (arith, le, e)) ∙ h.minus j (omega (arith, le)) lt;
+}
+
+-- what is required is as before
+pub put_nothing : (words : List Bits) (k : ℕ) (asked : Asked) → plus_at words k ≡ one_if asked.plus → minus_at words k ≡ one_if asked.minus → IsPut words k asked words
+put_nothing words k asked p m = record { count = refl; plus = p; minus = m; other_plus = λ j ne. refl; other_minus = λ j ne. refl }
+
+-- no coordinate is settled after fewer than no choices
+pub none_settled : (a : Mat) (table : List (List Sign)) (words : List Bits) → length words ≡ word_count a → words ≡ replicate (word_count a) none → AreSettledBelow a table 0 words
+none_settled a table words long e =
+    let left = left_none (word_count a) (width a) words e in
+    record { count = long; plus = λ k lt. left.plus k (omega arith) lt; minus = λ k lt. left.minus k (omega arith) lt }
+
+-- what is settled after n choices is settled after fewer than n + 1
+pub settled_next : (a : Mat) (table : List (List Sign)) (n : ℕ) (words : List Bits) → AreSettled a table n words → AreSettledBelow a table (n + 1) words
+settled_next a table n words h = subst (λ (m : ℕ). AreSettledBelow a table m words) (sym (add-one n)) (record { count = h.count; plus = h.plus; minus = h.minus })
+
+-- past all reactions no choice has to be made
+pub last_past : (table : List (List Sign)) (k : ℕ) → length table ≤ k → IsLast (signs_at table k) 0
+last_past table k le = record {
+  after = λ n past. ap (λ (l : List Sign). all_zero (drop n l)) (signs_past table k le) ∙ drop_none n;
+  before = λ n lt. absurd (omega (arith, lt));
+}
+
+-- one choice more settles a coordinate only if its species is the last one with a sign there
+pub settled_apart : (table : List (List Sign)) (k n last : ℕ) → IsLast (signs_at table k) last → (n ≡ last → ⊥) → settled_below table n k ≡ all_zero (drop n (signs_at table k))
+settled_apart table k zero last h ne = sym (h.before 0 (omega (arith, ne)))
+settled_apart table k (suc n) last h ne = elim (lt_or (suc n) last) as (λ _. all_zero (drop n (signs_at table k)) ≡ all_zero (drop (suc n) (signs_at table k))) [
+  | inl lt ↦ h.before n (omega (arith, lt)) ∙ sym (h.before (suc n) lt)
+  | inr le ↦ h.after n (omega (arith, le, ne)) ∙ sym (h.after (suc n) le)
+]
 
 -- what is kept for the numbers of choices before n
 pub record AreSoFar (a : Mat) (table : List (List Sign)) (columns : List Chosen) (n : ℕ) : Type 0 where

@@ -1,8 +1,9 @@
-ghost use Rattle.std.specs.Prelude.{◌≡◌, ◌+◌, ℕ, drop, IfOk};
+ghost use Rattle.std.specs.Prelude.{◌≡◌, ◌+◌, ◌*◌, ◌<◌, ℕ, false, length, IfOk, IsFalse};
 ghost use Rattle.crn_vec.specs.Concordance.{is_minus, is_plus};
-ghost use Rattle.crn_vec.specs.Problems.{all_zero};
-ghost use Rattle.crn_sign.specs.Options.{sign_at};
-ghost use Rattle.crn_conc.specs.Inner.Columns.{AreChosen, AreSettled, AreSignsOf, IsChosen, signs_at};
+ghost use Rattle.crn_vec.specs.Systems.{one_if};
+ghost use Rattle.crn_sign.specs.Options.{IsPut, minus_at, plus_at, sign_at};
+ghost use Rattle.crn_conc.specs.Inner.Columns.{AreChosen, AreSettled, AreSettledBelow, AreSignsOf, signs_at};
+ghost use Rattle.crn_conc.specs.Inner.Rows.{IsLast};
 
 use crate::influence::Influence;
 use crn_sign::{Asked, Bits, FREE, NONE, put_asked, word_count};
@@ -34,17 +35,14 @@ fn last_sign_at(table: &Influence, k: usize, choices: usize) -> Sign
     signs[choices - 1]
 }
 
-// Whether no species after `choices` has a sign for a coordinate.
-fn is_settled(table: &Influence, k: usize, choices: usize) -> bool
-    ensures { result ≡ all_zero (drop choices (signs_at table.now k)) }
+// How many choices settle a coordinate.
+fn settling(table: &Influence, k: usize) -> usize
+    ensures { IsLast (signs_at table.now k) result }
 {
     if k >= table.reactions() {
-        return true;
+        return 0;
     }
-    if choices < table.last(k) {
-        return false;
-    }
-    true
+    table.last(k)
 }
 
 // The bits of a sign.
@@ -65,6 +63,26 @@ fn bits_of_sign(sign: Sign) -> Asked
     }
 }
 
+// Whether anything is required.
+fn asks(asked: Asked) -> bool
+    ensures plus { IsFalse result → asked.plus ≡ false }
+    ensures minus { IsFalse result → asked.minus ≡ false }
+{
+    asked.plus || asked.minus
+}
+
+// Requires this of a coordinate, if that is new.
+fn put_new(words: &mut [Bits], k: usize, is_new: bool, asked: Asked)
+    requires place { k < length words.old * 64 }
+    requires plus { IsFalse is_new → plus_at words.old k ≡ one_if asked.plus }
+    requires minus { IsFalse is_new → minus_at words.old k ≡ one_if asked.minus }
+    ensures { IsPut words.old k asked words.new }
+{
+    if is_new {
+        put_asked(words, k, asked);
+    }
+}
+
 // The signs of the species that is the last of `choices`, for each coordinate.
 fn signs_by(
     alloc: Global,
@@ -78,49 +96,28 @@ fn signs_by(
     let mut words = vec![in alloc; NONE; word_count(matrix)]?;
     let count = matrix.cols() + matrix.rows();
     for k in 0..count {
-        put_asked(&mut words, k, bits_of_sign(last_sign_at(table, k, choices)));
+        let asked = bits_of_sign(last_sign_at(table, k, choices));
+        put_new(&mut words, k, asks(asked), asked);
     }
     Ok(words)
 }
 
-// The coordinates that are settled after `choices`.
-fn settled_by(
-    alloc: Global,
-    matrix: &Matrix,
-    table: &Influence,
-    choices: usize,
-) -> Result<Vec<Bits>, NoMemory>
-    ensures { IfOk result (λ made. AreSettled matrix.now table.now choices made.items) }
+// Adds the coordinates that are settled after `choices` to those that are settled after fewer.
+fn settle(words: &mut [Bits], matrix: &Matrix, table: &Influence, choices: usize)
+    requires { AreSettledBelow matrix.now table.now choices words.old }
+    ensures { AreSettled matrix.now table.now choices words.new }
 {
-    let mut words = vec![in alloc; NONE; word_count(matrix)]?;
     let count = matrix.cols() + matrix.rows();
+    let asked = Asked {
+        plus: true,
+        minus: true,
+    };
     for k in 0..count {
-        let is = is_settled(table, k, choices);
-        put_asked(
-            &mut words,
-            k,
-            Asked {
-                plus: is,
-                minus: is,
-            },
-        );
+        if choices != settling(table, k) {
+            continue;
+        }
+        put_asked(words, k, asked);
     }
-    Ok(words)
-}
-
-// What the coordinates of part A depend on after this many choices.
-fn chosen_after(
-    alloc: Global,
-    matrix: &Matrix,
-    table: &Influence,
-    choices: usize,
-) -> Result<Chosen, NoMemory>
-    ensures { IfOk result (λ made. IsChosen matrix.now table.now choices made) }
-{
-    Ok(Chosen {
-        signs: signs_by(alloc, matrix, table, choices)?,
-        settled: settled_by(alloc, matrix, table, choices)?,
-    })
 }
 
 /// What the coordinates of part A depend on after no choice, after one, and so on, to all.
@@ -133,8 +130,13 @@ pub(crate) fn columns_by_choice(
 {
     let count = matrix.rows() + 1;
     let mut made = Vec::with_capacity(alloc, count)?;
+    let mut settled = vec![in alloc; NONE; word_count(matrix)]?;
     for choices in 0..count {
-        made.push(chosen_after(alloc, matrix, table, choices)?)?;
+        settle(&mut settled, matrix, table, choices);
+        made.push(Chosen {
+            signs: signs_by(alloc, matrix, table, choices)?,
+            settled: Vec::from_slice(alloc, &settled)?,
+        })?;
     }
     Ok(made)
 }

@@ -3,7 +3,7 @@
 -- Source: this project's own.
 -- Shapes: coordinates count from 0; coordinate k is bit k % 64 of word k / 64. The choices are the
 -- species in order.
-use Rattle.std.specs.Prelude.{◌≡◌, ◌<◌, ◌+◌, ℕ, Bool, true, if◌then◌else◌, List, [], drop, length, slice_index_or}
+use Rattle.std.specs.Prelude.{◌≡◌, ◌<◌, ◌+◌, ℕ, zero, suc, Bool, true, false, if◌then◌else◌, List, [], drop, length, slice_index_or}
 use Rattle.std.specs.Int.{bit_at}
 use Rattle.crn_vec.specs.declared.signs.Sign.{Sign}
 use Rattle.crn_vec.specs.declared.signs.Kind.TheVariants.{Free}
@@ -65,6 +65,18 @@ pub record AreSettled (a : Mat) (table : List (List Sign)) (n : ℕ) (words : Li
       → plus_at words k ≡ one_if (all_zero (drop n (signs_at table k)))
   pub minus : (k : ℕ) → k < width a
       → minus_at words k ≡ one_if (all_zero (drop n (signs_at table k)))
+
+-- whether a coordinate is settled after fewer than n choices
+abbrev pub settled_below : List (List Sign) → ℕ → ℕ → Bool
+settled_below table zero k = false
+settled_below table (suc n) k = all_zero (drop n (signs_at table k))
+
+-- both words say which coordinates are settled after fewer than n choices
+pub record AreSettledBelow (a : Mat) (table : List (List Sign)) (n : ℕ) (words : List Bits)
+    : Type 0 where
+  pub count : length words ≡ word_count a
+  pub plus : (k : ℕ) → k < width a → plus_at words k ≡ one_if (settled_below table n k)
+  pub minus : (k : ℕ) → k < width a → minus_at words k ≡ one_if (settled_below table n k)
 
 -- what is kept for n choices: the signs of the species that is the last of them, and what is settled
 pub record IsChosen (a : Mat) (table : List (List Sign)) (n : ℕ) (c : Chosen) : Type 0 where
