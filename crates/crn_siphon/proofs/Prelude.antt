@@ -53,11 +53,11 @@ pub use Rattle.crn_vec.specs.declared.signs.Kind.TheVariants.{Free}
 pub use Rattle.std.proofs.Common.{Bool, Global, List, Vec, [], ap, ap₂, arith, drop, false, get_or, inl, inr, length, map, max, min, refl, rules, subst, suc, sym, take, take_all, true, w64, zero, ℕ, ◌%◌, ◌*◌, ◌++◌, ◌+◌, ◌-◌, ◌/◌, ◌<◌, ◌==◌, ◌∙◌, ◌∷◌, ◌≡◌, ◌≢◌, ◌≤◌, ◌⊎◌}
 pub use Rattle.std.proofs.Math.ListN.{get_or-append, replicate}
 pub use Rattle.std.proofs.lemmas.Bool.{cases_Bool, eq-eqb, eqb-true, false≢true}
-pub use Rattle.std.proofs.lemmas.Int.{ints, to_z-of_z}
+pub use Rattle.std.proofs.lemmas.Int.{ints}
 pub use Rattle.std.proofs.lemmas.List.{append-nil, append_assoc, get_or-append_right, get_or-drop, get_or-replicate, get_or_past, get_or_push, length-append, length-drop, length-map, length-replicate}
 pub use Rattle.std.proofs.lemmas.Nat.Bits.{bit_at-lt, bit_at-suc, bit_at-zero, bit_at_and, bit_at_lowest, bit_at_or, bit_at_set_other, bit_at_set_same, same_from_bits}
 pub use Rattle.std.proofs.lemmas.Result.{IfOk-weaker, err_from_is_err_and}
-pub use Rattle.std.specs.Int.{bit_at, w128}
+pub use Rattle.std.specs.Int.{bit_at}
 pub use Rattle.std.specs.Int.Bits.{bit_and, bit_or}
 pub use Rattle.std.specs.List.{AllByRecursion}
 pub use Rattle.std.specs.Prelude.{IfSome, Option, neg_ℤ, negsuc, pos, ℤ, ◌*ℤ◌, ◌+ℤ◌, ◌↔◌, ◌≤ℤ◌}

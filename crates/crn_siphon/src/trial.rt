@@ -88,23 +88,17 @@ pub(crate) fn is_positive_law(net: &Network, weights: &[i128]) -> bool
     are_free(weights, net.species()) && are_positive(weights) && is_conserved(net, weights)
 }
 
-// The number itself.
-fn same(number: &i128) -> i128
-    ensures { result ≡ number.now }
-{
-    *number
-}
-
-// A number with a multiple of another one, unless that is too great.
-fn sum_with(x: &i128, number: &i128, y: &i128) -> Option<i128>
-    ensures { IfSome result (λ z. z ≡ x.now +ℤ (number.now *ℤ y.now)) }
+// Adds a multiple of a number, unless the sum is too great.
+fn add_to(change: &mut i128, number: &i128, y: &i128) -> Option<()>
+    ensures { IfSome result (λ _. change.new ≡ change.old +ℤ (number.now *ℤ y.now)) }
 {
     if is_nought(y) {
-        return Some(same(x));
+        return Some(());
     }
     let product = number.checked_mul(*y)?;
-    let sum = x.checked_add(product)?;
-    Some(sum)
+    let sum = change.checked_add(product)?;
+    *change = sum;
+    Some(())
 }
 
 // Adds a multiple of a vector, unless a sum is too great.
@@ -118,7 +112,7 @@ fn add(changes: &mut [i128], number: &i128, vector: &[i128]) -> Option<()>
         return Some(());
     }
     for k in 0..vector.len() {
-        changes[k] = sum_with(&changes[k], number, &vector[k])?;
+        add_to(&mut changes[k], number, &vector[k])?;
     }
     Some(())
 }
