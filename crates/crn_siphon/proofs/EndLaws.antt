@@ -1,6 +1,7 @@
 -- How the visits of a prefix, of its children and of all below them end.
-use Rattle.crn_siphon.proofs.Prelude.{◌≡◌, ℕ, suc, ◌+◌, ◌<◌, ◌≤◌, inl, inr, Bool, true, false, List, [], ◌∷◌, ◌++◌, length, map, refl, sym, ap, subst, ◌∙◌, arith, ℤ, append-nil, length-append, KeptInts, KeptNums, Net, IsNetwork, NamesWide, IsConservationLaw, reaction_system, species_system, MAX_BUDGET, rows_count, vectors_count, AreFree, AreBits, RuleOutConservation, IsLawStop, wide_basis, IsSiphon, Covers, set_of, IsFull, Stands, Plan, plan_of, IsFormedTree, node_count, Visits, over, fallen, ended, opened, Passes, begun, below, children, root, PassesBudget, Said, Yes, NoLaw, NoSiphon, Wide, SpentAnswer, IsAnswer, IsFormed, IsValid, said_of, SiphonTree, valid_answers_are_true, longer_by, visits_then, visits_ended, passes_first, passes_then, passes_at, Siphon, Tree, SpeciesSet, Fact, Node, NodeFork, Search, End, Found, Refuted, Spent, mark, IsSearchStop, EndsAt, EndsBelow, EndsWithSet, EndsFound, EndsWithTree, EndsBelowWithTree, HasGrown, HasPut, IsFoundBy, IsLeafAt, IsStanding, RunsOut, Lists, IsEndOfVisits, IsStopAnswer, Stop, StopWide, NoMemory, Persist}
+use Rattle.crn_siphon.proofs.Prelude.{AreNodesOf, ◌≡◌, ℕ, suc, ◌+◌, ◌<◌, ◌≤◌, inl, inr, Bool, true, false, List, [], ◌∷◌, ◌++◌, length, map, refl, sym, ap, subst, ◌∙◌, arith, ℤ, append-nil, length-append, KeptInts, KeptNums, Net, IsNetwork, NamesWide, IsConservationLaw, reaction_system, species_system, MAX_BUDGET, rows_count, vectors_count, AreFree, AreBits, RuleOutConservation, IsLawStop, wide_basis, IsSiphon, Covers, set_of, IsFull, Stands, Plan, IsFormedTree, node_count, Visits, over, fallen, ended, opened, Passes, begun, below, children, root, PassesBudget, Said, Yes, NoLaw, NoSiphon, Wide, SpentAnswer, IsAnswer, IsFormed, IsValid, said_of, valid_answers_are_true, longer_by, visits_then, visits_ended, passes_first, passes_then, passes_at, Siphon, Tree, SpeciesSet, Fact, Node, NodeFork, Search, End, Found, Refuted, Spent, mark, IsSearchStop, EndsAt, EndsBelow, EndsWithSet, EndsFound, EndsWithTree, EndsBelowWithTree, HasGrown, HasPut, IsFoundBy, IsLeafAt, IsStanding, RunsOut, Lists, IsEndOfVisits, IsStopAnswer, Stop, StopWide, NoMemory, Persist}
 use Rattle.crn_siphon_check.specs.Trees.{Fork}
+use Rattle.crn_siphon.proofs.Nodes.{all_weights, tree_nodes}
 use Rattle.crn_siphon.proofs.Nodes.{fork_put, lists_more}
 use Rattle.crn_siphon.proofs.Places.{marks_set, marks_formed, standing_is_siphon}
 
@@ -139,11 +140,12 @@ pub spent_end : {net : Net} {p : List Bool} (before after : Search) (e : End) �
 spent_end {net} {p} before after e is h = subst (λ (x : End). EndsAt net p before after x) is h
 
 -- all nodes are those of the tree, if there was none before
-pub all_put : (before after : Search) (laws : List Fact) (nodes : List Node) (tree : Plan) → laws ≡ after.known.laws.items → nodes ≡ after.nodes.items → before.nodes.items ≡ [] → HasPut before after tree → Lists laws nodes tree 0 (length after.nodes.items)
-all_put before after laws nodes tree l n none h =
+pub all_put : (before after : Search) (laws : List Fact) (nodes : List Node) (weights : List (List ℤ)) (tree : Plan) → laws ≡ after.known.laws.items → nodes ≡ after.nodes.items → before.nodes.items ≡ [] → weights ≡ all_weights laws → HasPut before after tree → AreNodesOf tree weights nodes
+all_put before after laws nodes weights tree l n none w h =
     let end = length after.nodes.items in
     let first : Lists after.known.laws.items after.nodes.items tree 0 end = subst (λ (at : ℕ). Lists after.known.laws.items after.nodes.items tree at end) (ap (λ (x : List Node). length x) none) h in
-    subst (λ (x : List Fact). Lists x nodes tree 0 end) (sym l) (subst (λ (x : List Node). Lists after.known.laws.items x tree 0 end) (sym n) first)
+    let put : Lists laws nodes tree 0 end = subst (λ (x : List Fact). Lists x nodes tree 0 end) (sym l) (subst (λ (x : List Node). Lists after.known.laws.items x tree 0 end) (sym n) first) in
+    subst (λ (x : List (List ℤ)). AreNodesOf tree x nodes) (sym w) (tree_nodes laws nodes tree end (omega (arith, ap (λ (x : List Node). length x) n)) put)
 
 pub siphon_shown : (net : Net) (budget after : ℕ) (marked : List ℤ) (marks cover : KeptInts) → marks.list ≡ marked → (kept : List ℤ) → cover.list ≡ kept → EndsWithSet net root budget after marked kept → IsEndOfVisits net budget (Siphon marks cover)
 siphon_shown net budget after marked marks cover m kept c h =
@@ -152,17 +154,17 @@ siphon_shown net budget after marked marks cover m kept c h =
       λ g. omega (arith, longer_by net root v.visits true budget v.are g, v.long, h.1.2),
     )
 
-pub tree_shown : (net : Net) (budget after : ℕ) (plan : Plan) (tree : SiphonTree) → plan_of tree ≡ plan → EndsWithTree net [] budget after plan → IsEndOfVisits net budget (Tree tree)
+pub tree_shown : (net : Net) (budget after : ℕ) (plan tree : Plan) → tree ≡ plan → EndsWithTree net [] budget after plan → IsEndOfVisits net budget (Tree tree)
 tree_shown net budget after plan tree e h =
-    let same : EndsWithTree net [] budget after (plan_of tree) = subst (λ (t : Plan). EndsWithTree net [] budget after t) (sym e) h in
+    let same : EndsWithTree net [] budget after tree = subst (λ (t : Plan). EndsWithTree net [] budget after t) (sym e) h in
     let v = same.1 in
     (same.0, (λ g. omega (arith, longer_by net root v.visits false budget v.are g, v.long, same.2)), omega (arith, same.2))
 
 -- ---- answers
 
-pub yes_answer : (net : Net) (budget : ℕ) (law : List ℤ) (tree : SiphonTree) → IsNetwork net → IsConservationLaw net law → AreFree (length net.names) law → IsEndOfVisits net budget (Tree tree) → IsAnswer net budget (Yes law (plan_of tree))
+pub yes_answer : (net : Net) (budget : ℕ) (law : List ℤ) (tree : Plan) → IsNetwork net → IsConservationLaw net law → AreFree (length net.names) law → IsEndOfVisits net budget (Tree tree) → IsAnswer net budget (Yes law tree)
 yes_answer net budget law tree n l free h =
-    let answer : Said = Yes law (plan_of tree) in
+    let answer : Said = Yes law tree in
     let formed : IsFormed net answer = (free, h.0.1) in
     let valid : IsValid net answer = (l, h.0.0) in
     record { formed = formed; valid = valid; true_of = valid_answers_are_true net answer n formed valid; licensed = (h.1, h.2) }

@@ -1,6 +1,5 @@
 -- Trees as lists of nodes in preorder.
-use Rattle.crn_siphon.proofs.Prelude.{◌≡◌, ℕ, zero, suc, ◌+◌, ◌<◌, ◌≤◌, List, [], ◌∷◌, ◌++◌, length, get_or, take, refl, sym, ap, ap₂, subst, ◌∙◌, arith, ℤ, get_or-append, append-nil, append_assoc, get_or_push, length-append, Plan, PlanFork, PlanBad, PlanLaw, PlanVoid, Fact, Node, Fork, LawAt, Void, Search, Net, all_at, all_push, any_default, SpeciesSet, IsWithin, AreCovers, AreLaws, HasMore, IsCoverIn, IsCoverOf, IsFactAt, IsLawIn, IsLawWithin, IsNodeAt, IsLeaf, HasLeafAt, IsListed, Lists, HasGrown}
-use Rattle.crn_siphon.specs.declared.node.Node.TheVariants.{Bad}
+use Rattle.crn_siphon.proofs.Prelude.{KeptInts, weights_of, map-append, take_more, ◌≡◌, ℕ, zero, suc, ◌+◌, ◌<◌, ◌≤◌, List, [], ◌∷◌, ◌++◌, length, get_or, take, refl, sym, ap, ap₂, subst, ◌∙◌, arith, ℤ, get_or-append, append-nil, append_assoc, get_or_push, length-append, Plan, PlanFork, PlanBad, PlanLaw, PlanVoid, Fact, Node, Fork, LawAt, Void, Search, Net, all_at, all_push, any_default, SpeciesSet, IsWithin, AreCovers, AreLaws, HasMore, IsCoverIn, IsCoverOf, IsFactAt, IsLawIn, IsLawWithin, IsNodeAt, IsLeaf, HasLeafAt, Lists, HasGrown, Listed, ListedFork, ListedLaw, AreNodesOf, listed, preorder, first_tree, trees_of, plan_back, map, drop, drop_more, drop_all, get_or-map}
 
 -- ---- longer lists
 
@@ -118,109 +117,53 @@ fork_put laws nodes forked longer inside outside mid end e more first second = (
   (mid, subst (λ (at : ℕ). Lists laws longer inside at mid) (pushed nodes forked Fork e).1 first, second),
 )
 
--- ---- a list that is read
+-- ---- the list of a tree
 
-tag : Node → ℕ
-tag Fork = 0
-tag (Bad r) = 1
-tag (LawAt k) = 2
-tag Void = 3
+none_inside : (k : ℕ) → k < 0 → ⊥
+none_inside k h = omega (arith, h)
 
-value : Node → ℕ
-value Fork = 0
-value (Bad r) = r
-value (LawAt k) = k
-value Void = 0
+law_numbers : (laws : List Fact) (k : ℕ) (weights : List ℤ) → IsFactAt laws k weights → get_or (map (λ (law : Fact). law.numbers.list) laws) k [] ≡ weights
+law_numbers [] k weights h = absurd (none_inside k h.inside)
+law_numbers (law ∷ laws) k weights h = get_or-map (λ (f : Fact). f.numbers.list) (law ∷ laws) k law [] h.inside ∙ (let is = h.is in is law)
 
--- two numbers that are apart
-differ : (m d : ℕ) → m ≡ m + suc d → ⊥
-differ m d e = omega (arith, e)
+-- the weights of the laws
+abbrev pub all_weights : List Fact → List (List ℤ)
+all_weights laws = map (λ (law : Fact). law.numbers.list) laws
 
-same_node : (nodes : List Node) (at : ℕ) (d n m : Node) → IsNodeAt nodes at n → get_or nodes at d ≡ m → n ≡ m
-same_node nodes at d n m is e = sym is.is ∙ any_default Void d nodes at is.inside ∙ e
+leaf_listed : (laws : List Fact) (tree : Plan) (node : Node) → IsLeaf laws tree node → listed (all_weights laws) node ∷ [] ≡ preorder tree
+leaf_listed laws (PlanFork inside outside) node h = absurd h
+leaf_listed laws (PlanBad r) node h = ap (λ (n : Node). listed (all_weights laws) n ∷ []) h
+leaf_listed laws (PlanLaw weights) node h = ap (λ (n : Node). listed (all_weights laws) n ∷ []) h.1 ∙ ap (λ (w : List ℤ). ListedLaw w ∷ []) (law_numbers laws h.0 weights h.2)
+leaf_listed laws PlanVoid node h = ap (λ (n : Node). listed (all_weights laws) n ∷ []) h
 
-leaf_is : (laws : List Fact) (nodes : List Node) (tree : Plan) (at end : ℕ) (d m : Node) → HasLeafAt laws nodes tree at end → get_or nodes at d ≡ m → IsLeaf laws tree m × (end ≡ at + 1)
-leaf_is laws nodes tree at end d m h e = (subst (λ (n : Node). IsLeaf laws tree n) (same_node nodes at d h.0.0 m h.0.1 e) h.0.2, h.1)
+-- the nodes from a place on, as they are listed
+abbrev listed_from : List Fact → List Node → (at : ℕ) → List Listed
+listed_from laws nodes at = map (listed (all_weights laws)) (drop at nodes)
 
-pub listed_inside : (laws : List Fact) (nodes : List Node) (tree : Plan) (at end : ℕ) → Lists laws nodes tree at end → at < length nodes
-listed_inside laws nodes (PlanFork inside outside) at end h = h.0.inside
-listed_inside laws nodes (PlanBad r) at end h = h.0.1.inside
-listed_inside laws nodes (PlanLaw weights) at end h = h.0.1.inside
-listed_inside laws nodes PlanVoid at end h = h.0.1.inside
+node_from : (laws : List Fact) (nodes : List Node) (at : ℕ) (node : Node) → IsNodeAt nodes at node → listed_from laws nodes at ≡ listed (all_weights laws) node ∷ listed_from laws nodes (at + 1)
+node_from laws nodes at node h = ap (map (listed (all_weights laws))) (drop_more nodes at Void h.inside ∙ ap (λ (n : Node). n ∷ drop (at + 1) nodes) h.is)
 
-pub listed_after : (laws : List Fact) (nodes : List Node) (tree : Plan) (at end : ℕ) → Lists laws nodes tree at end → at < end
-listed_after laws nodes (PlanFork inside outside) at end h = omega (arith, listed_after laws nodes inside (at + 1) h.1.0 h.1.1, listed_after laws nodes outside h.1.0 end h.1.2)
-listed_after laws nodes (PlanBad r) at end h = omega (arith, h.1)
-listed_after laws nodes (PlanLaw weights) at end h = omega (arith, h.1)
-listed_after laws nodes PlanVoid at end h = omega (arith, h.1)
+leaf_from : (laws : List Fact) (nodes : List Node) (tree : Plan) (at end : ℕ) → HasLeafAt laws nodes tree at end → listed_from laws nodes at ≡ preorder tree ++ listed_from laws nodes end
+leaf_from laws nodes tree at end h = node_from laws nodes at h.0.0 h.0.1 ∙ ap₂ (λ (x y : List Listed). x ++ y) (leaf_listed laws tree h.0.0 h.0.2) (ap (listed_from laws nodes) (sym h.1))
 
--- the trees that follow a fork
-pub record AreChildren (laws : List Fact) (nodes : List Node) (tree : Plan) (at end : ℕ) : Type 0 where
-  pub inside : Plan
-  pub outside : Plan
-  pub mid : ℕ
-  pub is : tree ≡ PlanFork inside outside
-  pub first : Lists laws nodes inside (at + 1) mid
-  pub second : Lists laws nodes outside mid end
+tree_from : (laws : List Fact) (nodes : List Node) (tree : Plan) (at end : ℕ) → Lists laws nodes tree at end → listed_from laws nodes at ≡ preorder tree ++ listed_from laws nodes end
+tree_from laws nodes (PlanFork inside outside) at end h =
+    node_from laws nodes at Fork h.0
+    ∙ ap (λ (l : List Listed). ListedFork ∷ l) (tree_from laws nodes inside (at + 1) h.1.0 h.1.1 ∙ ap (λ (l : List Listed). preorder inside ++ l) (tree_from laws nodes outside h.1.0 end h.1.2) ∙ sym (append_assoc (preorder inside) (preorder outside) (listed_from laws nodes end)))
+tree_from laws nodes (PlanBad r) at end h = leaf_from laws nodes (PlanBad r) at end h
+tree_from laws nodes (PlanLaw weights) at end h = leaf_from laws nodes (PlanLaw weights) at end h
+tree_from laws nodes PlanVoid at end h = leaf_from laws nodes PlanVoid at end h
 
-pub by_fork : (laws : List Fact) (nodes : List Node) (tree : Plan) (at end : ℕ) (d : Node) → get_or nodes at d ≡ Fork → Lists laws nodes tree at end → AreChildren laws nodes tree at end
-unfolding tag
-by_fork laws nodes (PlanFork inside outside) at end d e h = record { inside = inside; outside = outside; mid = h.1.0; is = refl; first = h.1.1; second = h.1.2 }
-by_fork laws nodes (PlanBad r) at end d e h = absurd (differ 0 0 (ap tag ((leaf_is laws nodes (PlanBad r) at end d Fork h e).0)))
-by_fork laws nodes (PlanLaw weights) at end d e h = absurd (differ 0 1 (ap tag ((leaf_is laws nodes (PlanLaw weights) at end d Fork h e).0.1)))
-by_fork laws nodes PlanVoid at end d e h = absurd (differ 0 2 (ap tag ((leaf_is laws nodes PlanVoid at end d Fork h e).0)))
+-- all nodes are those of the tree
+pub tree_nodes : (laws : List Fact) (nodes : List Node) (tree : Plan) (end : ℕ) → length nodes ≤ end → Lists laws nodes tree 0 end → AreNodesOf tree (all_weights laws) nodes
+tree_nodes laws nodes tree end long h = tree_from laws nodes tree 0 end h ∙ ap (λ (l : List Node). preorder tree ++ map (listed (all_weights laws)) l) (drop_all end nodes long) ∙ append-nil (preorder tree)
 
-pub by_bad : (laws : List Fact) (nodes : List Node) (tree : Plan) (at end : ℕ) (d : Node) (r : ℕ) → get_or nodes at d ≡ Bad r → Lists laws nodes tree at end → (PlanBad r ≡ tree) × (at + 1 ≡ end)
-unfolding tag value
-by_bad laws nodes (PlanFork inside outside) at end d r e h = absurd (differ 0 0 (ap tag (same_node nodes at d Fork (Bad r) h.0 e)))
-by_bad laws nodes (PlanBad q) at end d r e h = let l = leaf_is laws nodes (PlanBad q) at end d (Bad r) h e in (ap (λ (k : ℕ). PlanBad k) (ap value l.0), sym l.1)
-by_bad laws nodes (PlanLaw weights) at end d r e h = absurd (differ 1 0 (ap tag ((leaf_is laws nodes (PlanLaw weights) at end d (Bad r) h e).0.1)))
-by_bad laws nodes PlanVoid at end d r e h = absurd (differ 1 1 (ap tag ((leaf_is laws nodes PlanVoid at end d (Bad r) h e).0)))
+-- the weights of one law more
+pub weights_put : (made longer : List KeptInts) (one : KeptInts) (laws : List Fact) (k : ℕ) (d : Fact) → longer ≡ made ++ one ∷ [] → weights_of made ≡ all_weights (take k laws) → one.list ≡ (get_or laws k d).numbers.list → k < length laws → weights_of longer ≡ all_weights (take (k + 1) laws)
+weights_put made longer one laws k d e same is lt =
+    ap weights_of e ∙ map-append (λ (x : KeptInts). x.list) made (one ∷ []) ∙ ap₂ (λ (x y : List (List ℤ)). x ++ y) same (ap (λ (w : List ℤ). w ∷ []) is)
+    ∙ sym (map-append (λ (f : Fact). f.numbers.list) (take k laws) (get_or laws k d ∷ [])) ∙ ap all_weights (sym (take_more laws k d lt))
 
-pub by_law : (laws : List Fact) (nodes : List Node) (tree : Plan) (at end : ℕ) (d : Node) (k : ℕ) → get_or nodes at d ≡ LawAt k → Lists laws nodes tree at end → (weights : List ℤ) × IsFactAt laws k weights × (PlanLaw weights ≡ tree) × (at + 1 ≡ end)
-unfolding tag value leaf_is
-by_law laws nodes (PlanFork inside outside) at end d k e h = absurd (differ 0 1 (ap tag (same_node nodes at d Fork (LawAt k) h.0 e)))
-by_law laws nodes (PlanBad r) at end d k e h = absurd (differ 1 0 (sym (ap tag ((leaf_is laws nodes (PlanBad r) at end d (LawAt k) h e).0))))
-by_law laws nodes (PlanLaw weights) at end d k e h = let l = leaf_is laws nodes (PlanLaw weights) at end d (LawAt k) h e in (weights, subst (λ (j : ℕ). IsFactAt laws j weights) (sym (ap value l.0.1)) l.0.2, refl, sym l.1)
-by_law laws nodes PlanVoid at end d k e h = absurd (differ 2 0 (ap tag ((leaf_is laws nodes PlanVoid at end d (LawAt k) h e).0)))
-
-pub by_void : (laws : List Fact) (nodes : List Node) (tree : Plan) (at end : ℕ) (d : Node) → get_or nodes at d ≡ Void → Lists laws nodes tree at end → (PlanVoid ≡ tree) × (at + 1 ≡ end)
-unfolding tag
-by_void laws nodes (PlanFork inside outside) at end d e h = absurd (differ 0 2 (ap tag (same_node nodes at d Fork Void h.0 e)))
-by_void laws nodes (PlanBad r) at end d e h = absurd (differ 1 1 (sym (ap tag ((leaf_is laws nodes (PlanBad r) at end d Void h e).0))))
-by_void laws nodes (PlanLaw weights) at end d e h = absurd (differ 2 0 (sym (ap tag ((leaf_is laws nodes (PlanLaw weights) at end d Void h e).0.1))))
-by_void laws nodes PlanVoid at end d e h = (refl, sym ((leaf_is laws nodes PlanVoid at end d Void h e).1))
-
--- ---- what reading the tree of a fork gives
-
--- whatever tree is listed at a place is that of this one, up to the next place
-abbrev pub IsRead : List Fact → List Node → (at next : ℕ) → Plan → Type 0
-IsRead laws nodes at next tree = (plan : Plan) (end : ℕ) → Lists laws nodes plan at end → (tree ≡ plan) × (next ≡ end)
-
-pub first_listed : (laws : List Fact) (nodes : List Node) (at : ℕ) (d : Node) → get_or nodes at d ≡ Fork → IsListed laws nodes at → IsListed laws nodes (at + 1)
-first_listed laws nodes at d e h = let k = by_fork laws nodes h.0 at h.1 d e h.2 in (k.inside, k.mid, k.first)
-
-pub second_listed : (laws : List Fact) (nodes : List Node) (at next : ℕ) (d : Node) (tree : Plan) → get_or nodes at d ≡ Fork → IsListed laws nodes at → IsRead laws nodes (at + 1) next tree → IsListed laws nodes next
-second_listed laws nodes at next d tree e h read =
-    let k = by_fork laws nodes h.0 at h.1 d e h.2 in
-    (k.outside, h.1, subst (λ (n : ℕ). Lists laws nodes k.outside n h.1) (sym ((read k.inside k.mid k.first).1)) k.second)
-
-pub second_after : (laws : List Fact) (nodes : List Node) (at next : ℕ) (d : Node) (tree : Plan) → get_or nodes at d ≡ Fork → IsListed laws nodes at → IsRead laws nodes (at + 1) next tree → at < next
-second_after laws nodes at next d tree e h read =
-    let k = by_fork laws nodes h.0 at h.1 d e h.2 in
-    omega (arith, listed_after laws nodes k.inside (at + 1) k.mid k.first, (read k.inside k.mid k.first).1)
-
-pub fork_read : (laws : List Fact) (nodes : List Node) (at mid next : ℕ) (d : Node) (inside outside tree : Plan) → get_or nodes at d ≡ Fork → IsRead laws nodes (at + 1) mid inside → IsRead laws nodes mid next outside → tree ≡ PlanFork inside outside
-    → IsRead laws nodes at next tree
-fork_read laws nodes at mid next d inside outside tree e first second is = λ plan end h.
-    let k = by_fork laws nodes plan at end d e h in
-    let a = first k.inside k.mid k.first in
-    let b = second k.outside end (subst (λ (n : ℕ). Lists laws nodes k.outside n end) (sym a.1) k.second) in
-    (is ∙ ap₂ (λ (x y : Plan). PlanFork x y) a.0 b.0 ∙ sym k.is, b.1)
-
--- the law of a node of a law
-pub law_listed : (laws : List Fact) (nodes : List Node) (at : ℕ) (d : Node) (k : ℕ) → get_or nodes at d ≡ LawAt k → IsListed laws nodes at → k < length laws
-law_listed laws nodes at d k e h =
-    let l = by_law laws nodes h.0 at h.1 d k e h.2 in
-    let at_k = l.1 in
-    at_k.inside
+-- nodes are those of one tree
+pub same_tree : (tree other : Plan) (weights : List (List ℤ)) (nodes : List Node) → AreNodesOf tree weights nodes → AreNodesOf other weights nodes → tree ≡ other
+same_tree tree other weights nodes a b = sym (plan_back tree) ∙ ap (λ (l : List Listed). first_tree (trees_of l)) (sym a ∙ b) ∙ plan_back other

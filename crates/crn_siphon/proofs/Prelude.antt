@@ -10,7 +10,7 @@ pub use Rattle.crn_farkas.specs.declared.fault.Stop.{Stop}
 pub use Rattle.crn_farkas.specs.declared.fault.Stop.TheVariants.{NoMemory, Wide as StopWide}
 pub use Rattle.crn_siphon.specs.Inner.Ends.{IsEndOfVisits, IsStopAnswer}
 pub use Rattle.crn_siphon.specs.Inner.Known.{AreCovers, AreIncreased, AreLaws, HasMore, IsCoverIn, IsCoverOf, IsFactAt, IsFinding, IsLawIn, IsLawWithin, IsSearchStop, fact}
-pub use Rattle.crn_siphon.specs.Inner.Nodes.{HasLeafAt, IsLeaf, IsListed, IsNodeAt, Lists}
+pub use Rattle.crn_siphon.specs.Inner.Nodes.{HasLeafAt, IsLeaf, IsNodeAt, Lists}
 pub use Rattle.crn_siphon.specs.Inner.Places.{AreAllHolders, AreEnds, AreEndsOf, AreHolders, HoldsIn, IsPlace, IsReaction, IsStopping, NoneStops, StopsLast}
 pub use Rattle.crn_siphon.specs.Inner.Search.{EndsAt, EndsBelow, EndsBelowWithTree, EndsFound, EndsWithSet, EndsWithTree, HasGrown, HasNoBad, HasPut, IsFoundBy, IsLeafAt, IsShown, IsStanding, IsVisit, NoneStopsIf, RunsOut}
 pub use Rattle.crn_siphon.specs.Inner.Sets.{Has, HasCommon, IsWithin, mark, marks, members}
@@ -21,8 +21,6 @@ pub use Rattle.crn_siphon.specs.declared.ends.Ends.{Ends}
 pub use Rattle.crn_siphon.specs.declared.ends.Holders.{Holders}
 pub use Rattle.crn_siphon.specs.declared.known.Fact.{Fact}
 pub use Rattle.crn_siphon.specs.declared.known.Finding.{Finding}
-pub use Rattle.crn_siphon.specs.declared.node.Node.{Node}
-pub use Rattle.crn_siphon.specs.declared.node.Node.TheVariants.{Fork, Law as LawAt, Fork as NodeFork, Void}
 pub use Rattle.crn_siphon.specs.declared.place.Place.{Place}
 pub use Rattle.crn_siphon.specs.declared.search.End.{End}
 pub use Rattle.crn_siphon.specs.declared.search.End.TheVariants.{Found, Refuted, Spent}
@@ -31,12 +29,15 @@ pub use Rattle.crn_siphon.specs.declared.search.Standing.{Standing}
 pub use Rattle.crn_siphon.specs.declared.sets.SpeciesSet.{SpeciesSet}
 pub use Rattle.crn_siphon_check.proofs.CallerLemmas.{covered_has_none, longer_by, passes_at, passes_first, passes_then, valid_answers_are_true, visits_ended, visits_then}
 pub use Rattle.crn_siphon_check.specs.Answers.{IsAnswer, IsFormed, IsValid, NoLaw, NoSiphon, Said, Spent as SpentAnswer, Wide, Yes, said_of}
+pub use Rattle.crn_siphon_check.specs.PlanCode.{plan_back}
 pub use Rattle.crn_siphon_check.specs.Prefixes.{IsBad, IsFull, IsOut, IsVoid, Stands}
+pub use Rattle.crn_siphon_check.specs.Preorder.{AreNodesOf, Listed, ListedFork, ListedLaw, first_tree, listed, preorder, trees_of, weights_of}
 pub use Rattle.crn_siphon_check.specs.SiphonVisits.{Passes, PassesBudget, Visits, begun, below, children, ended, fallen, opened, over, root}
 pub use Rattle.crn_siphon_check.specs.Siphons.{Covers, HasMember, HoldsMember, IsSiphon, IsZeroOutside, set_of}
-pub use Rattle.crn_siphon_check.specs.Trees.{Bad, IsFormedTree, Law, Plan, Bad as PlanBad, Fork as PlanFork, Law as PlanLaw, Void as PlanVoid, node_count, plan_of}
+pub use Rattle.crn_siphon_check.specs.Trees.{Bad, IsFormedTree, Law, Plan, Bad as PlanBad, Fork as PlanFork, Law as PlanLaw, Void as PlanVoid, node_count}
 pub use Rattle.crn_siphon_check.specs.declared.answer.Persist.{Persist}
-pub use Rattle.crn_siphon_check.specs.declared.tree.SiphonTree.{SiphonTree}
+pub use Rattle.crn_siphon_check.specs.declared.tree_node.SiphonNode.{SiphonNode as Node}
+pub use Rattle.crn_siphon_check.specs.declared.tree_node.SiphonNode.TheVariants.{Fork, Law as LawAt, Fork as NodeFork, Void}
 pub use Rattle.crn_solve.specs.Laws.{IsLawDecision, IsLawStop}
 pub use Rattle.crn_vec.proofs.CallerLemmas.{all_at, all_given, all_in, all_push, any_default, column_is, dot-comm, dot_step, entry-column, entry_of_zeros, eq_or, in_at, kinds_at, length-column, lt_or, nought_adds, past_end, refused, row_is, rows_count, vector_at, vectors_count, zero_adds}
 pub use Rattle.crn_vec.specs.Deficiency.{IsConservationLaw, vectors}
@@ -54,9 +55,9 @@ pub use Rattle.std.proofs.Common.{Bool, Global, List, Vec, [], ap, ap₂, arith,
 pub use Rattle.std.proofs.Math.ListN.{get_or-append, replicate}
 pub use Rattle.std.proofs.lemmas.Bool.{cases_Bool, eq-eqb, eqb-true, false≢true}
 pub use Rattle.std.proofs.lemmas.Int.{ints}
-pub use Rattle.std.proofs.lemmas.List.{append-nil, append_assoc, get_or-append_right, get_or-drop, get_or-replicate, get_or_past, get_or_push, length-append, length-drop, length-map, length-replicate}
+pub use Rattle.std.proofs.lemmas.List.{append-nil, append_assoc, drop_all, drop_more, get_or-append_right, get_or-drop, get_or-map, get_or-replicate, get_or_past, get_or_push, length-append, length-drop, length-map, length-replicate, map-append, take_more}
 pub use Rattle.std.proofs.lemmas.Nat.Bits.{bit_at-lt, bit_at-suc, bit_at-zero, bit_at_and, bit_at_lowest, bit_at_or, bit_at_set_other, bit_at_set_same, same_from_bits}
-pub use Rattle.std.proofs.lemmas.Result.{IfOk-weaker, err_from_is_err_and}
+pub use Rattle.std.proofs.lemmas.Result.{err_from_is_err_and}
 pub use Rattle.std.specs.Int.{bit_at}
 pub use Rattle.std.specs.Int.Bits.{bit_and, bit_or}
 pub use Rattle.std.specs.List.{AllByRecursion}

@@ -13,7 +13,7 @@ use crate::known::{Solvers, nothing_known};
 use crate::place::ROOT;
 use crate::search::{End, Search, walk};
 use crate::sets::marks;
-use crate::tree::next_tree;
+use crate::tree::weights_of;
 use crate::trial::is_positive_law;
 use crn_farkas::{Decision, Stop};
 use crn_net::Network;
@@ -21,6 +21,7 @@ use crn_siphon_check::{Persist, SiphonTree};
 use crn_solve::law_or_cut;
 use crn_vec::{Ints, NoMemory};
 use std::alloc::Global;
+use std::mem;
 
 // What the visits show.
 #[derive(Drop)]
@@ -47,9 +48,9 @@ fn visit_root(net: &Network, search: &mut Search) -> Result<Shown, Stop>
             Ok(Shown::Siphon { marks, cover })
         }
         End::Refuted => {
-            let mut at = 0;
-            let tree = next_tree(search.alloc, &search.known.laws, &search.nodes, &mut at)?;
-            Ok(Shown::Tree(tree))
+            let laws = weights_of(search.alloc, &search.known.laws)?;
+            let nodes = mem::replace(&mut search.nodes, Vec::new(search.alloc));
+            Ok(Shown::Tree(SiphonTree::new(nodes, laws)))
         }
         End::Spent => Ok(Shown::Spent),
     }

@@ -7,7 +7,6 @@ mod ends;
 mod engine;
 mod kinds;
 mod known;
-mod node;
 mod place;
 mod row;
 mod search;

@@ -5,12 +5,12 @@ ghost use Rattle.crn_siphon.specs.Inner.Search.{EndsAt, EndsBelow, HasGrown, IsR
 
 use crate::ends::{Holders, stopping};
 use crate::known::{Finding, Known, Solvers, find};
-use crate::node::Node;
 use crate::place::{Place, child, is_void};
 use crate::sets::SpeciesSet;
 use crate::tree::put_node;
 use crn_farkas::Stop;
 use crn_net::Network;
+use crn_siphon_check::SiphonNode;
 use std::alloc::Global;
 
 /// What a search works with: memory, what is asked of sets, the reactions that hold each species, what visits have shown,
@@ -21,7 +21,7 @@ pub(crate) struct Search {
     pub solvers: Solvers,
     pub holders: Vec<Holders>,
     pub known: Known,
-    pub nodes: Vec<Node>,
+    pub nodes: Vec<SiphonNode>,
     pub left: u32,
 }
 
@@ -40,7 +40,7 @@ pub(crate) enum End {
 #[derive(Clone, Copy)]
 pub(crate) enum Standing {
     /// This node stops it.
-    Stops(Node),
+    Stops(SiphonNode),
     /// It stands, and the known numbers at this place increase each species that is in.
     Stands(usize),
 }
@@ -61,10 +61,10 @@ fn look(net: &Network, search: &mut Search, place: Place) -> Result<Standing, St
         (λ s. IsSearchStop net.now s) }
 {
     if let Some(r) = stopping(net, &search.holders, place) {
-        return Ok(Standing::Stops(Node::Bad(r)));
+        return Ok(Standing::Stops(SiphonNode::Bad(r)));
     }
     if is_void(net, place) {
-        return Ok(Standing::Stops(Node::Void));
+        return Ok(Standing::Stops(SiphonNode::Void));
     }
     let found = find(
         search.alloc,
@@ -74,7 +74,7 @@ fn look(net: &Network, search: &mut Search, place: Place) -> Result<Standing, St
         place.inside,
     )?;
     match found {
-        Finding::Law(k) => Ok(Standing::Stops(Node::Law(k))),
+        Finding::Law(k) => Ok(Standing::Stops(SiphonNode::Law(k))),
         Finding::Cover(k) => Ok(Standing::Stands(k)),
     }
 }
@@ -100,7 +100,7 @@ fn visit(net: &Network, search: &mut Search, place: Place) -> Result<Option<usiz
             Ok(None)
         }
         Standing::Stands(cover) => {
-            put_node(&mut search.nodes, Node::Fork)?;
+            put_node(&mut search.nodes, SiphonNode::Fork)?;
             Ok(Some(cover))
         }
     }

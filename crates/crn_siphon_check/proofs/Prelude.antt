@@ -6,7 +6,9 @@ pub use Rattle.crn_cert.specs.declared.answer.Answer.{Answer}
 pub use Rattle.crn_cert.specs.declared.answer.Proof.TheVariants.{Nothing}
 pub use Rattle.crn_cert.specs.declared.answer.Verdict.TheVariants.{NoVec}
 pub use Rattle.crn_siphon_check.specs.Answers.{NoLaw, NoSiphon, Yes as SaysYes, Spent, ValidAnswersAreTrue, Wide}
+pub use Rattle.crn_siphon_check.specs.PlanCode.{plan_back}
 pub use Rattle.crn_siphon_check.specs.Prefixes.{IsBad, IsOut}
+pub use Rattle.crn_siphon_check.specs.Preorder.{Listed, first_tree, preorder, tree_of, trees_of, weights_of}
 pub use Rattle.crn_siphon_check.specs.SiphonVisits.{AreLonger, AreOne, Passes, Visits, begun, below, children, ended, fallen, opened, over, past, root}
 pub use Rattle.crn_siphon_check.specs.Siphons.{ContainsLaw, Covers, HasMember, HoldsMember, IsSemiLaw, IsSiphon, IsZeroOutside, set_of}
 pub use Rattle.crn_siphon_check.specs.Trees.{Bad, Fork, IsValidTree, Law, Plan, Void}

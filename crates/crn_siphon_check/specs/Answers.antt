@@ -12,7 +12,7 @@ use Rattle.crn_cert.specs.Ranges.{AreFree, AreBits}
 use Rattle.crn_cert.specs.Data.{IsBasisOf}
 use Rattle.crn_cert.specs.Says.{RuleOutConservation}
 use Rattle.crn_siphon_check.specs.Siphons.{IsSiphon, Covers, IsPersistent, set_of}
-use Rattle.crn_siphon_check.specs.Trees.{Plan, plan_of, IsValidTree, IsFormedTree, node_count}
+use Rattle.crn_siphon_check.specs.Trees.{Plan, IsValidTree, IsFormedTree, node_count}
 use Rattle.crn_siphon_check.specs.SiphonVisits.{PassesBudget}
 use Rattle.crn_siphon_check.specs.declared.answer.Persist.{Persist}
 use Rattle.crn_siphon_check.specs.declared.answer.Persist.TheVariants as given
@@ -34,7 +34,7 @@ pub data Said : Type 0 where
 
 -- what an answer says
 abbrev pub said_of : Persist → Said
-said_of (given.Yes law tree) = Yes law.list (plan_of tree)
+said_of (given.Yes law tree) = Yes law.list tree
 said_of (given.NoLaw cut) = NoLaw cut.list
 said_of (given.NoSiphon marks cover) = NoSiphon marks.list cover.list
 said_of (given.Wide system index basis) = Wide system index basis.list

@@ -1,14 +1,13 @@
 -- Trees that show that each siphon contains the species of a law.
 -- Source: this project's own.
--- Shapes: a tree is at a prefix of sets of species. A plan is a tree without what holds its parts.
+-- Shapes: a tree is at a prefix of sets of species.
 use Rattle.std.specs.Prelude.{◌≤◌, ◌<◌, ◌+◌, ℕ, ℤ, true, false, Bool, List, [], ◌∷◌, ◌++◌, length}
 use Rattle.crn_vec.specs.Network.{Net}
 use Rattle.crn_cert.specs.Ranges.{AreFree}
 use Rattle.crn_siphon_check.specs.Siphons.{IsSemiLaw, IsZeroOutside}
 use Rattle.crn_siphon_check.specs.Prefixes.{IsBad, IsVoid}
-use Rattle.crn_siphon_check.specs.declared.tree.SiphonTree.{SiphonTree, Fork', Bad as TreeBad, Law as TreeLaw, Void as TreeVoid}
 
--- a tree
+-- a tree as contracts see it
 pub data Plan : Type 0 where
   -- the next species is in, or out
   Fork : (inside outside : Plan) → Plan
@@ -18,13 +17,6 @@ pub data Plan : Type 0 where
   Law : List ℤ → Plan
   -- all species are out
   Void : Plan
-
--- the plan of a tree
-abbrev pub plan_of : SiphonTree → Plan
-plan_of (Fork' p inside q outside) = Fork (plan_of inside) (plan_of outside)
-plan_of (TreeBad r) = Bad r
-plan_of (TreeLaw weights) = Law weights.list
-plan_of TreeVoid = Void
 
 -- a tree is valid at a prefix: a fork has a next species, and trees that are valid with it in and
 -- with it out; a reaction or a law stops the prefix; or the prefix is void

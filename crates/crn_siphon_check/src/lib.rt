@@ -5,6 +5,7 @@ mod answer;
 mod laws;
 mod members;
 mod tree;
+mod tree_node;
 mod weights;
 
 pub use answer::{Outcome, Persist};
@@ -14,4 +15,5 @@ pub use laws::{
 };
 pub use members::{is_siphon, is_void, stops};
 pub use tree::SiphonTree;
+pub use tree_node::SiphonNode;
 pub use weights::is_zero_outside;

@@ -17,10 +17,11 @@ pub use Rattle.crn_ctext.specs.Records.{Field, Fits, Form, Free, Record, Rising,
 pub use Rattle.crn_ctext.specs.Steps.{StepGives}
 pub use Rattle.crn_ctext.specs.declared.part.Choice.{Choice}
 pub use Rattle.crn_ctext.specs.declared.part.Field.{Field as Run}
-pub use Rattle.crn_io.proofs.CallerLemmas.{WroteAll-then}
+pub use Rattle.crn_io.proofs.CallerLemmas.{Wrote-all, WroteAll-then}
 pub use Rattle.crn_io.specs.Device.{SourceSeen}
 pub use Rattle.crn_io.specs.Lines.{Place}
 pub use Rattle.crn_io.specs.Next.{KeptLines}
+pub use Rattle.crn_io.specs.Write.{WroteAll}
 pub use Rattle.crn_reading.proofs.CallerLemmas.{IsGiven, answer_stops, answer_then, document_answered, document_gives, end_exits, forms_named, head_stop, head_then, last_exits, memory_stops, own_fails, own_holds, place_is, placed, read_to_the_end, step_exits, step_gives, step_map, step_then_ends, step_then_is, stop_after, stop_first, tests_fail, tests_give, words_named}
 unfoldable pub use Rattle.crn_reading.proofs.CallerLemmas.{find}
 pub use Rattle.crn_reading.specs.Records.{IsPartSaid}
@@ -30,14 +31,17 @@ pub use Rattle.crn_reading.specs.declared.fault.CheckStop.TheVariants.{Rejected}
 pub use Rattle.crn_reading.specs.declared.reading.Reading.{Reading}
 pub use Rattle.crn_siphon_check.specs.Answers.{IsFormed, IsValid, NoLaw, NoSiphon, Said, Yes as SaysYes, Spent, Wide, said_of}
 pub use Rattle.crn_siphon_check.specs.Prefixes.{IsBad, IsOut, IsVoid}
+pub use Rattle.crn_siphon_check.specs.Preorder.{AreNodesOf, listed, preorder, weights_of}
 pub use Rattle.crn_siphon_check.specs.Siphons.{Covers, HasMember, HoldsMember, IsClosed, IsSemiLaw, IsSiphon, IsZeroOutside, set_of}
-pub use Rattle.crn_siphon_check.specs.Trees.{Bad, Fork, IsFormedTree, IsValidTree, Law, Plan, Void, node_count, plan_of}
+pub use Rattle.crn_siphon_check.specs.Trees.{Bad, Fork, IsFormedTree, IsValidTree, Law, Plan, Void, node_count}
 pub use Rattle.crn_siphon_check.specs.declared.answer.Outcome.{Outcome}
 pub use Rattle.crn_siphon_check.specs.declared.answer.Outcome.TheVariants.{No, Undecided, Yes}
+pub use Rattle.crn_siphon_check.specs.declared.tree_node.SiphonNode.{SiphonNode}
 pub use Rattle.crn_siphon_text.specs.Document.{Forks, HasFewNodes, HasLaw, IsBadBy, IsOutcomeOf, IsOwn, Node, Voids, WrittenAreDocuments, asks_cover, asks_no, asks_node, asks_none, asks_persist, asks_rest, asks_yes, cover_forms, goes_on, law_forms, leaf, meant, no_forms, node_forms, node_of, outcome_of, part, records, tree_records, verdict_forms, wide_form, words}
 unfoldable pub use Rattle.crn_siphon_text.specs.Document.{asks_tree}
 pub use Rattle.crn_siphon_text.specs.Inner.LinesRead.{ReadsOutcome}
 pub use Rattle.crn_siphon_text.specs.Inner.NodesRead.{asks_children}
+pub use Rattle.crn_siphon_text.specs.Inner.Written.{record_of}
 pub use Rattle.crn_vec.proofs.CallerLemmas.{all_at, all_from, all_given, all_in, lt_or, map_more, past_end, refused, same_test, vector_at, vectors_count, zip_append}
 pub use Rattle.crn_vec.specs.Deficiency.{IsConservationLaw, vectors}
 pub use Rattle.crn_vec.specs.Lists.{IsIn}
@@ -45,11 +49,11 @@ pub use Rattle.crn_vec.specs.Network.{Holds, IsNetwork, Net, amount_at, reaction
 pub use Rattle.crn_vec.specs.Rank.{combination_at}
 pub use Rattle.crn_vec.specs.Vectors.{dot, entry}
 pub use Rattle.crn_vec.specs.declared.limits.TheConstants.{MAX_BUDGET}
-pub use Rattle.std.proofs.Common.{Bool, Err, List, Ok, Result, [], ap, append_assoc, ap₂, arith, false, get_or, inl, inr, length, map, of_z, refl, subst, suc, sym, take, true, zero, ℕ, ◌*◌, ◌++◌, ◌+◌, ◌-◌, ◌<◌, ◌∙◌, ◌∷◌, ◌≡◌, ◌≢◌, ◌≤◌, ◌⊎◌}
+pub use Rattle.std.proofs.Common.{Bool, Err, List, Ok, Result, [], ap, append_assoc, ap₂, arith, drop, false, get_or, inl, inr, length, map, of_z, refl, subst, suc, sym, take, true, zero, ℕ, ◌*◌, ◌++◌, ◌+◌, ◌-◌, ◌<◌, ◌∙◌, ◌∷◌, ◌≡◌, ◌≢◌, ◌≤◌, ◌⊎◌}
 pub use Rattle.std.proofs.lemmas.Bool.{false≢true}
 pub use Rattle.std.proofs.lemmas.Bool.Decides.{Decides-int_eq}
 pub use Rattle.std.proofs.lemmas.Int.{ints}
-pub use Rattle.std.proofs.lemmas.List.{append-nil, length-append, length-map, map-append, take_all}
+pub use Rattle.std.proofs.lemmas.List.{append-nil, length-append, length-map, map-append, take-append-drop, take_all, take_more}
 pub use Rattle.std.proofs.lemmas.List.Concat.{flat_map-append}
 pub use Rattle.std.proofs.lemmas.Result.{err_from_is_err_and}
 pub use Rattle.std.specs.Int.{w128}

@@ -1,32 +1,52 @@
-ghost use Rattle.std.specs.Prelude.{◌∷◌, codes, map, pos};
+ghost use Rattle.std.specs.Prelude.{◌≡◌, [], ◌∷◌, codes, map, pos, slice_index_or};
 ghost use Rattle.crn_io.specs.Write.{Wrote};
 ghost use Rattle.crn_ctext.specs.Documents.{record_lines};
 ghost use Rattle.crn_ctext.specs.Records.{line};
 ghost use Rattle.crn_ctext.specs.Parts.{part_document};
 ghost use Rattle.crn_siphon_check.specs.Answers.{IsFormed, said_of};
 ghost use Rattle.crn_siphon_text.specs.Document.{records, tree_records};
-ghost use Rattle.crn_siphon_check.specs.Trees.{plan_of};
+ghost use Rattle.crn_siphon_check.specs.Preorder.{listed, weights_of};
+ghost use Rattle.crn_siphon_text.specs.Inner.Written.{record_of};
 
 use crn_ctext::{put_free, put_nums, put_part_opening, put_small};
 use crn_io::{Sink, WriteFault, put_all};
 use crn_net::Network;
-use crn_siphon_check::{Persist, SiphonTree};
+use crn_siphon_check::{Persist, SiphonNode, SiphonTree};
+use crn_vec::Ints;
+
+// The weights of the law at a place, and none if there is none.
+fn weights_at(laws: &[Ints], k: usize) -> &[i128]
+    ensures { result.now ≡ slice_index_or (weights_of laws.now) k [] }
+{
+    match laws.get(k) {
+        Some(weights) => weights.as_slice(),
+        None => &[],
+    }
+}
+
+// The line of a node.
+fn put_node<K: Sink>(sink: &mut K, laws: &[Ints], node: &SiphonNode) -> Result<(), WriteFault>
+    ensures { Wrote (record_lines (record_of (listed (weights_of laws.now) node.now) ∷ []))
+        (K.seen sink.old) (K.seen sink.new) result }
+{
+    match node {
+        SiphonNode::Fork => put_free(sink, b"fork", &[]),
+        SiphonNode::Bad(reaction) => put_small(sink, b"bad", &[*reaction]),
+        SiphonNode::Law(k) => put_free(sink, b"law", weights_at(laws, *k)),
+        SiphonNode::Void => put_free(sink, b"void", &[]),
+    }
+}
 
 // The nodes of a tree, in preorder.
 fn put_tree<K: Sink>(sink: &mut K, tree: &SiphonTree) -> Result<(), WriteFault>
-    ensures { Wrote (record_lines (tree_records (plan_of tree.now)))
+    ensures { Wrote (record_lines (tree_records tree.now))
         (K.seen sink.old) (K.seen sink.new) result }
 {
-    match tree {
-        SiphonTree::Fork { inside, outside } => {
-            put_free(sink, b"fork", &[])?;
-            put_tree(sink, inside)?;
-            put_tree(sink, outside)
-        }
-        SiphonTree::Bad(reaction) => put_small(sink, b"bad", &[*reaction]),
-        SiphonTree::Law(weights) => put_free(sink, b"law", weights.as_slice()),
-        SiphonTree::Void => put_free(sink, b"void", &[]),
+    let (nodes, laws) = tree.parts();
+    for node in nodes {
+        put_node(sink, laws, node)?;
     }
+    Ok(())
 }
 
 // The line of an answer that is open by a wide vector.

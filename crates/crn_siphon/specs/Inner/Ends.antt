@@ -2,7 +2,7 @@
 -- How the visits of a network end, the first of which is that of the empty prefix.
 use Rattle.std.specs.Prelude.{◌≡◌, ◌≤◌, ℕ, []}
 use Rattle.crn_vec.specs.Network.{Net}
-use Rattle.crn_siphon_check.specs.Trees.{plan_of, IsFormedTree, IsValidTree, node_count}
+use Rattle.crn_siphon_check.specs.Trees.{IsFormedTree, IsValidTree, node_count}
 use Rattle.crn_siphon_check.specs.SiphonVisits.{PassesBudget}
 use Rattle.crn_siphon_check.specs.Answers.{Wide, said_of}
 use Rattle.crn_siphon_check.specs.declared.answer.Persist.{Persist}
@@ -16,8 +16,8 @@ use Rattle.crn_siphon.specs.Inner.Search.{IsFoundBy}
 abbrev pub IsEndOfVisits : Net → (budget : ℕ) → Shown → Type 0
 IsEndOfVisits net budget (Siphon marks cover) = IsFoundBy net marks.list cover.list
     × (PassesBudget net budget → ⊥)
-IsEndOfVisits net budget (Tree tree) = (IsValidTree net [] (plan_of tree) × IsFormedTree net 0 (plan_of tree))
-    × (PassesBudget net budget → ⊥) × (node_count (plan_of tree) ≤ budget)
+IsEndOfVisits net budget (Tree tree) = (IsValidTree net [] tree × IsFormedTree net 0 tree)
+    × (PassesBudget net budget → ⊥) × (node_count tree ≤ budget)
 IsEndOfVisits net budget Spent = PassesBudget net budget
 
 -- the answer if a solver of this system stopped: the system is wide there

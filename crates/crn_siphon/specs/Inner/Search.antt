@@ -13,8 +13,7 @@ use Rattle.crn_siphon.specs.declared.sets.SpeciesSet.{SpeciesSet}
 use Rattle.crn_siphon.specs.declared.search.Search.{Search}
 use Rattle.crn_siphon.specs.declared.search.End.{End}
 use Rattle.crn_siphon.specs.declared.search.End.TheVariants.{Found, Refuted, Spent}
-use Rattle.crn_siphon.specs.declared.node.Node.{Node}
-use Rattle.crn_siphon.specs.declared.node.Node.TheVariants.{Fork as NodeFork}
+use Rattle.crn_siphon_check.specs.declared.tree_node.SiphonNode.TheVariants.{Fork as NodeFork}
 use Rattle.crn_siphon.specs.declared.known.Known.{Known}
 use Rattle.crn_siphon.specs.Inner.Sets.{mark, marks}
 use Rattle.crn_siphon.specs.declared.place.Place.{Place}

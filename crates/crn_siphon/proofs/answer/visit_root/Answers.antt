@@ -1,4 +1,5 @@
-use Rattle.crn_siphon.proofs.Prelude.{[], ℕ, arith, ap, refl, ◌∙◌, Fact, marks, err_from_is_err_and}
+use Rattle.crn_siphon.proofs.Prelude.{[], ℕ, arith, ap, refl, ◌∙◌, Fact, marks, err_from_is_err_and, Vec, Global, Node, weights_of}
+use Rattle.crn_siphon.proofs.Nodes.{same_tree}
 use Rattle.crn_siphon.proofs.Stops.{root_place, root_last}
 use Rattle.crn_siphon.proofs.EndLaws.{siphon_shown, tree_shown, found_end, refuted_end, spent_end, all_put}
 use Rattle.crn_siphon.proofs.answer.visit_root.Goals as goal
@@ -18,17 +19,20 @@ returns-in_ok-cover-in-Found c =
     siphon_shown net c.args.search.now.left c.walk.new.search.left _ c.in_ok-marks-in-Found.marks c.in_ok-cover-in-Found.cover (c.in_ok-marks-in-Found.ensures ∙ ap (λ (n : ℕ). marks c.in-Found.inside n) c.species.ensures.count) h.numbers
     (c.in_ok-cover-in-Found.ensures.list ∙ ap (λ (f : Fact). f.numbers.list) c.index.ensures ∙ (let is = h.at.is in is c.index.result.now)) h.ends
 
-pub next_tree-requires : goal.next_tree-requires
-next_tree-requires c =
+pub new-requires-in-Refuted : goal.new-requires-in-Refuted
+new-requires-in-Refuted c =
     let h = refuted_end c.args.search.now c.walk.new.search _ c.in-Refuted.is (c.in_ok-inside.ensures.answer [] (root_place _ refl refl refl)) in
-    (h.0, _, all_put c.args.search.now c.walk.new.search c.deref.result.now c.deref-in-Refuted.result.now h.0 c.deref.ensures.value c.deref-in-Refuted.ensures.value c.requires.fresh h.2)
+    let nodes = ap (λ (v : Vec Node Global). v.items) c.replace-nodes.ensures.value in
+    (h.0, all_put c.args.search.now c.walk.new.search c.deref.result.now c.replace-nodes.result.items (weights_of c.in_ok-laws-in-Refuted.laws.items) h.0 c.deref.ensures.value nodes c.requires.fresh c.in_ok-laws-in-Refuted.ensures h.2)
 
-pub returns-in_ok-tree-in-Refuted : goal.returns-in_ok-tree-in-Refuted
-returns-in_ok-tree-in-Refuted c =
+pub returns-in_ok-laws-in-Refuted : goal.returns-in_ok-laws-in-Refuted
+returns-in_ok-laws-in-Refuted c =
     let net = c.args.net.now in
     let h = refuted_end c.args.search.now c.walk.new.search _ c.in-Refuted.is (c.in_ok-inside.ensures.answer [] (root_place _ refl refl refl)) in
-    let put = all_put c.args.search.now c.walk.new.search c.deref.result.now c.deref-in-Refuted.result.now h.0 c.deref.ensures.value c.deref-in-Refuted.ensures.value c.requires.fresh h.2 in
-    tree_shown net c.args.search.now.left c.walk.new.search.left h.0 c.in_ok-tree-in-Refuted.tree ((c.in_ok-tree-in-Refuted.ensures h.0 _ put).0) h.1
+    let nodes = ap (λ (v : Vec Node Global). v.items) c.replace-nodes.ensures.value in
+    let weights = weights_of c.in_ok-laws-in-Refuted.laws.items in
+    let put = all_put c.args.search.now c.walk.new.search c.deref.result.now c.replace-nodes.result.items weights h.0 c.deref.ensures.value nodes c.requires.fresh c.in_ok-laws-in-Refuted.ensures h.2 in
+    tree_shown net c.args.search.now.left c.walk.new.search.left h.0 c.new-in-Refuted.result (same_tree c.new-in-Refuted.result h.0 weights c.replace-nodes.result.items c.new-in-Refuted.ensures put) h.1
 
 pub returns-in-Spent : goal.returns-in-Spent
 returns-in-Spent c =

@@ -1,4 +1,4 @@
-use Rattle.crn_siphon_text.proofs.Prelude.{map, [], ◌∷◌, err_from_is_err_and, WroteAll-then, one_word, stops_first, stops_later, ends_with, wrote_as, line_of_word, word_then, lines_two, lines_three, plan_of, tree_records}
+use Rattle.crn_siphon_text.proofs.Prelude.{map, [], ◌∷◌, err_from_is_err_and, WroteAll-then, one_word, stops_first, stops_later, ends_with, wrote_as, line_of_word, word_then, lines_two, lines_three, tree_records}
 use Rattle.std.proofs.Common.{codes, pos}
 use Rattle.crn_siphon_text.proofs.Written.{yes_lines}
 use Rattle.crn_siphon_text.proofs.write.put_answer.Goals as goal
@@ -6,18 +6,18 @@ use Rattle.crn_siphon_text.proofs.write.put_answer.Goals as goal
 pub returns-in_err-put_free-in-Yes : goal.returns-in_err-put_free-in-Yes
 returns-in_err-put_free-in-Yes g c =
     let p = err_from_is_err_and c.from_residual.result c.from_residual.ensures.1 in
-    rw c.in-Yes.is (stops_first _ (word_then (codes "yes") [] (one_word (codes "vec") c.in-Yes.law.list ∷ tree_records (plan_of c.in-Yes.tree))) p.1 c.in_err-put_free-in-Yes.ensures.prefix)
+    rw c.in-Yes.is (stops_first _ (word_then (codes "yes") [] (one_word (codes "vec") c.in-Yes.law.list ∷ tree_records c.in-Yes.tree)) p.1 c.in_err-put_free-in-Yes.ensures.prefix)
 
 pub returns-in_err-put_free-in-Yes-2 : goal.returns-in_err-put_free-in-Yes-2
 returns-in_err-put_free-in-Yes-2 g c =
     let p = err_from_is_err_and c.from_residual-in_err-put_free-in-Yes-2.result c.from_residual-in_err-put_free-in-Yes-2.ensures.1 in
     let second = rw c.as_slice.ensures at c.in_err-put_free-in-Yes-2.ensures in
-    rw c.in-Yes.is (stops_later _ (yes_lines c.in-Yes.law.list (tree_records (plan_of c.in-Yes.tree))) p.1 c.in_ok-put_free-in-Yes.ensures.all second.prefix)
+    rw c.in-Yes.is (stops_later _ (yes_lines c.in-Yes.law.list (tree_records c.in-Yes.tree)) p.1 c.in_ok-put_free-in-Yes.ensures.all second.prefix)
 
 pub returns-in_ok-put_free-in-Yes-2 : goal.returns-in_ok-put_free-in-Yes-2
 returns-in_ok-put_free-in-Yes-2 g c =
     let second = rw c.as_slice.ensures at c.in_ok-put_free-in-Yes-2.ensures in
-    rw c.in-Yes.is (ends_with (yes_lines c.in-Yes.law.list (tree_records (plan_of c.in-Yes.tree))) (WroteAll-then c.in_ok-put_free-in-Yes.ensures.all second.all) c.put_tree.ensures)
+    rw c.in-Yes.is (ends_with (yes_lines c.in-Yes.law.list (tree_records c.in-Yes.tree)) (WroteAll-then c.in_ok-put_free-in-Yes.ensures.all second.all) c.put_tree.ensures)
 
 pub returns-in_err-put_free-in-NoLaw : goal.returns-in_err-put_free-in-NoLaw
 returns-in_err-put_free-in-NoLaw g c =
