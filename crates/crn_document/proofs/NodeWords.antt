@@ -83,54 +83,12 @@ no : {A : Type 0} → false ≡ true → A
 no e = absurd cc
 
 by_text : (w : Word) → ByText w
-by_text words.Q1 = record { split = λ e. no e; flat = λ e. no e; cut_a = λ e. no e; cut_b = λ e. no e; ref_a = λ e. no e }
-by_text words.Q2 = record { split = λ e. no e; flat = λ e. no e; cut_a = λ e. no e; cut_b = λ e. no e; ref_a = λ e. no e }
-by_text words.Q3 = record { split = λ e. no e; flat = λ e. no e; cut_a = λ e. no e; cut_b = λ e. no e; ref_a = λ e. no e }
-by_text words.Q4 = record { split = λ e. no e; flat = λ e. no e; cut_a = λ e. no e; cut_b = λ e. no e; ref_a = λ e. no e }
-by_text words.Q5 = record { split = λ e. no e; flat = λ e. no e; cut_a = λ e. no e; cut_b = λ e. no e; ref_a = λ e. no e }
-by_text words.Q6 = record { split = λ e. no e; flat = λ e. no e; cut_a = λ e. no e; cut_b = λ e. no e; ref_a = λ e. no e }
-by_text words.Q7 = record { split = λ e. no e; flat = λ e. no e; cut_a = λ e. no e; cut_b = λ e. no e; ref_a = λ e. no e }
-by_text words.Q8 = record { split = λ e. no e; flat = λ e. no e; cut_a = λ e. no e; cut_b = λ e. no e; ref_a = λ e. no e }
-by_text words.Q9 = record { split = λ e. no e; flat = λ e. no e; cut_a = λ e. no e; cut_b = λ e. no e; ref_a = λ e. no e }
-by_text words.Q10 = record { split = λ e. no e; flat = λ e. no e; cut_a = λ e. no e; cut_b = λ e. no e; ref_a = λ e. no e }
-by_text words.Q11 = record { split = λ e. no e; flat = λ e. no e; cut_a = λ e. no e; cut_b = λ e. no e; ref_a = λ e. no e }
-by_text words.Q12 = record { split = λ e. no e; flat = λ e. no e; cut_a = λ e. no e; cut_b = λ e. no e; ref_a = λ e. no e }
-by_text words.Q13 = record { split = λ e. no e; flat = λ e. no e; cut_a = λ e. no e; cut_b = λ e. no e; ref_a = λ e. no e }
-by_text words.Q14 = record { split = λ e. no e; flat = λ e. no e; cut_a = λ e. no e; cut_b = λ e. no e; ref_a = λ e. no e }
-by_text words.Q15 = record { split = λ e. no e; flat = λ e. no e; cut_a = λ e. no e; cut_b = λ e. no e; ref_a = λ e. no e }
-by_text words.Label = record { split = λ e. no e; flat = λ e. no e; cut_a = λ e. no e; cut_b = λ e. no e; ref_a = λ e. no e }
-by_text words.Up = record { split = λ e. no e; flat = λ e. no e; cut_a = λ e. no e; cut_b = λ e. no e; ref_a = λ e. no e }
-by_text words.Depth = record { split = λ e. no e; flat = λ e. no e; cut_a = λ e. no e; cut_b = λ e. no e; ref_a = λ e. no e }
-by_text words.From = record { split = λ e. no e; flat = λ e. no e; cut_a = λ e. no e; cut_b = λ e. no e; ref_a = λ e. no e }
-by_text words.To = record { split = λ e. no e; flat = λ e. no e; cut_a = λ e. no e; cut_b = λ e. no e; ref_a = λ e. no e }
-by_text words.FromDepth = record { split = λ e. no e; flat = λ e. no e; cut_a = λ e. no e; cut_b = λ e. no e; ref_a = λ e. no e }
-by_text words.ToDepth = record { split = λ e. no e; flat = λ e. no e; cut_a = λ e. no e; cut_b = λ e. no e; ref_a = λ e. no e }
-by_text words.Level = record { split = λ e. no e; flat = λ e. no e; cut_a = λ e. no e; cut_b = λ e. no e; ref_a = λ e. no e }
-by_text words.Exit = record { split = λ e. no e; flat = λ e. no e; cut_a = λ e. no e; cut_b = λ e. no e; ref_a = λ e. no e }
-by_text words.Back = record { split = λ e. no e; flat = λ e. no e; cut_a = λ e. no e; cut_b = λ e. no e; ref_a = λ e. no e }
-by_text words.Base = record { split = λ e. no e; flat = λ e. no e; cut_a = λ e. no e; cut_b = λ e. no e; ref_a = λ e. no e }
-by_text words.Dual = record { split = λ e. no e; flat = λ e. no e; cut_a = λ e. no e; cut_b = λ e. no e; ref_a = λ e. no e }
-by_text words.Comb = record { split = λ e. no e; flat = λ e. no e; cut_a = λ e. no e; cut_b = λ e. no e; ref_a = λ e. no e }
-by_text words.Vec = record { split = λ e. no e; flat = λ e. no e; cut_a = λ e. no e; cut_b = λ e. no e; ref_a = λ e. no e }
-by_text words.Cut = record { split = λ e. no e; flat = λ e. no e; cut_a = λ e. no e; cut_b = λ e. no e; ref_a = λ e. no e }
-by_text words.Side = record { split = λ e. no e; flat = λ e. no e; cut_a = λ e. no e; cut_b = λ e. no e; ref_a = λ e. no e }
-by_text words.Walk = record { split = λ e. no e; flat = λ e. no e; cut_a = λ e. no e; cut_b = λ e. no e; ref_a = λ e. no e }
-by_text words.Tie = record { split = λ e. no e; flat = λ e. no e; cut_a = λ e. no e; cut_b = λ e. no e; ref_a = λ e. no e }
-by_text words.Shelves = record { split = λ e. no e; flat = λ e. no e; cut_a = λ e. no e; cut_b = λ e. no e; ref_a = λ e. no e }
-by_text words.Mu = record { split = λ e. no e; flat = λ e. no e; cut_a = λ e. no e; cut_b = λ e. no e; ref_a = λ e. no e }
-by_text words.M = record { split = λ e. no e; flat = λ e. no e; cut_a = λ e. no e; cut_b = λ e. no e; ref_a = λ e. no e }
-by_text words.Weights = record { split = λ e. no e; flat = λ e. no e; cut_a = λ e. no e; cut_b = λ e. no e; ref_a = λ e. no e }
-by_text words.Alpha = record { split = λ e. no e; flat = λ e. no e; cut_a = λ e. no e; cut_b = λ e. no e; ref_a = λ e. no e }
 by_text words.Split = record { split = λ e. refl; flat = λ e. no e; cut_a = λ e. no e; cut_b = λ e. no e; ref_a = λ e. no e }
 by_text words.Flat = record { split = λ e. no e; flat = λ e. refl; cut_a = λ e. no e; cut_b = λ e. no e; ref_a = λ e. no e }
 by_text words.CutA = record { split = λ e. no e; flat = λ e. no e; cut_a = λ e. refl; cut_b = λ e. no e; ref_a = λ e. no e }
 by_text words.CutB = record { split = λ e. no e; flat = λ e. no e; cut_a = λ e. no e; cut_b = λ e. refl; ref_a = λ e. no e }
-by_text words.End = record { split = λ e. no e; flat = λ e. no e; cut_a = λ e. no e; cut_b = λ e. no e; ref_a = λ e. no e }
-by_text words.Vectors = record { split = λ e. no e; flat = λ e. no e; cut_a = λ e. no e; cut_b = λ e. no e; ref_a = λ e. no e }
-by_text words.Vector = record { split = λ e. no e; flat = λ e. no e; cut_a = λ e. no e; cut_b = λ e. no e; ref_a = λ e. no e }
-by_text words.Section = record { split = λ e. no e; flat = λ e. no e; cut_a = λ e. no e; cut_b = λ e. no e; ref_a = λ e. no e }
 by_text words.RefA = record { split = λ e. no e; flat = λ e. no e; cut_a = λ e. no e; cut_b = λ e. no e; ref_a = λ e. refl }
-by_text words.RefB = record { split = λ e. no e; flat = λ e. no e; cut_a = λ e. no e; cut_b = λ e. no e; ref_a = λ e. no e }
+by_text w = record { split = λ e. no e; flat = λ e. no e; cut_a = λ e. no e; cut_b = λ e. no e; ref_a = λ e. no e }
 
 -- a node of none of the first five words names a list for part B
 cases_second : (a s k : ℕ) (word : Word) (w : List ℕ) (zs : List ℤ) → Cases a s k w zs → w ≡ text_of word → (word ≡ words.Split → ⊥) → (word ≡ words.Flat → ⊥) → (word ≡ words.CutA → ⊥) → (word ≡ words.CutB → ⊥) → (word ≡ words.RefA → ⊥) → (w ≡ codes "refb") × NamesOne k zs
