@@ -1,15 +1,6 @@
 -- The answers of the reactions together.
 use Rattle.crn_endo.proofs.Prelude.{◌≡◌, ℕ, ◌+◌, ◌-◌, ◌<◌, ◌≤◌, inl, inr, List, [], ◌∷◌, ◌++◌, length, map, get_or, refl, sym, ap, subst, ◌∙◌, add-one, arith, sum, get_or_append_left, get_or-append_right, length-append, map-append, sum_by_push, MAX_BUDGET, Net, IsNetwork, PassesBudget, all_push, eq_or, IsFrom, Plan, Level, IsValid, AreNarrow, node_count, places, count_places, Endo, Yes, No, Wide, Spent, Large, IsSmallEnough, slopes, AreValidTrees, NamesReaction, slope_basis, trees_formed, AreRefutedWithin, IsEndoAnswer, all_nodes, AreDone, EndsAnswer, IsDecidedAt, Refuted}
 
-pub none_done : (net : Net) (budget : ℕ) → AreDone net budget 0 budget []
-none_done net budget = record {
-  count = refl;
-  valid = λ m lt. absurd (omega (arith, lt));
-  narrow = tt;
-  refuted = refl;
-  within = omega arith;
-}
-
 nodes_push : (trees : List Plan) (t : Plan) → all_nodes (trees ++ t ∷ []) ≡ all_nodes trees + node_count t
 nodes_push trees t = ap sum (map-append node_count trees (t ∷ [])) ∙ sum_by_push (λ (n : ℕ). n) (map node_count trees) (node_count t)
 

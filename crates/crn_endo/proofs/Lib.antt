@@ -1,6 +1,7 @@
 pub mod CallerLemmas
 mod Together
 mod Searched
+mod Alone
 mod NodeCounts
 mod Answered
 mod WeakWords

@@ -1,6 +1,7 @@
 -- What the search for a slope against one reaction gives.
-use Rattle.crn_endo.proofs.Prelude.{◌≡◌, ℕ, zero, suc, ◌<◌, List, [], ◌∷◌, ◌++◌, map, take, sym, ap, subst, ◌∙◌, arith, to_z, of_z, ℤ, pos, negsuc, neg_ℤ, ◌-ℤ◌, unsigned_abs, FitsSigned, w128, AllByRecursion, ints, fits_signed_from_abs, WIDE_SOLUTION, Sign, Zero, Plus, Minus, Kind, KeptInts, Mat, entry, Net, IsNetwork, held, IsNarrow, Plan, count_places, IsSmallSolution, IsSearchEnd, Found, No, NamesReaction, IsAgainst, slopes, slope_by, slopes_feasible, IsDecidedAt, RefutedBy, Ended}
+use Rattle.crn_endo.proofs.Prelude.{◌≡◌, ℕ, zero, suc, ◌<◌, List, [], ◌∷◌, ◌++◌, map, take, sym, ap, subst, ◌∙◌, arith, to_z, of_z, ℤ, pos, negsuc, neg_ℤ, ◌-ℤ◌, unsigned_abs, FitsSigned, w128, AllByRecursion, ints, fits_signed_from_abs, WIDE_SOLUTION, Sign, Zero, Plus, Minus, Kind, KeptInts, Mat, entry, Net, IsNetwork, held, IsNarrow, Plan, count_places, IsSmallSolution, IsSearchEnd, Found, No, NamesReaction, IsAgainst, slopes, slope_by, slopes_feasible, IsDecidedAt, RefutedBy, Ended, root, places, slopes_alone, true, false}
 use Rattle.crn_sign.specs.declared.end.SearchEnd.TheVariants.{Refuted}
+use Rattle.crn_endo.proofs.Alone.{valid_on, visits_on}
 
 narrow_prefix : (n : ℕ) (v : List ℤ) → ((k : ℕ) → unsigned_abs (entry v k) < WIDE_SOLUTION) → AllByRecursion IsNarrow (take n v)
 narrow_prefix zero [] h = tt
@@ -37,7 +38,7 @@ slope_narrow (Plus ∷ q) x h = negative_narrow x h
 slope_narrow (Minus ∷ q) x h = h
 
 -- a feasible prefix with its solutions names a slope against the reaction
-pub found_is : (net : Net) (r left budget reaction : ℕ) (q : List Sign) (a b slope : KeptInts) → IsNetwork net → NamesReaction net reaction r → IsSearchEnd (slopes net r) left (Found q a b)
+pub found_is : (net : Net) (r left budget reaction : ℕ) (q : List Sign) (a b slope : KeptInts) → IsNetwork net → NamesReaction net reaction r → IsSearchEnd (slopes_alone net r) left (Found q a b)
     → slope.list ≡ slope_by q a.list → IsDecidedAt net r left budget (Ended (No reaction slope))
 found_is net r left budget reaction q a b slope n number e is =
     let solved : IsSmallSolution (slopes net r).matrix_a ((slopes net r).kinds_a q) a.list = e.0.part_a in
@@ -46,9 +47,13 @@ found_is net r left budget reaction q a b slope n number e is =
       subst (λ (w : List ℤ). IsAgainst net r w) (sym is) against,
       subst (AllByRecursion IsNarrow) (sym is) (slope_narrow q a.list (solution_narrow (slopes net r).matrix_a ((slopes net r).kinds_a q) a.list solved)),
       e.1 ++ q ∷ [],
-      e.2,
+      visits_on net r root (e.1 ++ q ∷ []) true e.2,
       e.3,
     )
 
-pub refuted_is : (net : Net) (r left budget : ℕ) (tree : Plan) → IsSearchEnd (slopes net r) left (Refuted tree) → IsDecidedAt net r left budget (RefutedBy tree)
-refuted_is net r left budget tree e = (e.0, e.1, omega (arith, e.2, count_places [] tree))
+pub refuted_is : (net : Net) (r left budget : ℕ) (tree : Plan) → IsSearchEnd (slopes_alone net r) left (Refuted tree) → IsDecidedAt net r left budget (RefutedBy tree)
+refuted_is net r left budget tree e = (
+  record { valid = valid_on net r [] tree e.0.valid; narrow = e.0.narrow },
+  visits_on net r root (places [] tree) false e.1,
+  omega (arith, e.2, count_places [] tree),
+)

@@ -1,4 +1,5 @@
 -- For the contracts of private functions alone.
 pub mod Decided
 pub mod Asked
+pub mod Alone
 pub mod Spans

@@ -91,11 +91,7 @@ fn decide_at(
             index,
             basis,
         })),
-        Err(SearchStop::WideB { index, basis, .. }) => Ok(Decided::Ended(Endo::Wide {
-            reaction,
-            index,
-            basis,
-        })),
+        Err(SearchStop::WideB { .. }) => unreachable!(),
         Err(SearchStop::NoMemory) => Err(NoMemory),
     }
 }

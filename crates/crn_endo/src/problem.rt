@@ -4,7 +4,8 @@ ghost use Rattle.crn_vec.specs.declared.signs.Sign.{Sign};
 ghost use Rattle.crn_vec.specs.declared.signs.Sign.TheVariants.{Plus};
 ghost use Rattle.crn_sign.specs.Options.{asked_kind, bit_of, word_count};
 ghost use Rattle.crn_sign.specs.Search.{IsSearchEnd, IsSearchStop};
-ghost use Rattle.crn_endo_check.specs.Slopes.{IsSmallEnough, others, reactants, slope_matrix, slopes};
+ghost use Rattle.crn_endo_check.specs.Slopes.{IsSmallEnough, others, reactants, slope_matrix};
+ghost use Rattle.crn_endo.specs.Inner.Alone.{bare, slopes_alone};
 ghost use Rattle.crn_endo.specs.Inner.Asked.{AreRaised, AskFirmly, ShowsWeak, firm_kind};
 ghost use Rattle.crn_endo.specs.Inner.Spans.{AreSpans, IsSpan};
 
@@ -19,8 +20,8 @@ use crn_sign::{
 use crn_vec::{Kind, Matrix, NoMemory, Sign};
 use std::alloc::Global;
 
-/// The sign problem of a reaction, with its further reactant complexes, the spans of all complexes, its matrix and the
-/// coordinates that are at least 0 at some prefix.
+/// The sign problem of a reaction, with its further reactant complexes, the spans of all complexes, its matrices and the
+/// coordinates that are at least 0 at some prefix. Part B requires nothing, and its matrix is as small as one can be.
 #[derive(Drop)]
 pub(crate) struct SlopeProblem<'a> {
     pub given: &'a Slopes<'a>,
@@ -28,11 +29,13 @@ pub(crate) struct SlopeProblem<'a> {
     pub further: Vec<usize>,
     pub spans: Vec<Span>,
     pub matrix: Matrix,
+    pub nothing: Matrix,
     pub weak: Vec<u64>,
     ghost net_is: { given.now.net ≡ net.now },
     ghost further_is: { further.items ≡ others net.now given.now.reaction },
     ghost spans_are: { AreSpans net.now (length net.now.reactions) spans.items },
     ghost matrix_is: { matrix ≡ slope_matrix given.now.net given.now.reaction },
+    ghost nothing_is: { nothing ≡ bare },
     ghost weak_is: { ShowsWeak given.now.net given.now.reaction weak.items },
 }
 
@@ -165,9 +168,9 @@ impl SlopeProblem<'_> {
 }
 
 impl SignProblem for SlopeProblem<'_> {
-    ghost use Rattle.crn_endo_check.specs.Slopes.{slopes};
+    ghost use Rattle.crn_endo.specs.Inner.Alone.{slopes_alone};
 
-    ghost signed = { λ p. slopes p.given.now.net p.given.now.reaction };
+    ghost signed = { λ p. slopes_alone p.given.now.net p.given.now.reaction };
 
     ghost are_sums = { λ p q words. AskFirmly p.given.now.net p.given.now.reaction q words };
 
@@ -182,7 +185,7 @@ impl SignProblem for SlopeProblem<'_> {
     }
 
     fn matrix_b(&self) -> &Matrix {
-        &self.matrix
+        &self.nothing
     }
 
     fn weak_a(&self) -> &[u64] {
@@ -227,20 +230,22 @@ pub(crate) fn search_slopes(
     requires small { IsSmallEnough given.now.net }
     requires low { 1 ≤ budget }
     requires high { budget ≤ MAX_BUDGET }
-    ensures { let w = slopes given.now.net given.now.reaction in
+    ensures { let w = slopes_alone given.now.net given.now.reaction in
         MatchResult result (IsSearchEnd w budget) (IsSearchStop w) }
 {
     let matrix = given.matrix(alloc)?;
     let weak = weak_words(alloc, given, &matrix)?;
     let further = further_of(alloc, complexes, net.reactant(reaction))?;
     let spans = spans_of(alloc, net)?;
-    let solver = Solver::new(alloc, &matrix)?;
+    let nothing = Matrix::new(alloc, 0, 1, &[])?;
+    let solver = Solver::new(alloc, &nothing)?;
     let problem = SlopeProblem {
         given,
         net,
         further,
         spans,
         matrix,
+        nothing,
         weak,
     };
     search(alloc, &problem, solver, budget, true)

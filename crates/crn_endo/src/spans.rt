@@ -1,6 +1,7 @@
 //! Where the reactions from each complex are in the list of all.
 
-ghost use Rattle.std.specs.Prelude.{◌≡◌, ◌≤◌, ◌+◌, length, IfOk};
+ghost use Rattle.std.specs.Prelude.{◌≡◌, ◌≤◌, ◌<◌, ◌+◌, length, IfOk};
+ghost use Rattle.crn_vec.specs.declared.limits.TheConstants.{MAX_REACTIONS};
 ghost use Rattle.crn_endo.specs.Inner.Spans.{AreSpans};
 
 use crn_net::Network;
@@ -16,7 +17,7 @@ pub(crate) struct Span {
 
 // A span that goes on to a later reaction.
 fn extended(span: Span, q: usize) -> Span
-    requires { q ≤ 65536 }
+    requires { q < MAX_REACTIONS }
     ensures first { result.first ≤ span.first }
     ensures here { result.first ≤ q }
     ensures end { result.end ≡ q + 1 }
