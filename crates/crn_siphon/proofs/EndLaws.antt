@@ -1,9 +1,16 @@
 -- How the visits of a prefix, of its children and of all below them end.
-use Rattle.crn_siphon.proofs.Prelude.{AreNodesOf, ◌≡◌, ℕ, suc, ◌+◌, ◌<◌, ◌≤◌, inl, inr, Bool, true, false, List, [], ◌∷◌, ◌++◌, length, map, refl, sym, ap, subst, ◌∙◌, arith, ℤ, append-nil, length-append, KeptInts, KeptNums, Net, IsNetwork, NamesWide, IsConservationLaw, reaction_system, species_system, MAX_BUDGET, rows_count, vectors_count, AreFree, AreBits, RuleOutConservation, IsLawStop, wide_basis, IsSiphon, Covers, set_of, IsFull, Stands, Plan, IsFormedTree, node_count, Visits, over, fallen, ended, opened, Passes, begun, below, children, root, PassesBudget, Said, Yes, NoLaw, NoSiphon, Wide, SpentAnswer, IsAnswer, IsFormed, IsValid, said_of, valid_answers_are_true, longer_by, visits_then, visits_ended, passes_first, passes_then, passes_at, Siphon, Tree, SpeciesSet, Fact, Node, NodeFork, Search, End, Found, Refuted, Spent, mark, IsSearchStop, EndsAt, EndsBelow, EndsWithSet, EndsFound, EndsWithTree, EndsBelowWithTree, HasGrown, HasPut, IsFoundBy, IsLeafAt, IsStanding, RunsOut, Lists, IsEndOfVisits, IsStopAnswer, Stop, StopWide, NoMemory, Persist}
+use Rattle.crn_siphon.proofs.Prelude.{Result, Ok, Err, MatchResult, OnOk, AreNodesOf, ◌≡◌, ℕ, suc, ◌+◌, ◌<◌, ◌≤◌, inl, inr, Bool, true, false, List, [], ◌∷◌, ◌++◌, length, map, refl, sym, ap, subst, ◌∙◌, arith, ℤ, append-nil, length-append, KeptInts, KeptNums, Net, IsNetwork, NamesWide, IsConservationLaw, reaction_system, species_system, MAX_BUDGET, rows_count, vectors_count, AreFree, AreBits, RuleOutConservation, IsLawStop, wide_basis, IsSiphon, Covers, set_of, IsFull, Stands, Plan, IsFormedTree, node_count, Visits, over, fallen, ended, opened, Passes, begun, below, children, root, PassesBudget, Said, Yes, NoLaw, NoSiphon, Wide, SpentAnswer, IsAnswer, IsFormed, IsValid, said_of, valid_answers_are_true, longer_by, visits_then, visits_ended, passes_first, passes_then, passes_at, Siphon, Tree, SpeciesSet, Fact, Node, NodeFork, Search, End, Found, Refuted, Spent, mark, IsSearchStop, EndsAt, EndsBelow, EndsWithSet, EndsFound, EndsWithTree, EndsBelowWithTree, HasGrown, HasPut, IsFoundBy, IsLeafAt, IsStanding, RunsOut, Lists, IsEndOfVisits, IsStopAnswer, Stop, StopWide, NoMemory, Persist}
 use Rattle.crn_siphon_check.specs.Trees.{Fork}
 use Rattle.crn_siphon.proofs.Nodes.{all_weights, tree_nodes}
 use Rattle.crn_siphon.proofs.Nodes.{fork_put, lists_more}
 use Rattle.crn_siphon.proofs.Places.{marks_set, marks_formed, standing_is_siphon}
+
+-- ---- results
+
+-- what holds of a value, with what holds if there is one
+pub ok_too : {X Y : Type 0} (P : X → Type 0) (Q : Y → Type 0) (R : Type 0) (r : Result X Y) → MatchResult r P Q → OnOk r R → MatchResult r (λ x. P x × R) Q
+ok_too P Q R (Ok x) h g = (h, g)
+ok_too P Q R (Err y) h g = h
 
 -- ---- one prefix
 

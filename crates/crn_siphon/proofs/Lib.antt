@@ -4,5 +4,6 @@ mod Systems
 mod Narrow
 mod Places
 mod Stops
+mod ChangeLaws
 mod EndLaws
 mod Prelude

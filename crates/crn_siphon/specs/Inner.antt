@@ -1,6 +1,7 @@
 -- For the contracts of private functions alone.
 pub mod Sets
 pub mod Places
+pub mod Changes
 pub mod Systems
 pub mod Known
 pub mod Nodes

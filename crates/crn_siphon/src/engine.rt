@@ -2,9 +2,9 @@ ghost use Rattle.std.specs.Prelude.{◌<◌, ◌≤◌, length};
 ghost use Rattle.crn_vec.specs.declared.limits.TheConstants.{MAX_SPECIES};
 
 use crate::dictionary::{Dictionary, Found};
-use crate::row::{Row, dot, ratio_of, scale};
+use crate::row::{Row, ratio_of, scale};
 use crate::sets::SpeciesSet;
-use crate::terms::{Term, product, take, terms_of};
+use crate::terms::{Term, product, take, terms_in, terms_of};
 use crn_net::Network;
 use crn_vec::{Ints, MAX_SPECIES, NoMemory};
 use std::alloc::Global;
@@ -14,7 +14,7 @@ use std::alloc::Global;
 struct Step {
     reaction: usize,
     terms: Vec<Term>,
-    lead: Row,
+    lead: Vec<Term>,
     value: i64,
 }
 
@@ -60,6 +60,7 @@ impl Engine {
                 let terms = terms_of(alloc, net, r)?;
                 if let Some(lead) = dictionary.eliminate(&terms) {
                     let value = product(&lead, &terms);
+                    let lead = terms_in(alloc, &lead, net.species())?;
                     steps.push(Step {
                         reaction: r,
                         terms,
@@ -89,7 +90,7 @@ impl Engine {
         'back: while left > 0 {
             left -= 1;
             let step = &self.steps[left];
-            let value = dot(&step.lead, &changes, self.dictionary.species);
+            let value = product(&changes, &step.lead);
             if value != 0 && left < MAX_SPECIES {
                 let ratio = ratio_of(value, step.value);
                 if ratio.times != 1 {

@@ -2,6 +2,7 @@ ghost use Rattle.std.specs.Prelude.{◌≡◌, ◌++◌, ◌∷◌, [], length, 
 ghost use Rattle.crn_vec.specs.NetSystems.{reaction_system};
 ghost use Rattle.crn_siphon.specs.Inner.Known.{AreCovers, AreLaws, HasMore, IsCoverIn, IsCoverOf, IsFinding, IsKnown, IsLawIn, IsLawWithin, IsSearchStop, fact};
 
+use crate::changes::{Changes, all_changes};
 use crate::engine::{Engine, Proposal};
 use crate::kinds::siphon_kinds;
 use crate::sets::{NONE, SpeciesSet, support};
@@ -19,7 +20,7 @@ pub(crate) struct Fact {
     pub species: SpeciesSet,
 }
 
-/// What earlier visits have shown: numbers of the reactions, and laws.
+/// What the reactions change, and what earlier visits have shown: numbers of the reactions, and laws.
 ///
 /// Where these answer, the solver is not asked: numbers serve each prefix whose members they increase, and a law each one whose
 /// members are all of its species. So a search asks for few of its visits.
@@ -29,6 +30,7 @@ pub(crate) struct Known {
     /// The place of the numbers that are tried first, those that served last.
     pub first: usize,
     pub laws: Vec<Fact>,
+    pub changes: Vec<Changes>,
 }
 
 /// What is asked about a set: the engine, whose answers are tested, and from its first failure on the solver of system 2.
@@ -62,6 +64,7 @@ pub(crate) fn nothing_known(alloc: Global, net: &Network) -> Result<Known, NoMem
         covers,
         first: 0,
         laws: Vec::new(alloc),
+        changes: all_changes(alloc, net)?,
     })
 }
 
@@ -178,7 +181,7 @@ fn propose(
             }
         }
         Proposal::Cover(numbers) => {
-            if let Some(species) = cover_of(net, set, numbers.as_slice()) {
+            if let Some(species) = cover_of(net, &known.changes, set, numbers.as_slice()) {
                 let cover = keep_cover(net, known, set, numbers, species)?;
                 return Ok(Some(cover));
             }
@@ -225,7 +228,7 @@ fn settle(
     let kinds = siphon_kinds(alloc, net, set)?;
     match solver.settle(&kinds)? {
         Decision::Feasible(cover) => {
-            let species = covered(net, set, cover.as_slice());
+            let species = covered(net, &known.changes, set, cover.as_slice());
             Ok(keep_cover(net, known, set, cover, species)?)
         }
         Decision::Infeasible(weights) => Ok(keep_law(net, known, set, weights)?),

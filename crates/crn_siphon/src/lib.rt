@@ -2,6 +2,8 @@
 #![tactic(auto)]
 
 mod answer;
+mod change;
+mod changes;
 mod dictionary;
 mod ends;
 mod engine;

@@ -87,17 +87,6 @@ pub(crate) fn scale(row: &mut Row, times: i64, count: usize)
     }
 }
 
-/// The sum of the products of the first entries.
-pub(crate) fn dot(row: &Row, other: &Row, count: usize) -> i64
-    requires { count ≤ MAX_SPECIES }
-{
-    let mut sum = 0i64;
-    for s in 0..count {
-        sum = sum.wrapping_add(row[s].wrapping_mul(other[s]));
-    }
-    sum
-}
-
 /// What to multiply by so that two numbers become equal, by the least numbers of which the first one is positive.
 #[derive(Clone, Copy)]
 pub(crate) struct Ratio {

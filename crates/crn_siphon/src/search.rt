@@ -123,8 +123,7 @@ fn fork(net: &Network, search: &mut Search, place: Place) -> Result<End, Stop>
         End::Refuted => {}
         end => return Ok(end),
     }
-    let end = walk(net, search, child(place, false))?;
-    Ok(end)
+    walk(net, search, child(place, false))
 }
 
 /// Visits a prefix, and all that is visited below it.
@@ -152,6 +151,5 @@ pub(crate) fn walk(net: &Network, search: &mut Search, place: Place) -> Result<E
             cover,
         });
     }
-    let end = fork(net, search, place)?;
-    Ok(end)
+    fork(net, search, place)
 }

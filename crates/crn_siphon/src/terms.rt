@@ -1,4 +1,4 @@
-ghost use Rattle.std.specs.Prelude.{◌<◌, length};
+ghost use Rattle.std.specs.Prelude.{◌<◌, ◌≤◌, length};
 ghost use Rattle.crn_vec.specs.declared.limits.TheConstants.{MAX_SPECIES};
 
 use crate::row::Row;
@@ -6,7 +6,7 @@ use crn_net::Network;
 use crn_vec::NoMemory;
 use std::alloc::Global;
 
-/// A species that a reaction changes, and by how much.
+/// A species that a reaction changes, and by how much, or one that a law weighs.
 #[derive(Clone, Copy)]
 pub(crate) struct Term {
     pub species: usize,
@@ -38,11 +38,25 @@ pub(crate) fn terms_of(alloc: Global, net: &Network, r: usize) -> Result<Vec<Ter
     Ok(terms)
 }
 
-/// What a reaction adds to the weight.
-pub(crate) fn product(weights: &Row, terms: &[Term]) -> i64 {
+/// The species to which a law gives a weight.
+pub(crate) fn terms_in(alloc: Global, law: &Row, count: usize) -> Result<Vec<Term>, NoMemory>
+    requires { count ≤ MAX_SPECIES }
+{
+    let mut terms = Vec::new(alloc);
+    for species in 0..count {
+        let change = law[species];
+        if change != 0 {
+            terms.push(Term { species, change })?;
+        }
+    }
+    Ok(terms)
+}
+
+/// The sum of the products of the numbers and the terms: what a reaction adds to the weight, or what changes add to that of a law.
+pub(crate) fn product(numbers: &Row, terms: &[Term]) -> i64 {
     let mut sum = 0i64;
     for term in terms {
-        sum = sum.wrapping_add(weights[term.species].wrapping_mul(term.change));
+        sum = sum.wrapping_add(numbers[term.species].wrapping_mul(term.change));
     }
     sum
 }

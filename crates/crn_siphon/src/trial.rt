@@ -1,11 +1,15 @@
-ghost use Rattle.std.specs.Prelude.{◌≡◌, ◌≤◌, ◌<◌, ◌+ℤ◌, ◌*ℤ◌, ℕ, ℤ, pos, ◌≤ℤ◌, IsTrue, IfSome, length};
+ghost use Rattle.std.specs.Prelude.{◌≡◌, ◌≤◌, ◌<◌, ◌+ℤ◌, ◌*ℤ◌, ◌^◌, ℕ, ℤ, pos, ◌≤ℤ◌, IsTrue, IfSome, length, unsigned_abs};
 ghost use Rattle.std.specs.List.{AllByRecursion};
 ghost use Rattle.crn_vec.specs.Vectors.{dot, entry};
 ghost use Rattle.crn_vec.specs.Rank.{combination_at};
 ghost use Rattle.crn_vec.specs.Deficiency.{IsConservationLaw, vectors};
 ghost use Rattle.crn_cert.specs.Ranges.{AreFree, IsNarrow};
+ghost use Rattle.crn_vec.specs.declared.limits.TheConstants.{MAX_SPECIES};
+ghost use Rattle.crn_siphon.specs.Inner.Changes.{AreChanges, change_at};
 ghost use Rattle.crn_siphon.specs.Inner.Known.{AreIncreased, IsCoverIn, IsLawIn};
 
+use crate::change::Change;
+use crate::changes::Changes;
 use crate::sets::{NONE, SpeciesSet, support};
 use crn_net::Network;
 use crn_vec::{MAX_SPECIES, WIDE_SOLUTION, dot_past, is_nought, skips_of};
@@ -88,31 +92,46 @@ pub(crate) fn is_positive_law(net: &Network, weights: &[i128]) -> bool
     are_free(weights, net.species()) && are_positive(weights) && is_conserved(net, weights)
 }
 
-// Adds a multiple of a number, unless the sum is too great.
-fn add_to(change: &mut i128, number: &i128, y: &i128) -> Option<()>
-    ensures { IfSome result (λ _. change.new ≡ change.old +ℤ (number.now *ℤ y.now)) }
+// Whether the absolute value is below 2^62.
+fn is_small(number: &i128) -> bool
+    ensures { IsTrue result → unsigned_abs number.now < 2 ^ 62 }
 {
-    if is_nought(y) {
-        return Some(());
-    }
-    let product = number.checked_mul(*y)?;
-    let sum = change.checked_add(product)?;
-    *change = sum;
-    Some(())
+    number.unsigned_abs() < 1 << 62
 }
 
-// Adds a multiple of a vector, unless a sum is too great.
-fn add(changes: &mut [i128], number: &i128, vector: &[i128]) -> Option<()>
-    requires { length vector.now ≤ length changes.old }
+// The product of two numbers, unless that is too great: of small ones without a test.
+fn product_of(x: &i128, y: &i128) -> Option<i128>
+    ensures { IfSome result (λ z. z ≡ x.now *ℤ y.now) }
+{
+    if is_small(x) && is_small(y) {
+        return Some(*x * *y);
+    }
+    let product = x.checked_mul(*y)?;
+    Some(product)
+}
+
+// A number with a multiple of another one, unless that is too great.
+fn sum_with(x: &i128, number: &i128, y: &i128) -> Option<i128>
+    ensures { IfSome result (λ z. z ≡ x.now +ℤ (number.now *ℤ y.now)) }
+{
+    let product = product_of(number, y)?;
+    let sum = x.checked_add(product)?;
+    Some(sum)
+}
+
+// Adds a multiple of a reaction's changes, unless a sum is too great.
+fn add(changes: &mut [i128], number: &i128, reaction: &[Change]) -> Option<()>
+    requires { MAX_SPECIES ≤ length changes.old }
     ensures count { length changes.new ≡ length changes.old }
-    ensures values { IfSome result (λ _. (k : ℕ) → k < length vector.now
-        → entry changes.new k ≡ entry changes.old k +ℤ (number.now *ℤ entry vector.now k)) }
+    ensures values { IfSome result (λ _. (s : ℕ)
+        → entry changes.new s ≡ entry changes.old s +ℤ (number.now *ℤ change_at reaction.now s)) }
 {
     if is_nought(number) {
         return Some(());
     }
-    for k in 0..vector.len() {
-        add_to(&mut changes[k], number, &vector[k])?;
+    for i in 0..reaction.len() {
+        let s = reaction[i].species;
+        changes[s] = sum_with(&changes[s], number, &reaction[i].by)?;
     }
     Some(())
 }
@@ -135,27 +154,34 @@ fn increasing(net: &Network, numbers: &[i128], changes: &[i128]) -> SpeciesSet
 }
 
 // The species that the reactions with these numbers increase, unless a sum is too great.
-fn increased_by(net: &Network, numbers: &[i128]) -> Option<SpeciesSet>
-    requires { length numbers.now ≡ length net.now.reactions }
+fn increased_by(net: &Network, all: &[Changes], numbers: &[i128]) -> Option<SpeciesSet>
+    requires changes { AreChanges net.now (length net.now.reactions) all.now }
+    requires long { length numbers.now ≡ length net.now.reactions }
     ensures { IfSome result (λ set. AreIncreased net.now set numbers.now) }
 {
     net.meets_definition();
     let mut changes = [0i128; MAX_SPECIES];
     for r in 0..net.reactions() {
-        add(&mut changes, &numbers[r], net.reaction_vector(r))?;
+        add(&mut changes, &numbers[r], &all[r].list)?;
     }
     Some(increasing(net, numbers, &changes))
 }
 
 /// The species that the reactions with these numbers increase, if each of the set is among them.
-pub(crate) fn cover_of(net: &Network, set: SpeciesSet, numbers: &[i128]) -> Option<SpeciesSet>
+pub(crate) fn cover_of(
+    net: &Network,
+    all: &[Changes],
+    set: SpeciesSet,
+    numbers: &[i128],
+) -> Option<SpeciesSet>
+    requires { AreChanges net.now (length net.now.reactions) all.now }
     ensures more { IfSome result (λ species. IsCoverIn net.now species numbers.now) }
     ensures set { IfSome result (λ _. IsCoverIn net.now set numbers.now) }
 {
     if !are_free(numbers, net.reactions()) {
         return None;
     }
-    let species = increased_by(net, numbers)?;
+    let species = increased_by(net, all, numbers)?;
     if set.is_within(species) {
         return Some(species);
     }
@@ -163,11 +189,17 @@ pub(crate) fn cover_of(net: &Network, set: SpeciesSet, numbers: &[i128]) -> Opti
 }
 
 /// The species that the reactions with these numbers increase, or those of the set, which are increased, if a sum is too great.
-pub(crate) fn covered(net: &Network, set: SpeciesSet, numbers: &[i128]) -> SpeciesSet
-    requires { IsCoverIn net.now set numbers.now }
+pub(crate) fn covered(
+    net: &Network,
+    all: &[Changes],
+    set: SpeciesSet,
+    numbers: &[i128],
+) -> SpeciesSet
+    requires changes { AreChanges net.now (length net.now.reactions) all.now }
+    requires cover { IsCoverIn net.now set numbers.now }
     ensures { IsCoverIn net.now result numbers.now }
 {
-    match cover_of(net, set, numbers) {
+    match cover_of(net, all, set, numbers) {
         Some(species) => species,
         None => set,
     }

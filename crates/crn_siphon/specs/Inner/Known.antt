@@ -20,6 +20,7 @@ use Rattle.crn_siphon.specs.declared.known.Finding.{Finding}
 use Rattle.crn_siphon.specs.declared.known.Finding.TheVariants.{Law, Cover}
 use Rattle.crn_siphon.specs.declared.known.Known.{Known}
 use Rattle.crn_siphon.specs.Inner.Sets.{Has}
+use Rattle.crn_siphon.specs.Inner.Changes.{AreChanges}
 
 -- the reactions with these numbers increase each member of the set
 abbrev pub AreIncreased : Net → SpeciesSet → (numbers : List ℤ) → Type 0
@@ -50,6 +51,7 @@ pub record IsKnown (net : Net) (known : Known) : Type 0 where
   pub covers : AreCovers net known.covers.items
   pub first : known.first < length known.covers.items
   pub laws : AreLaws net known.laws.items
+  pub changes : AreChanges net (length net.reactions) known.changes.items
 
 -- these numbers and species
 abbrev pub fact : KeptInts → SpeciesSet → Fact

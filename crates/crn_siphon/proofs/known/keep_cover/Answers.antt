@@ -11,6 +11,7 @@ returns-clause-known c =
       covers = covers_put net c.make_room.new.covers.items _ one c.in_ok-place.ensures.items c.make_room.ensures c.requires.cover;
       first = here.inside;
       laws = c.requires.known.laws;
+      changes = c.requires.known.changes;
     }
 
 pub returns-clause-answer : goal.returns-clause-answer

@@ -18,6 +18,7 @@ returns-clause-known c =
       covers = c.requires.known.covers;
       first = c.requires.known.first;
       laws = laws_put net c.args.known.now.laws.items _ (fact weights c.support-species.result) c.in_ok-place.ensures.items c.requires.known.laws one;
+      changes = c.requires.known.changes;
     }
 
 pub returns-clause-answer : goal.returns-clause-answer

@@ -14,8 +14,8 @@ settle-requires-clause-few c =
     let kinds : c.deref.result.now ≡ siphon_kinds net c.args.set = c.deref.ensures.value ∙ c.in_ok-kinds.ensures in
     omega (arith, ap (λ (ks : List Kind). signed_count ks) kinds, few_signed net c.args.set, c.meets_definition.ensures.partial.species_limit)
 
-pub covered-species-requires : goal.covered-species-requires
-covered-species-requires c =
+pub covered-species-requires-clause-cover : goal.covered-species-requires-clause-cover
+covered-species-requires-clause-cover c =
     let net = c.args.net.now in
     let kinds : c.deref.result.now ≡ siphon_kinds net c.args.set = c.deref.ensures.value ∙ c.in_ok-kinds.ensures in
     let s = decided net c.args.set c.args.solver.now.matrix c.deref.result.now c.in_ok-cover.field-0 (Feasible c.in-Feasible.cover) c.requires.matrix kinds c.in_ok-cover.ensures.answer c.in-Feasible.is in

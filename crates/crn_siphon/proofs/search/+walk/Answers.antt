@@ -1,6 +1,6 @@
-use Rattle.crn_siphon.proofs.Prelude.{◌≡◌, ◌++◌, ◌+◌, ◌-◌, ◌*◌, ◌<◌, ◌≤◌, ℕ, List, [], ◌∷◌, length, map, true, false, Bool, ap, sym, subst, ◌∙◌, arith, rules, Option, End, mark, marks, EndsAt, IsVisit}
+use Rattle.crn_siphon.proofs.Prelude.{◌≡◌, ◌++◌, ◌+◌, ◌-◌, ◌*◌, ◌<◌, ◌≤◌, ℕ, List, [], ◌∷◌, length, map, true, false, Bool, ap, sym, subst, ◌∙◌, arith, rules, Option, End, mark, marks, EndsAt, IsVisit, MatchResult-weaker, on_ok_weaker}
 use Rattle.crn_siphon.proofs.SetLaws.{members_are}
-use Rattle.crn_siphon.proofs.EndLaws.{run_out, leaf_at, found_at, opened_at, first_child, second_child}
+use Rattle.crn_siphon.proofs.EndLaws.{ok_too, run_out, leaf_at, found_at, opened_at, first_child, second_child}
 use Rattle.crn_siphon.proofs.Nodes.{grown_same, grown_then}
 use Rattle.crn_siphon.proofs.Stops.{child_last}
 use Rattle.crn_siphon.proofs.search.+walk.Goals as goal
@@ -36,11 +36,11 @@ fork-returns-in_default-clause-answer t c = λ p is.
 pub fork-returns-clause-answer : goal.fork-returns-clause-answer
 fork-returns-clause-answer t c = λ p is.
     let first = subst (λ (e : End). EndsAt c.args.net.now (p ++ true ∷ []) c.args.search.now c.walk.new.search e) c.in-Refuted.is (c.in_ok-end.ensures.answer (p ++ true ∷ []) (c.child.ensures.place p is)) in
-    second_child c.args.net.now p c.args.search.now c.walk.new.search c.walk-2.new.search c.in_ok-end-2.end (omega (arith, c.requires.room, is.chosen)) c.in_ok-end-2.ensures.grown first
-    (c.in_ok-end-2.ensures.answer (p ++ false ∷ []) (c.child-2.ensures.place p is))
+    let second = ok_too _ _ _ c.walk-2.result (c.walk-2.ensures.answer (p ++ false ∷ []) (c.child-2.ensures.place p is)) c.walk-2.ensures.grown in
+    MatchResult-weaker c.walk-2.result second (λ e h. second_child c.args.net.now p c.args.search.now c.walk.new.search c.walk-2.new.search e (omega (arith, c.requires.room, is.chosen)) h.1 first h.0) (λ s h. h)
 
 pub fork-returns-clause-grown : goal.fork-returns-clause-grown
-fork-returns-clause-grown t c = grown_then c.args.search.now c.walk.new.search c.walk-2.new.search c.in_ok-end.ensures.grown c.in_ok-end-2.ensures.grown
+fork-returns-clause-grown t c = on_ok_weaker c.walk-2.result (λ more. grown_then c.args.search.now c.walk.new.search c.walk-2.new.search c.in_ok-end.ensures.grown more) c.walk-2.ensures.grown
 
 pub walk-returns-then-search-eq0-clause-answer : goal.walk-returns-then-search-eq0-clause-answer
 walk-returns-then-search-eq0-clause-answer t c = λ p is. run_out c.args.net.now p c.args.search.now.left (omega arith)
@@ -71,8 +71,8 @@ walk-returns-clause-answer t c = λ p is.
     let net = c.args.net.now in
     let v = subst (λ (o : Option ℕ). IsVisit net p c.args.search.now c.visit.new.search o) c.in-Some.is (c.in_ok-cover.ensures.answer p is) in
     let standing = v.0.2 in
-    opened_at net p c.args.search.now c.visit.new.search c.fork.new.search c.in_ok-end.end (omega (arith, c.visit.ensures.left)) v.1 c.in_ok-end.ensures.grown standing.stands
-    (λ (f : length p ≡ length net.names). omega (arith, f, is.chosen, c.species.ensures.count, c.if-place-species.false)) (c.in_ok-end.ensures.answer p is)
+    let below = ok_too _ _ _ c.fork.result (c.fork.ensures.answer p is) c.fork.ensures.grown in
+    MatchResult-weaker c.fork.result below (λ e h. opened_at net p c.args.search.now c.visit.new.search c.fork.new.search e (omega (arith, c.visit.ensures.left)) v.1 h.1 standing.stands (λ (f : length p ≡ length net.names). omega (arith, f, is.chosen, c.species.ensures.count, c.if-place-species.false)) h.0) (λ s h. h)
 
 pub walk-returns-clause-grown : goal.walk-returns-clause-grown
-walk-returns-clause-grown t c = grown_then c.args.search.now c.visit.new.search c.fork.new.search c.in_ok-cover.ensures.grown c.in_ok-end.ensures.grown
+walk-returns-clause-grown t c = on_ok_weaker c.fork.result (λ more. grown_then c.args.search.now c.visit.new.search c.fork.new.search c.in_ok-cover.ensures.grown more) c.fork.ensures.grown
