@@ -75,12 +75,12 @@ pub(crate) fn all_holders(alloc: Global, net: &Network) -> Result<Vec<Holders>, 
     Ok(all)
 }
 
-// Whether the product has a species that is in, and all of the reactant are out.
+// Whether the product has a species that is in, and all of the reactant are out, which is rarer and tried first.
 fn stops(ends: Ends, place: Place) -> bool
     ensures { IsTrue result
         ↔ (HasCommon ends.product place.inside × IsWithin ends.reactant place.outside) }
 {
-    ends.product.meets(place.inside) && ends.reactant.is_within(place.outside)
+    ends.reactant.is_within(place.outside) && ends.product.meets(place.inside)
 }
 
 // The least of the reactions that hold a species, counted from 1, that stops the prefix, if one does.
