@@ -8,38 +8,19 @@ verdict_tight : (net : Net) (e : Earlier) (q : Question) (v : Verdict) → IsFor
 verdict_tight net e q (Unknown (Wide system class index basis)) h = gap_tight net e q system class index basis h
   where
     gap_tight : (net : Net) (e : Earlier) (q : Question) (system class index : ℕ) (basis : KeptNums) → IsFormedVerdict net e q (Unknown (Wide system class index basis)) → IsFormedVerdict net e q (tight (Unknown (Wide system class index basis)))
-    gap_tight net e Q1 system class index basis h = absurd h.0
-    gap_tight net e Q2 system class index basis h = absurd h.0
-    gap_tight net e Q3 system class index basis h = absurd h.0
-    gap_tight net e Q4 system class index basis h = absurd h.0
     gap_tight net e Q5 system class index basis h = h
     gap_tight net e Q6 system class index basis h = h
     gap_tight net e Q7 system class index basis h = h
     gap_tight net e Q8 system class index basis h = h
-    gap_tight net e Q9 system class index basis h = absurd h.0
-    gap_tight net e Q10 system class index basis h = absurd h.0
-    gap_tight net e Q11 system class index basis h = absurd h.0
     gap_tight net e Q12 system class index basis h = h
     gap_tight net e Q13 system class index basis h = h
     gap_tight net e Q14 system class index basis h = h
     gap_tight net e Q15 system class index basis h = h
+    gap_tight net e q system class index basis h = absurd h.0
 verdict_tight net e q (Unknown (Budget nodes)) h = h
 verdict_tight net e q (Unknown (Rests question)) h = h
 verdict_tight net e Q1 v h = h
-verdict_tight net e Q2 v h = h
-verdict_tight net e Q3 v h = h
-verdict_tight net e Q4 v h = h
-verdict_tight net e Q5 v h = h
-verdict_tight net e Q6 v h = h
-verdict_tight net e Q7 v h = h
-verdict_tight net e Q8 v h = h
-verdict_tight net e Q9 v h = h
-verdict_tight net e Q10 v h = h
-verdict_tight net e Q11 v h = h
-verdict_tight net e Q12 v h = h
-verdict_tight net e Q13 v h = h
-verdict_tight net e Q14 v h = h
-verdict_tight net e Q15 v h = h
+verdict_tight net e q v h = h
 
 -- ---- one more verdict
 

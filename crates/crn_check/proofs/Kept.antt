@@ -2,22 +2,8 @@
 use Rattle.crn_check.proofs.Prelude.{◌≡◌, ◌≢◌, inl, inr, ◌==◌, true, false, ℕ, zero, suc, ◌+◌, ◌-◌, ◌<◌, ◌≤◌, List, [], ◌∷◌, ◌++◌, length, map, get_or, drop, refl, sym, ap, subst, ◌∙◌, arith, eq-eqb, ne_eqb, append-nil, drop_more, length-map, Verdict, Earlier, Question, Q15, questions, number, on, some_number, few_numbers, Fact, asked, HoldsOn, HoldsNoneFrom, AreInOrder}
 
 number_at : (k : ℕ) → k < 15 → number (get_or questions k Q15) ≡ k + 1
-number_at zero lt = refl
-number_at (suc zero) lt = refl
-number_at (suc (suc zero)) lt = refl
-number_at (suc (suc (suc zero))) lt = refl
-number_at (suc (suc (suc (suc zero)))) lt = refl
-number_at (suc (suc (suc (suc (suc zero))))) lt = refl
-number_at (suc (suc (suc (suc (suc (suc zero)))))) lt = refl
-number_at (suc (suc (suc (suc (suc (suc (suc zero))))))) lt = refl
-number_at (suc (suc (suc (suc (suc (suc (suc (suc zero)))))))) lt = refl
-number_at (suc (suc (suc (suc (suc (suc (suc (suc (suc zero))))))))) lt = refl
-number_at (suc (suc (suc (suc (suc (suc (suc (suc (suc (suc zero)))))))))) lt = refl
-number_at (suc (suc (suc (suc (suc (suc (suc (suc (suc (suc (suc zero))))))))))) lt = refl
-number_at (suc (suc (suc (suc (suc (suc (suc (suc (suc (suc (suc (suc zero)))))))))))) lt = refl
-number_at (suc (suc (suc (suc (suc (suc (suc (suc (suc (suc (suc (suc (suc zero))))))))))))) lt = refl
-number_at (suc (suc (suc (suc (suc (suc (suc (suc (suc (suc (suc (suc (suc (suc zero)))))))))))))) lt = refl
 number_at (suc (suc (suc (suc (suc (suc (suc (suc (suc (suc (suc (suc (suc (suc (suc k))))))))))))))) lt = absurd (omega arith)
+number_at k lt = refl
 
 pub number_asked : (n : ℕ) → 1 ≤ n → n ≤ 15 → number (asked n) ≡ n
 number_asked n one few = number_at (n - 1) (omega arith) ∙ omega arith

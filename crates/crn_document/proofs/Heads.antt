@@ -1,37 +1,13 @@
 -- What the head of each question says, and on which sizes its forms rest.
-use Rattle.crn_document.proofs.Prelude.{◌≡◌, ◌≤◌, ◌+◌, ◌++◌, ◌∙◌, ℕ, List, [], ◌∷◌, map, refl, sym, subst, ap, ap₂, inl, inr, arith, ℤ, codes, min, range_with_len, Net, Earlier, Q13, Record, Form, CountAndPart, ClassWide, Turn, TwoOf, small, just, Sizes, head, yes, no, no_by, none_by, wide, wide_signal, rests, spent, open_by, heads, question_of, KeptFacts, asked, IsBuilt, IsKnownFor, HasClassSizes, IsHead}
+use Rattle.crn_document.proofs.Prelude.{◌≡◌, ◌≤◌, ◌+◌, ◌++◌, ◌∙◌, ℕ, List, [], ◌∷◌, map, refl, sym, subst, ap, ap₂, inl, inr, arith, ℤ, codes, min, range_with_len, Net, Earlier, Q13, Record, Form, CountAndPart, ClassWide, Turn, TwoOf, small, just, Sizes, head, yes, no, no_by, none_by, wide, wide_signal, rests, spent, open_by, heads, question_of, KeptFacts, asked, IsBuilt, IsKnownFor, HasClassSizes, IsHead, built, some_number, few_numbers}
 use Rattle.std.specs.Prelude.{Bool, true, false}
 use Rattle.crn_document.proofs.Linkages.{count_few}
-use Rattle.crn_document.proofs.HeadFacts.{HeadFacts, FactsAt}
-use Rattle.crn_document.proofs.HeadsOfClasses.{by_linkage, by_strong, by_reversible, by_weak}
-use Rattle.crn_document.proofs.HeadsOfRanks.{by_rank, by_deficiency}
-use Rattle.crn_document.proofs.HeadsOfVectors.{by_dependence, by_law}
-use Rattle.crn_document.proofs.HeadsOfTheorems.{by_zero, by_one}
-use Rattle.crn_document.proofs.HeadsOfConfluence.{by_regular, by_confluence}
-use Rattle.crn_document.proofs.HeadsOfSignals.{by_signal}
-use Rattle.crn_document.proofs.HeadsOfConcordance.{by_concordance, by_strongly}
-
-pub head_facts : (net : Net) (earlier : Earlier) (n : ℕ) (h : Record) → IsBuilt n → FactsAt net earlier h n
-head_facts net earlier n h (inl e) = subst (FactsAt net earlier h) (sym e) (by_linkage net earlier h)
-head_facts net earlier n h (inr (inl e)) = subst (FactsAt net earlier h) (sym e) (by_strong net earlier h)
-head_facts net earlier n h (inr (inr (inl e))) = subst (FactsAt net earlier h) (sym e) (by_reversible net earlier h)
-head_facts net earlier n h (inr (inr (inr (inl e)))) = subst (FactsAt net earlier h) (sym e) (by_weak net earlier h)
-head_facts net earlier n h (inr (inr (inr (inr (inl e))))) = subst (FactsAt net earlier h) (sym e) (by_rank net earlier h)
-head_facts net earlier n h (inr (inr (inr (inr (inr (inl e)))))) = subst (FactsAt net earlier h) (sym e) (by_deficiency net earlier h)
-head_facts net earlier n h (inr (inr (inr (inr (inr (inr (inl e))))))) = subst (FactsAt net earlier h) (sym e) (by_dependence net earlier h)
-head_facts net earlier n h (inr (inr (inr (inr (inr (inr (inr (inl e)))))))) = subst (FactsAt net earlier h) (sym e) (by_law net earlier h)
-head_facts net earlier n h (inr (inr (inr (inr (inr (inr (inr (inr (inl e))))))))) = subst (FactsAt net earlier h) (sym e) (by_zero net earlier h)
-head_facts net earlier n h (inr (inr (inr (inr (inr (inr (inr (inr (inr (inl e)))))))))) = subst (FactsAt net earlier h) (sym e) (by_one net earlier h)
-head_facts net earlier n h (inr (inr (inr (inr (inr (inr (inr (inr (inr (inr (inl e))))))))))) = subst (FactsAt net earlier h) (sym e) (by_regular net earlier h)
-head_facts net earlier n h (inr (inr (inr (inr (inr (inr (inr (inr (inr (inr (inr (inl e)))))))))))) = subst (FactsAt net earlier h) (sym e) (by_confluence net earlier h)
-head_facts net earlier n h (inr (inr (inr (inr (inr (inr (inr (inr (inr (inr (inr (inr (inl e))))))))))))) = subst (FactsAt net earlier h) (sym e) (by_signal net earlier h)
-head_facts net earlier n h (inr (inr (inr (inr (inr (inr (inr (inr (inr (inr (inr (inr (inr (inl e)))))))))))))) = subst (FactsAt net earlier h) (sym e) (by_concordance net earlier h)
-head_facts net earlier n h (inr (inr (inr (inr (inr (inr (inr (inr (inr (inr (inr (inr (inr (inr (inl e))))))))))))))) = subst (FactsAt net earlier h) (sym e) (by_strongly net earlier h)
-head_facts net earlier n h (inr (inr (inr (inr (inr (inr (inr (inr (inr (inr (inr (inr (inr (inr (inr (none)))))))))))))))) = absurd none
+use Rattle.crn_document.proofs.HeadFacts.{HeadFacts, head_facts}
+use Rattle.crn_document.proofs.Kept.{asked_number}
 
 pub said_facts : (net : Net) (n : ℕ) (facts : KeptFacts) (head : List ℤ) (h : Record) → IsBuilt n → IsKnownFor net n facts → IsHead net facts.earlier n head h → HeadFacts net facts.earlier n h head
-said_facts net n facts head h built known said =
-    subst (λ (t : List ℤ). HeadFacts net facts.earlier n h t) (sym said.tag) (head_facts net facts.earlier n h built known.network (count_few net n facts built known) said.form)
+said_facts net n facts head h built_is known said =
+    subst (λ (t : List ℤ). HeadFacts net facts.earlier n h t) (sym said.tag) (head_facts net facts.earlier n h (asked_number n built_is) known.network (count_few net n facts built_is known) said.form)
 
 -- the forms of the head of question 13, by the sizes on which they rest
 abbrev signal_wide : (species complexes pairs : ℕ) → Bool → List Form
@@ -76,19 +52,4 @@ heads_by_sizes n (inr (inr (inr (inr (inr (inr (inr (inr (inr (inr (inr (inr (in
 heads_by_sizes n (inr (inr (inr (inr (inr (inr (inr (inr (inr (inr (inr (inr (inr (inr (inr (none)))))))))))))))) z w s c r k l p v = absurd none
 
 pub number_of_built : (n : ℕ) → IsBuilt n → (1 ≤ n) × (n ≤ 15)
-number_of_built n (inl e) = (omega (arith, e), omega (arith, e))
-number_of_built n (inr (inl e)) = (omega (arith, e), omega (arith, e))
-number_of_built n (inr (inr (inl e))) = (omega (arith, e), omega (arith, e))
-number_of_built n (inr (inr (inr (inl e)))) = (omega (arith, e), omega (arith, e))
-number_of_built n (inr (inr (inr (inr (inl e))))) = (omega (arith, e), omega (arith, e))
-number_of_built n (inr (inr (inr (inr (inr (inl e)))))) = (omega (arith, e), omega (arith, e))
-number_of_built n (inr (inr (inr (inr (inr (inr (inl e))))))) = (omega (arith, e), omega (arith, e))
-number_of_built n (inr (inr (inr (inr (inr (inr (inr (inl e)))))))) = (omega (arith, e), omega (arith, e))
-number_of_built n (inr (inr (inr (inr (inr (inr (inr (inr (inl e))))))))) = (omega (arith, e), omega (arith, e))
-number_of_built n (inr (inr (inr (inr (inr (inr (inr (inr (inr (inl e)))))))))) = (omega (arith, e), omega (arith, e))
-number_of_built n (inr (inr (inr (inr (inr (inr (inr (inr (inr (inr (inl e))))))))))) = (omega (arith, e), omega (arith, e))
-number_of_built n (inr (inr (inr (inr (inr (inr (inr (inr (inr (inr (inr (inl e)))))))))))) = (omega (arith, e), omega (arith, e))
-number_of_built n (inr (inr (inr (inr (inr (inr (inr (inr (inr (inr (inr (inr (inl e))))))))))))) = (omega (arith, e), omega (arith, e))
-number_of_built n (inr (inr (inr (inr (inr (inr (inr (inr (inr (inr (inr (inr (inr (inl e)))))))))))))) = (omega (arith, e), omega (arith, e))
-number_of_built n (inr (inr (inr (inr (inr (inr (inr (inr (inr (inr (inr (inr (inr (inr (inl e))))))))))))))) = (omega (arith, e), omega (arith, e))
-number_of_built n (inr (inr (inr (inr (inr (inr (inr (inr (inr (inr (inr (inr (inr (inr (inr (none)))))))))))))))) = absurd none
+number_of_built n i = let e = asked_number n i in let low = some_number (asked n) in let high = few_numbers (asked n) in (omega (arith, e, low), omega (arith, e, high))

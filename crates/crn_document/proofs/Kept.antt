@@ -1,5 +1,5 @@
 -- What is kept after a block: the sides of question 11, and with which verdicts.
-use Rattle.crn_document.proofs.Prelude.{w32, to_z, of_z, ◌≡◌, ◌∙◌, ◌<◌, ◌≤◌, ◌==◌, ◌++◌, ℕ, Bool, false, List, [], ◌∷◌, refl, sym, ap, subst, inl, inr, arith, ℤ, AllByRecursion, IsSome, cases_eq, eq-eqb, ne_eqb, KeptInts, Net, Answer, Proof, Sides, Verdict, Yes, YesVec, Earlier, Question, Q11, Q12, IsYes, number, on, vector_given, HeadMayBe, IsFormed, IsFormedOf, IsFormedVerdict, IsTurn, AllHold, HasVector, confluence_head, head_tests, tests_of, AsksForTree, HoldsNeeds, HoldsNoSignal, IsBuilt, shown_by_tree, KeptFacts, asked, formed_on, sides_of_answer, AreSides, KeepSides, IsKnownFor}
+use Rattle.crn_document.proofs.Prelude.{w32, to_z, of_z, ◌≡◌, ◌∙◌, ◌<◌, ◌≤◌, ◌==◌, ◌++◌, ℕ, Bool, false, List, [], ◌∷◌, refl, sym, ap, subst, inl, inr, arith, ℤ, AllByRecursion, IsSome, cases_eq, eq-eqb, ne_eqb, KeptInts, Net, Answer, Proof, Sides, Verdict, Yes, YesVec, Earlier, Question, Q11, Q12, IsYes, number, on, vector_given, HeadMayBe, IsFormed, IsFormedOf, IsFormedVerdict, IsTurn, AllHold, HasVector, confluence_head, head_tests, tests_of, AsksForTree, HoldsNeeds, HoldsNoSignal, IsBuilt, shown_by_tree, KeptFacts, asked, formed_on, sides_of_answer, AreSides, KeepSides, IsKnownFor, built, Q1, Q13, IsIn, map}
 use Rattle.std.proofs.Common.{if◌then◌else◌}
 use Rattle.crn_cert.specs.declared.answer.Verdict.TheVariants.{NotApplicable, YesSignal}
 
@@ -25,23 +25,18 @@ on_none (e ∷ es) q below =
     let differ : (number e.0 == number q) ≡ false = ne_eqb (number e.0) (number q) (λ same. omega (arith, same, below.0)) in
     ap (λ (b : Bool). if b then e.1 else on es q) differ ∙ on_none es q below.1
 
-asked_number : (n : ℕ) → IsBuilt n → number (asked n) ≡ n
-asked_number n (inl e) = subst (λ (m : ℕ). number (asked m) ≡ m) (sym e) refl
-asked_number n (inr (inl e)) = subst (λ (m : ℕ). number (asked m) ≡ m) (sym e) refl
-asked_number n (inr (inr (inl e))) = subst (λ (m : ℕ). number (asked m) ≡ m) (sym e) refl
-asked_number n (inr (inr (inr (inl e)))) = subst (λ (m : ℕ). number (asked m) ≡ m) (sym e) refl
-asked_number n (inr (inr (inr (inr (inl e))))) = subst (λ (m : ℕ). number (asked m) ≡ m) (sym e) refl
-asked_number n (inr (inr (inr (inr (inr (inl e)))))) = subst (λ (m : ℕ). number (asked m) ≡ m) (sym e) refl
-asked_number n (inr (inr (inr (inr (inr (inr (inl e))))))) = subst (λ (m : ℕ). number (asked m) ≡ m) (sym e) refl
-asked_number n (inr (inr (inr (inr (inr (inr (inr (inl e)))))))) = subst (λ (m : ℕ). number (asked m) ≡ m) (sym e) refl
-asked_number n (inr (inr (inr (inr (inr (inr (inr (inr (inl e))))))))) = subst (λ (m : ℕ). number (asked m) ≡ m) (sym e) refl
-asked_number n (inr (inr (inr (inr (inr (inr (inr (inr (inr (inl e)))))))))) = subst (λ (m : ℕ). number (asked m) ≡ m) (sym e) refl
-asked_number n (inr (inr (inr (inr (inr (inr (inr (inr (inr (inr (inl e))))))))))) = subst (λ (m : ℕ). number (asked m) ≡ m) (sym e) refl
-asked_number n (inr (inr (inr (inr (inr (inr (inr (inr (inr (inr (inr (inl e)))))))))))) = subst (λ (m : ℕ). number (asked m) ≡ m) (sym e) refl
-asked_number n (inr (inr (inr (inr (inr (inr (inr (inr (inr (inr (inr (inr (inl e))))))))))))) = subst (λ (m : ℕ). number (asked m) ≡ m) (sym e) refl
-asked_number n (inr (inr (inr (inr (inr (inr (inr (inr (inr (inr (inr (inr (inr (inl e)))))))))))))) = subst (λ (m : ℕ). number (asked m) ≡ m) (sym e) refl
-asked_number n (inr (inr (inr (inr (inr (inr (inr (inr (inr (inr (inr (inr (inr (inr (inl e))))))))))))))) = subst (λ (m : ℕ). number (asked m) ≡ m) (sym e) refl
-asked_number n (inr (inr (inr (inr (inr (inr (inr (inr (inr (inr (inr (inr (inr (inr (inr (none)))))))))))))))) = absurd none
+-- a question by its number
+asked_back : (q : Question) → asked (number q) ≡ q
+asked_back Q1 = refl
+asked_back q = refl
+
+among : (n : ℕ) (qs : List Question) → IsIn n (map number qs) → number (asked n) ≡ n
+among n [] i = absurd i
+among n (q ∷ qs) (inl e) = subst (λ (m : ℕ). number (asked m) ≡ m) (sym e) (ap number (asked_back q))
+among n (q ∷ qs) (inr i) = among n qs i
+
+pub asked_number : (n : ℕ) → IsBuilt n → number (asked n) ≡ n
+asked_number n i = among n built i
 
 -- ---- the sides
 
@@ -147,23 +142,12 @@ sides_after_trees net n facts new sides keep built known tree is =
 
 -- ---- a signal
 
+only_thirteen : (net : Net) (e : Earlier) (turn : ℤ) (shelves mu : KeptInts) (level : ℤ) (weights : KeptInts) (q : Question) → HeadMayBe net e q (YesSignal turn shelves mu level weights) → number q ≡ 13
+only_thirteen net e turn shelves mu level weights Q13 h = refl
+only_thirteen net e turn shelves mu level weights q h = absurd h
+
 pub signal_only : (net : Net) (e : Earlier) (turn : ℤ) (shelves mu : KeptInts) (level : ℤ) (weights : KeptInts) (n : ℕ) → IsBuilt n → HeadMayBe net e (asked n) (YesSignal turn shelves mu level weights) → n ≡ 13
-signal_only net e turn shelves mu level weights n (inl is) h = absurd (subst (λ (m : ℕ). HeadMayBe net e (asked m) (YesSignal turn shelves mu level weights)) is h)
-signal_only net e turn shelves mu level weights n (inr (inl is)) h = absurd (subst (λ (m : ℕ). HeadMayBe net e (asked m) (YesSignal turn shelves mu level weights)) is h)
-signal_only net e turn shelves mu level weights n (inr (inr (inl is))) h = absurd (subst (λ (m : ℕ). HeadMayBe net e (asked m) (YesSignal turn shelves mu level weights)) is h)
-signal_only net e turn shelves mu level weights n (inr (inr (inr (inl is)))) h = absurd (subst (λ (m : ℕ). HeadMayBe net e (asked m) (YesSignal turn shelves mu level weights)) is h)
-signal_only net e turn shelves mu level weights n (inr (inr (inr (inr (inl is))))) h = absurd (subst (λ (m : ℕ). HeadMayBe net e (asked m) (YesSignal turn shelves mu level weights)) is h)
-signal_only net e turn shelves mu level weights n (inr (inr (inr (inr (inr (inl is)))))) h = absurd (subst (λ (m : ℕ). HeadMayBe net e (asked m) (YesSignal turn shelves mu level weights)) is h)
-signal_only net e turn shelves mu level weights n (inr (inr (inr (inr (inr (inr (inl is))))))) h = absurd (subst (λ (m : ℕ). HeadMayBe net e (asked m) (YesSignal turn shelves mu level weights)) is h)
-signal_only net e turn shelves mu level weights n (inr (inr (inr (inr (inr (inr (inr (inl is)))))))) h = absurd (subst (λ (m : ℕ). HeadMayBe net e (asked m) (YesSignal turn shelves mu level weights)) is h)
-signal_only net e turn shelves mu level weights n (inr (inr (inr (inr (inr (inr (inr (inr (inl is))))))))) h = absurd (subst (λ (m : ℕ). HeadMayBe net e (asked m) (YesSignal turn shelves mu level weights)) is h)
-signal_only net e turn shelves mu level weights n (inr (inr (inr (inr (inr (inr (inr (inr (inr (inl is)))))))))) h = absurd (subst (λ (m : ℕ). HeadMayBe net e (asked m) (YesSignal turn shelves mu level weights)) is h)
-signal_only net e turn shelves mu level weights n (inr (inr (inr (inr (inr (inr (inr (inr (inr (inr (inl is))))))))))) h = absurd (subst (λ (m : ℕ). HeadMayBe net e (asked m) (YesSignal turn shelves mu level weights)) is h)
-signal_only net e turn shelves mu level weights n (inr (inr (inr (inr (inr (inr (inr (inr (inr (inr (inr (inl is)))))))))))) h = absurd (subst (λ (m : ℕ). HeadMayBe net e (asked m) (YesSignal turn shelves mu level weights)) is h)
-signal_only net e turn shelves mu level weights n (inr (inr (inr (inr (inr (inr (inr (inr (inr (inr (inr (inr (inl is))))))))))))) h = is
-signal_only net e turn shelves mu level weights n (inr (inr (inr (inr (inr (inr (inr (inr (inr (inr (inr (inr (inr (inl is)))))))))))))) h = absurd (subst (λ (m : ℕ). HeadMayBe net e (asked m) (YesSignal turn shelves mu level weights)) is h)
-signal_only net e turn shelves mu level weights n (inr (inr (inr (inr (inr (inr (inr (inr (inr (inr (inr (inr (inr (inr (inl is))))))))))))))) h = absurd (subst (λ (m : ℕ). HeadMayBe net e (asked m) (YesSignal turn shelves mu level weights)) is h)
-signal_only net e turn shelves mu level weights n (inr (inr (inr (inr (inr (inr (inr (inr (inr (inr (inr (inr (inr (inr (inr (none)))))))))))))))) h = absurd none
+signal_only net e turn shelves mu level weights n built h = sym (asked_number n built) ∙ only_thirteen net e turn shelves mu level weights (asked n) h
 
 -- what is known of an answer that is a signal
 pub record SignalKnown (earlier : Earlier) (n : ℕ) (turn : ℤ) : Type 0 where

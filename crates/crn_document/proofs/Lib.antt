@@ -2,14 +2,8 @@ mod Records
 mod Linkages
 mod Fields
 mod Ranks
+mod HeadsTyped
 mod HeadFacts
-mod HeadsOfClasses
-mod HeadsOfRanks
-mod HeadsOfVectors
-mod HeadsOfTheorems
-mod HeadsOfConfluence
-mod HeadsOfSignals
-mod HeadsOfConcordance
 mod Heads
 mod Blocks
 mod Sections

@@ -1,20 +1,21 @@
 -- What this crate's proofs use of other crates and of its specs.
-pub use Rattle.crn_cert.proofs.CallerLemmas.{hold_parts, none_at_all, shape_count, shapes_exist, some_number, tests_by_heads}
+pub use Rattle.crn_cert.proofs.CallerLemmas.{AllOf, few_numbers, fields_in, given, head_back, hold_parts, none_at_all, shape_count, shapes_exist, some_number, tests_by_heads}
+pub use Rattle.crn_cert.specs.Blocks.{FitsFields, FitsHead, one_if}
 pub use Rattle.crn_cert.specs.Built.{built}
 pub use Rattle.crn_cert.specs.ConfluenceTests.{tie_tests}
-pub use Rattle.crn_cert.specs.Data.{IsBasisOf}
+pub use Rattle.crn_cert.specs.Data.{Basis, Datum, IsBasisOf, Led, Num}
 pub use Rattle.crn_cert.specs.Faults.{BadEvidence, BadNetwork, Fault, NodeNotAllowed, TreeEndsEarly, TreeGoesOn, WrongOrder, fault_number}
-pub use Rattle.crn_cert.specs.Formed.{HeadMayBe, IsFormed, IsFormedOf, IsWideGap}
+pub use Rattle.crn_cert.specs.Formed.{HeadMayBe, IsFormed, IsFormedOf}
 pub use Rattle.crn_cert.specs.FormedVerdicts.{IsFormedVerdict}
 pub use Rattle.crn_cert.specs.Heads.{bare}
 pub use Rattle.crn_cert.specs.Law.{IsTrueOrOpen}
 pub use Rattle.crn_cert.specs.Nodes.{AreNumbersFor, CutsA, CutsB, Flats, Passing, Said, Splits}
 pub use Rattle.crn_cert.specs.Parts.{AreClassProofs, IsRankProof}
-pub use Rattle.crn_cert.specs.Questions.{Earlier, IsYes, Q1, Q11, Q12, Q13, Q14, Q15, Q2, Q4, Q6, Question, count_of, labels_of, number, on, terminal_of, vector_given}
+pub use Rattle.crn_cert.specs.Questions.{Earlier, IsYes, Q1, Q10, Q11, Q12, Q13, Q14, Q15, Q2, Q3, Q4, Q5, Q6, Q7, Q8, Q9, Question, count_of, labels_of, number, on, terminal_of, vector_given}
 pub use Rattle.crn_cert.specs.Ranges.{AreFree, AreFreeRows, AreFrom, IsNarrow}
 pub use Rattle.crn_cert.specs.RankTests.{comb_tests, dual_tests, rank_tests}
 pub use Rattle.crn_cert.specs.Says.{IsTrueOf, IsTurn, by_turn}
-pub use Rattle.crn_cert.specs.Table.{Sizes}
+pub use Rattle.crn_cert.specs.Table.{Sizes, fields}
 pub use Rattle.crn_cert.specs.Tests.{AllHold, FailsFirst, Test}
 pub use Rattle.crn_cert.specs.Valid.{AreClassNumbers, HasVector, IsNodeOf, OfVector, class_places, class_rank_tests, confluence_head, ends_at, exits, head_tests, is_least_of_pair, is_within_terminal, linkage, linkage_count, pair_places, row_tests, side_tests, strong, tests_of}
 pub use Rattle.crn_cert.specs.Verdicts.{tight}
@@ -31,7 +32,7 @@ pub use Rattle.crn_check.proofs.CallerLemmas.{answer_treeless, built_at, classes
 pub use Rattle.crn_check.specs.Check.{AsksForTree, HoldsNeeds, HoldsNoSignal, HoldsNoTree, IsBuilt, IsShapeFor, Judges, shown_by_tree, tree_place}
 pub use Rattle.crn_check.specs.Facts.{AreFactsOf, HoldsNoneFrom, HoldsOn, KeptFacts, asked}
 pub use Rattle.crn_check.specs.declared.fault.CheckFault.{CheckFault}
-pub use Rattle.crn_ctext.proofs.CallerLemmas.{AreShort, HoldTogether, IsLike, awaited_open, awaits_before, awaits_parts, awaits_then, fails_before, fails_then, fails_with_a_code, given_back, gives_parts, gives_then, head, last_forms, no, no_by, none_by, open_by, read_true, record_is, records_formed, rests, rests_place, settled, spent, spent_place, split_known, step_awaits_like, step_fails_like, step_fails_then, step_gives_like, step_then, text_says, trees_like, turn_is, wide, wide_signal, yes, zip_long}
+pub use Rattle.crn_ctext.proofs.CallerLemmas.{AreShort, HoldTogether, IsLike, awaited_open, awaits_before, awaits_parts, awaits_then, fails_before, fails_then, fails_with_a_code, given_back, gives_parts, gives_then, head, head_record, head_typed, no, no_by, none_by, numbers_of, open_by, read_true, records_formed, rests, rests_place, settled, spent, spent_place, split_known, step_awaits_like, step_fails_like, step_fails_then, step_gives_like, step_then, text_says, trees_like, turn_is, wide, wide_signal, yes, zip_long}
 pub use Rattle.crn_ctext.specs.Blocks.{AfterBlocks, CutA, CutB, Flat, IsNetworkOf, Node, Problem, ReadOf, Split, after_sections, asks, asks_block, asks_leaf, asks_lines, asks_node, asks_table, below, either, goes_on, has_tree, leaf, lists_of, node_of, place_of, reads, sections, word_of}
 unfoldable pub use Rattle.crn_ctext.specs.Blocks.{asks_all, asks_blocks, asks_tree, asks_trees, claims}
 pub use Rattle.crn_ctext.specs.Course.{Course, End, Give, IsReported, Line, due, find, test, ◌>>=◌}
@@ -43,8 +44,8 @@ pub use Rattle.crn_ctext.specs.Judged.{IsReadOf}
 pub use Rattle.crn_ctext.specs.Kinds.{end_form, free_form, head_words, just, known_words, node_forms, record_form, row_words, section_form, small, small_form, table_form, tree_words, vector_form}
 pub use Rattle.crn_ctext.specs.Linked.{AreSound}
 pub use Rattle.crn_ctext.specs.Meaning.{Known, class_proofs, has_vector, is_yes, sizes_of as known_sizes, learn_of, lengths, lists, meaning, nums, pairs_of, problem_with, problems_by, proof_by, proof_of, rank_proof, ranks_of, row, shapes_of, signal_problem, signal_problems, sizes_of, verdict_by, verdict_of, verdicts_said}
-pub use Rattle.crn_ctext.specs.Questions.{class_forms, decided, first_number, heads, kind_at, later_numbers, open_kinds, opens, rank_forms, rows, side_form}
-pub use Rattle.crn_ctext.specs.Records.{AreBetween, AreNarrow, AreOf, AreRising, BeginsWith, ClassWide, CountAndPart, Field, Fits, Form, Free, FreeSeveral, IsShaped, Members, Record, Rising, Says, Several, Small, Takes, Turn, TwoOf, kind_of, record_text}
+pub use Rattle.crn_ctext.specs.Questions.{class_forms, decided, first_number, head_word, heads, kind_at, later_numbers, open_kinds, opens, rank_forms, rows, side_form, words}
+pub use Rattle.crn_ctext.specs.Records.{AreBetween, AreNarrow, AreOf, BeginsWith, ClassWide, CountAndPart, Field, Fits, Form, Free, FreeSeveral, IsShaped, Members, Record, Says, Several, Takes, Turn, TwoOf, kind_of, record_text}
 pub use Rattle.crn_ctext.specs.Steps.{StepFails, StepGives, cut}
 unfoldable pub use Rattle.crn_ctext.specs.Steps.{Awaits}
 pub use Rattle.crn_ctext.specs.declared.expect.Due.{Due}
@@ -66,14 +67,14 @@ pub use Rattle.crn_ctree.specs.declared.problem.Problem.{Problem as TreeProblem}
 pub use Rattle.crn_ctree.specs.declared.problem.Problem.TheVariants.{Concordance, Signals}
 pub use Rattle.crn_document.specs.Check.{CheckGives, HasFaultNumber, IsAccepted, IsAnswered, IsFaultNumber}
 pub use Rattle.crn_document.specs.Facts.{IsAfterFacts, IsKnownFor, after_facts}
-pub use Rattle.crn_document.specs.Inner.Answer.{AreSmall, AreSmallAt, verdict_of_head}
-pub use Rattle.crn_document.specs.Inner.Answers.{FitAnswer, part_proofs, proof_of_head}
+pub use Rattle.crn_document.specs.Inner.Answer.{AreSmall, AreSmallAt, kept, verdict_of_head}
+pub use Rattle.crn_document.specs.Inner.Answers.{FitAnswer, FitProof, part_proofs, proof_of_head}
 pub use Rattle.crn_document.specs.Inner.Blocks.{HeadHolds, IsAfter, IsAt, IsBlock, IsOpened, IsRead, IsReady, IsReadyFor, KeepSides, Learns, after_at, after_by, end_course, forms_below, head_course, many_after, parts_after, rows_course, still_by_tree, tests_course}
 pub use Rattle.crn_document.specs.Inner.Courses.{IsSaidIn, IsWhole, last_course, rest_course, whole_course}
 pub use Rattle.crn_document.specs.Inner.Ending.{asks_end}
 pub use Rattle.crn_document.specs.Inner.Heads.{FitsCounts, HasClassSizes, IsHead, class_count, head_forms, known_of, tagged}
 pub use Rattle.crn_document.specs.Inner.Met.{AreMet, IsCutOf, IsDueNodeLine, IsMet, IsMetAt, IsNodeLineAs, SaysPlainly, plain_node}
-pub use Rattle.crn_document.specs.Inner.Parts.{FitParts, IsKnown, IsLinkage, before, class_counts, class_part, class_parts, is_in_class, members_of, parts_below}
+pub use Rattle.crn_document.specs.Inner.Parts.{FitParts, IsKnown, IsLinkage, before, class_counts, class_part, class_parts, is_in_class, members_of, parts_below, parts_by}
 pub use Rattle.crn_document.specs.Inner.Plain.{IsPlain, plain_form}
 pub use Rattle.crn_document.specs.Inner.Records.{AreMembers, AreRows, Expects, IsOwnDue, IsPartDue, IsRow, IsRowDue, MayBeRow, fixed_rows, many_rows, part_rows, row_form, rows_below}
 pub use Rattle.crn_document.specs.Inner.Signals.{vector_or_none}

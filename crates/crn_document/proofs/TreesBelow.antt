@@ -1,5 +1,6 @@
 -- The trees that follow the records below a head.
-use Rattle.crn_document.proofs.Prelude.{◌≡◌, ◌∙◌, ℕ, zero, suc, Bool, true, false, ap, List, [], ◌∷◌, refl, sym, subst, inl, inr, Ok, Result, ℤ, SourceSeen, Q4, Q13, Q14, Q15, on, Problem, asks_tree, asks_trees, has_tree, Known, is_yes, problems_by, signal_problems, asked, AsksForTree, IsBuilt, tree_place, Reading, CheckStop, StepIs, StopIs, StepGives, step_gives, step_map, step_then_is, stop_first}
+use Rattle.crn_document.proofs.Prelude.{◌≡◌, ◌∙◌, ℕ, zero, suc, Bool, true, false, ap, List, [], ◌∷◌, refl, sym, subst, inl, inr, Ok, Result, Question, number, ℤ, SourceSeen, Q4, Q13, Q14, Q15, on, Problem, asks_tree, asks_trees, has_tree, Known, is_yes, problems_by, signal_problems, asked, AsksForTree, IsBuilt, tree_place, Reading, CheckStop, StepIs, StopIs, StepGives, step_gives, step_map, step_then_is, stop_first}
+use Rattle.crn_document.proofs.Kept.{asked_number}
 
 no_signals : (known : Known) (place : ℕ) → (place ≡ 2 → ⊥) → problems_by Q13 known place ≡ []
 no_signals known zero other = refl
@@ -18,23 +19,14 @@ no_strong known (suc zero) other = absurd (other refl)
 no_strong known (suc (suc k)) other = refl
 
 -- no tree follows a head unless its verdict is one that trees show
+by_question : (q : Question) (known : Known) (place : ℕ) → (AsksForTree (number q) → place ≡ tree_place (number q) → ⊥) → problems_by q known place ≡ []
+by_question Q13 known place other = no_signals known place (other (inl refl))
+by_question Q14 known place other = no_plain known place (other (inr (inl refl)))
+by_question Q15 known place other = no_strong known place (other (inr (inr refl)))
+by_question q known place other = refl
+
 pub no_tree_below : (n : ℕ) → IsBuilt n → (known : Known) (place : ℕ) → (AsksForTree n → place ≡ tree_place n → ⊥) → problems_by (asked n) known place ≡ []
-no_tree_below n (inl e) known place other = subst (λ (m : ℕ). problems_by (asked m) known place ≡ []) (sym e) refl
-no_tree_below n (inr (inl e)) known place other = subst (λ (m : ℕ). problems_by (asked m) known place ≡ []) (sym e) refl
-no_tree_below n (inr (inr (inl e))) known place other = subst (λ (m : ℕ). problems_by (asked m) known place ≡ []) (sym e) refl
-no_tree_below n (inr (inr (inr (inl e)))) known place other = subst (λ (m : ℕ). problems_by (asked m) known place ≡ []) (sym e) refl
-no_tree_below n (inr (inr (inr (inr (inl e))))) known place other = subst (λ (m : ℕ). problems_by (asked m) known place ≡ []) (sym e) refl
-no_tree_below n (inr (inr (inr (inr (inr (inl e)))))) known place other = subst (λ (m : ℕ). problems_by (asked m) known place ≡ []) (sym e) refl
-no_tree_below n (inr (inr (inr (inr (inr (inr (inl e))))))) known place other = subst (λ (m : ℕ). problems_by (asked m) known place ≡ []) (sym e) refl
-no_tree_below n (inr (inr (inr (inr (inr (inr (inr (inl e)))))))) known place other = subst (λ (m : ℕ). problems_by (asked m) known place ≡ []) (sym e) refl
-no_tree_below n (inr (inr (inr (inr (inr (inr (inr (inr (inl e))))))))) known place other = subst (λ (m : ℕ). problems_by (asked m) known place ≡ []) (sym e) refl
-no_tree_below n (inr (inr (inr (inr (inr (inr (inr (inr (inr (inl e)))))))))) known place other = subst (λ (m : ℕ). problems_by (asked m) known place ≡ []) (sym e) refl
-no_tree_below n (inr (inr (inr (inr (inr (inr (inr (inr (inr (inr (inl e))))))))))) known place other = subst (λ (m : ℕ). problems_by (asked m) known place ≡ []) (sym e) refl
-no_tree_below n (inr (inr (inr (inr (inr (inr (inr (inr (inr (inr (inr (inl e)))))))))))) known place other = subst (λ (m : ℕ). problems_by (asked m) known place ≡ []) (sym e) refl
-no_tree_below n (inr (inr (inr (inr (inr (inr (inr (inr (inr (inr (inr (inr (inl e))))))))))))) known place other = subst (λ (m : ℕ). problems_by (asked m) known place ≡ []) (sym e) (no_signals known place (λ p. other (inl e) (p ∙ ap (λ (m : ℕ). tree_place m) (sym e))))
-no_tree_below n (inr (inr (inr (inr (inr (inr (inr (inr (inr (inr (inr (inr (inr (inl e)))))))))))))) known place other = subst (λ (m : ℕ). problems_by (asked m) known place ≡ []) (sym e) (no_plain known place (λ p. other (inr (inl e)) (p ∙ ap (λ (m : ℕ). tree_place m) (sym e))))
-no_tree_below n (inr (inr (inr (inr (inr (inr (inr (inr (inr (inr (inr (inr (inr (inr (inl e))))))))))))))) known place other = subst (λ (m : ℕ). problems_by (asked m) known place ≡ []) (sym e) (no_strong known place (λ p. other (inr (inr e)) (p ∙ ap (λ (m : ℕ). tree_place m) (sym e))))
-no_tree_below n (inr (inr (inr (inr (inr (inr (inr (inr (inr (inr (inr (inr (inr (inr (inr (none)))))))))))))))) known place other = absurd none
+no_tree_below n i known place other = by_question (asked n) known place (subst (λ (m : ℕ). AsksForTree m → place ≡ tree_place m → ⊥) (sym (asked_number n i)) other)
 
 some_signals : (known : Known) (weak : Bool) → has_tree (signal_problems known weak) ≡ true
 some_signals known true = refl
