@@ -46,12 +46,11 @@ strong_next known a f = ap (λ (v : Verdict). known.earlier ++ (Q2, v) ∷ []) (
 pub formed_by : (b : Bool) (qs : List Question) → AreInOrder b qs → (known : Known) (answers : List Answer) → AreKnown b known.earlier → AreFormed known.net known.earlier qs answers → documents.AreFormed meaning qs known (all_records meaning qs known answers)
 unfolding documents.AreFormed all_records
 formed_by b [] links known [] n f = refl
-formed_by b [] links known (a ∷ answers) n f = absurd f
-formed_by b (q ∷ qs) links known [] n f = absurd f
 formed_by b (q ∷ qs) links known (a ∷ answers) n f =
     let j = joined b q links.0 in
     let formed = j.formed in
     (parts q known a, formed known a.verdict a.proof n f.0, formed_by (after b q) qs links.1 (known_after q known a) answers (known_next b q known a n j f.0) (formed_next b q qs known a answers n j f.0 f.1))
+formed_by b qs links known answers n f = absurd f
 
 pub answers_formed : (net : Net) (answers : List Answer) → AreFormed net [] built answers → AreFormedOf net (records_of net answers)
 answers_formed net answers f = formed_by false built built_in_order (meaning.start net) answers tt f
@@ -64,14 +63,13 @@ Rest qs known from answers = documents.AreValid meaning qs known (all_records me
 pub valid_by : (b : Bool) (qs : List Question) → AreInOrder b qs → (known : Known) (answers : List Answer) → AreKnown b known.earlier → AreFormed known.net known.earlier qs answers → AreValid known.net known.earlier qs answers → Rest qs known known answers
 unfolding documents.AreValid all_records
 valid_by b [] links known [] n f v = refl
-valid_by b [] links known (a ∷ answers) n f v = absurd f
-valid_by b (q ∷ qs) links known [] n f v = absurd f
 valid_by b (q ∷ qs) links known (a ∷ answers) n f v =
     let j = joined b q links.0 in
     let formed = j.formed in
     let there = j.there in
     let valid : AreValid known.net (known_after q known a).earlier qs answers = subst (λ (es : Earlier). AreValid known.net es qs answers) (sym (earlier_next b q known a n j f.0)) v.1 in
     (parts q known a, formed known a.verdict a.proof n f.0, there known a.verdict a.proof n f.0 v.0, valid_by (after b q) qs links.1 (known_after q known a) answers (known_next b q known a n j f.0) (formed_next b q qs known a answers n j f.0 f.1) valid)
+valid_by b qs links known answers n f v = absurd f
 
 pub answers_valid : (net : Net) (answers : List Answer) → AreFormed net [] built answers → AreValid net [] built answers → documents.AreValid meaning built (meaning.start net) (records_of net answers)
 answers_valid net answers f v = valid_by false built built_in_order (meaning.start net) answers tt f v
@@ -79,8 +77,6 @@ answers_valid net answers f v = valid_by false built built_in_order (meaning.sta
 pub back_by : (b : Bool) (qs : List Question) → AreInOrder b qs → (known : Known) (answers : List Answer) → AreKnown b known.earlier → IsStrongTrue b known → AreFormed known.net known.earlier qs answers → Rest qs known known answers → AreValid known.net known.earlier qs answers
 unfolding documents.AreValid all_records
 back_by b [] links known [] n t f v = tt
-back_by b [] links known (a ∷ answers) n t f v = absurd f
-back_by b (q ∷ qs) links known [] n t f v = absurd f
 back_by b (q ∷ qs) links known (a ∷ answers) n t f v =
     let j = joined b q links.0 in
     let formed = j.formed in
@@ -94,6 +90,7 @@ back_by b (q ∷ qs) links known (a ∷ answers) n t f v =
     let true_next : IsStrongTrue (after b q) next = subst (λ (es : Earlier). IsStrongTrue (after b q) (record { net = known.net; earlier = es })) (sym e) (true_then b q known (tight a.verdict) n t right) in
     let rest = back_by (after b q) qs links.1 next answers (known_next b q known a n j f.0) true_next (formed_next b q qs known a answers n j f.0 f.1) later in
     (valid, subst (λ (es : Earlier). AreValid known.net es qs answers) e rest)
+back_by b qs links known answers n t f v = absurd f
 
 pub records_valid : (net : Net) (answers : List Answer) → AreFormed net [] built answers → documents.AreValid meaning built (meaning.start net) (records_of net answers) → AreValid net [] built answers
 records_valid net answers f v = back_by false built built_in_order (meaning.start net) answers tt tt f v
@@ -105,10 +102,8 @@ same_by : (b : Bool) (qs : List Question) → AreInOrder b qs → (known : Known
     → all_records meaning qs known answers ≡ all_records meaning qs known others → AreSame answers others
 unfolding all_records
 same_by b [] links known [] [] n f g r = refl
-same_by b [] links known [] (c ∷ others) n f g r = absurd g
 same_by b [] links known (a ∷ answers) others n f g r = absurd f
 same_by b (q ∷ qs) links known [] others n f g r = absurd f
-same_by b (q ∷ qs) links known (a ∷ answers) [] n f g r = absurd g
 same_by b (q ∷ qs) links known (a ∷ answers) (c ∷ others) n f g r =
     let j = joined b q links.0 in
     let formed = j.formed in
@@ -131,6 +126,7 @@ same_by b (q ∷ qs) links known (a ∷ answers) (c ∷ others) n f g r =
   where
     same_nodes : (x y : Record) (rows others ns ms : List Record) → rows ≡ others → x ∷ (rows ++ ns) ≡ y ∷ (others ++ ms) → ns ≡ ms
     same_nodes x y rows others ns ms e all = let below : rows ++ ns ≡ others ++ ms = cc in append_cancel_left others ns ms (ap (λ (t : List Record). t ++ ns) (sym e) ∙ below)
+same_by b qs links known answers others n f g r = absurd g
 
 pub answers_same : (net : Net) (answers others : List Answer) → AreFormed net [] built answers → AreFormed net [] built others → records_of net answers ≡ records_of net others → AreSame answers others
 answers_same net answers others f g r = same_by false built built_in_order (meaning.start net) answers others tt f g r

@@ -5,11 +5,10 @@ use Rattle.crn_ctext.proofs.Prelude.{◌≡◌, ◌⊎◌, ◌++◌, ℕ, List, 
 pub awaits_before : {A B : Type 0} (c : Course A) (f : A → Course B) (at : Place) → Awaits c at → Awaits (c >>= f) at
 unfolding Awaits
 awaits_before (Give x) f at p = absurd p
-awaits_before (Line node next) f at (inl p) = inl p
 awaits_before (Line node next) f at (inr p) = inr (p.0, p.1, p.2, awaits_before (next p.0) f p.1 p.3)
 awaits_before (Test m c X P next) f at p = (p.0, p.1, awaits_before (next p.0) f at p.2)
-awaits_before (End next) f at (inl p) = inl p
 awaits_before (End next) f at (inr p) = inr (p.0, awaits_before next f at p.1)
+awaits_before c f at (inl p) = inl p
 
 none_begins : (x y : List ℕ) → x ++ y ≡ [] → x ≡ []
 none_begins [] y e = refl

@@ -1,22 +1,9 @@
 -- What the forms and the records of documents have to do with blocks.
-use Rattle.crn_ctext.proofs.Prelude.{AllZip, Verdict, Proof, Question, Datum, FitsHead, FitsRow, block_of, IsFormedOf, HeadKind, Record, head_of, records_below, heads, below, IsOneOf, Known, sizes_of, shapes_of}
+use Rattle.crn_ctext.proofs.Prelude.{AllZip, Question, Datum, FitsHead, FitsRow, HeadKind, Record, heads, below, IsOneOf, Known, sizes_of, shapes_of}
 use Rattle.std.specs.Prelude.{◌≡◌, List, ◌∷◌, map}
 use Rattle.crn_cert.specs.Table as table
 use Rattle.crn_ctext.specs.Records as records
 use Rattle.crn_ctext.proofs.Forms.{row_form, head_record, row_records}
-
--- the records of an answer, but for its trees, are those of its block
-abbrev pub AreRecordsOf : Known → Question → Verdict → Proof → Type 0
-AreRecordsOf known q v p = let b = block_of known.net known.earlier v p in
-    head_of q v ∷ records_below (shapes_of known) (record { verdict = v; proof = p })
-    ≡ head_record q b.kind b.head
-    ∷ row_records (table.rows known.net known.earlier q b.kind b.head) b.rows
-
--- the records of formed answers
-abbrev pub RecordsAsBefore : Type 0
-RecordsAsBefore = (known : Known) (q : Question) (v : Verdict) (p : Proof)
-    → IsFormedOf known.net known.earlier q v p
-    → AreRecordsOf known q v p
 
 -- the forms of the records below a head are those of the table
 abbrev pub RowsAsBefore : Type 0

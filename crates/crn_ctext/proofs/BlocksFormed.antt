@@ -66,20 +66,18 @@ moved_back t w tree s f = subst (λ (n : ℕ). IsFormedTree t.choices t.count_a 
 
 trees_said : OfTrees → (ts : List TreeRow) (ws : List {1} Problem) (plans : List Plan) → AreLike ts ws → AllZip FitsTree ts plans → AreTrees Leaf ws (flat_map nodes plans)
 trees_said o [] [] [] l f = refl
-trees_said o [] [] (tree ∷ plans) l f = absurd f
 trees_said o [] (w ∷ ws) plans l f = absurd l
 trees_said o (t ∷ ts) [] plans l f = absurd l
-trees_said o (t ∷ ts) (w ∷ ws) [] l f = absurd f
 trees_said o (t ∷ ts) (w ∷ ws) (tree ∷ plans) l f = (nodes tree, flat_map nodes plans, refl, o.there w tree (moved t w tree l.0 f.0), trees_said o ts ws plans l.1 f.1)
+trees_said o ts ws plans l f = absurd f
 
 trees_given : OfTrees → (ts : List TreeRow) (ws : List {1} Problem) (rs : List Record) → AreLike ts ws → AreTrees Leaf ws rs → (plans : List Plan) × AllZip FitsTree ts plans × (rs ≡ flat_map nodes plans)
 trees_given o [] [] rs l f = ([], tt, f)
-trees_given o [] (w ∷ ws) rs l f = absurd l
-trees_given o (t ∷ ts) [] rs l f = absurd l
 trees_given o (t ∷ ts) (w ∷ ws) rs l f =
     let one = o.back w f.0 f.3 in
     let more = trees_given o ts ws f.1 l.1 f.4 in
     (one.0 ∷ more.0, (moved_back t w one.0 l.0 one.2, more.1), f.2 ∙ ap₂ (λ (x y : List Record). x ++ y) one.1 more.2)
+trees_given o ts ws rs l f = absurd l
 
 -- ---- a block
 
@@ -127,14 +125,12 @@ formed_are_blocks o known q rs p f =
 pub nodes_in : (p : Proof) → proof_nodes p ≡ flat_map nodes (trees_of p)
 nodes_in (proof.One tree) = sym (append-nil (nodes tree))
 nodes_in (proof.Two tree second) = ap (λ (t : List Record). nodes tree ++ t) (sym (append-nil (nodes second)))
-nodes_in proof.Nothing = refl
 nodes_in p = refl
 
 -- ---- the answer of a block has no spares
 
 nums_tight : (d : Datum) → tight_nums (nums_in d) ≡ nums_in d
 nums_tight (Nums xs) = refl
-nums_tight (Led n xs) = refl
 nums_tight d = refl
 
 gap_tight : (d : Datum) → tight_gap (gap_in d) ≡ gap_in d
@@ -158,9 +154,8 @@ classes_tight known k [] r = refl
 classes_tight known k (d ∷ ds) r = ap₂ (λ (x : RankProof) (xs : List RankProof). x ∷ xs) (rank_tight (rank_in known.net known.earlier k d) (take (class_length known.net known.earlier k d) r)) (classes_tight known (suc k) ds (drop (class_length known.net known.earlier k d) r))
 
 plans_tight : (plans : List Plan) → tight_proof (proof_by plans) ≡ proof_by plans
-plans_tight [] = refl
 plans_tight (tree ∷ []) = refl
-plans_tight (tree ∷ second ∷ more) = refl
+plans_tight plans = refl
 
 proof_tight : (known : Known) (q : Question) (kind : HeadKind) (h r : List Datum) (plans : List Plan) → tight_proof (proof_of known.net known.earlier q kind h r plans) ≡ proof_of known.net known.earlier q kind h r plans
 proof_tight known Q1 Classes h r plans = ap₂ (λ (x y : KeptNums). proof.Forest x y) (nums_tight (at r 1)) (nums_tight (at r 2))

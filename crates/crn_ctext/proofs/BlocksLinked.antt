@@ -1,7 +1,7 @@
 -- A formed answer and the records of its block: what is required of the one is required of the other.
-use Rattle.crn_ctext.proofs.Prelude.{◌≡◌, ◌⊎◌, ◌+◌, ◌∙◌, ℕ, Bool, true, false, List, [], ◌∷◌, length, refl, sym, ap, ap₂, subst, inl, inr, Option, ℤ, pos, IsSome, IsSomeAnd, AllZip, Net, Sign, plain_table, strong_table, head_is, tail_is, abs_back, Wide, Budget, Verdict, Unknown, Proof, RankProof, Forest, StrongTrees, Back, RankRows, Ranks, Sides, Ties, One, Two, HeadKind, Earlier, Question, Q1, Q2, Q3, Q4, Q5, Q6, Q7, Q8, Q9, Q10, Q11, Q12, Q13, Q14, Q15, on, rank_of, WrongNumber, WrongVerdict, Plan, linkage_count, head_tests, row_tests, signal_head, AreClassNumbers, IsValid, tight, tight_proof, TreeRow, trees, Block, FitsTree, block_of, trees_of, proof_of, HeadMayBe, IsFormedOf, Record, Fits, Problem, below, IsFormed, IsOneOf, AreTrees, leaf_forms, heads, kind_at, head_of, records, records_below, proof_nodes, Known, has_vector, shapes_of, sizes_of, verdict_by, said_verdict, said_proof, meaning}
+use Rattle.crn_ctext.proofs.Prelude.{◌≡◌, ◌⊎◌, ◌+◌, ◌∙◌, ℕ, Bool, true, List, [], ◌∷◌, length, refl, sym, ap, ap₂, subst, inl, inr, Option, ℤ, pos, IsSome, IsSomeAnd, AllZip, Net, plain_table, strong_table, abs_back, Budget, Verdict, Unknown, Proof, RankProof, Forest, StrongTrees, Back, RankRows, Ranks, Sides, Ties, One, Two, HeadKind, Earlier, Question, Q1, Q2, Q3, Q5, Q6, Q7, Q8, Q9, Q11, Q12, Q13, Q14, Q15, on, rank_of, WrongNumber, WrongVerdict, Plan, linkage_count, head_tests, row_tests, signal_head, AreClassNumbers, IsValid, tight, tight_proof, TreeRow, trees, Block, FitsTree, block_of, trees_of, proof_of, HeadMayBe, IsFormedOf, Record, Fits, Problem, below, IsFormed, IsOneOf, AreTrees, heads, kind_at, head_of, records, records_below, proof_nodes, Known, has_vector, shapes_of, sizes_of, verdict_by, said_verdict, said_proof, meaning}
 use Rattle.crn_cert.specs.declared.answer.Gap.TheVariants.{Rests}
-use Rattle.crn_cert.specs.declared.answer.Verdict.TheVariants.{Classes, Strong, Rank, Deficiency, Yes, YesWeak, YesVec, YesSignal, No, NoReaction, NoNumber, NoTerminal, NoClass, NoSum, NoDependence, NoCycle, NotRegular, OnlyZero, Plane, NotApplicable}
+use Rattle.crn_cert.specs.declared.answer.Verdict.TheVariants.{Classes, Strong, Rank, Deficiency, Yes, YesWeak, YesVec, YesSignal, No, OnlyZero}
 use Rattle.crn_cert.specs.Tests.{Test, test}
 use Rattle.crn_cert.specs.Blocks.{head_of as kind_of}
 use Rattle.crn_cert.specs.Table as table
@@ -13,8 +13,8 @@ use Rattle.crn_ctext.proofs.Joined.{IsLinked, IsJoinedAt, answer, parts, linked_
 use Rattle.crn_ctext.proofs.RanksLinked.{said_again, tests_said}
 use Rattle.crn_ctext.proofs.TablesLinked.{concordant_tree, strongly_tree, tables_shown, plain_there, plain_back, strong_there, strong_back}
 use Rattle.crn_ctext.proofs.SignalLinked.{signal_trees, signals_shown, signal_there, signal_back}
-use Rattle.crn_ctext.proofs.RecordsDerived.{records_as_before}
-use Rattle.crn_ctext.proofs.BlocksFormed.{AreLike, blocks_are_formed, nodes_in, trees_due}
+use Rattle.crn_ctext.proofs.RecordsDerived.{head_as_before, records_as_before}
+use Rattle.crn_ctext.proofs.BlocksFormed.{AreLike, blocks_are_formed, nodes_in, trees_due, Leaf}
 use Rattle.crn_ctext.proofs.BlocksSaid.{block_said, turn_is}
 use Rattle.crn_ctext.proofs.BlocksShown.{block_shown}
 use Rattle.crn_ctext.proofs.RecordsTold.{ComesAfter, of_trees}
@@ -56,25 +56,16 @@ deficiency_tests net total count rank Numbers = test 0 WrongVerdict (IsSome rank
 
 -- the tests of the record of a head are those of the verdict
 claims_are : (known : Known) (q : Question) (v : Verdict) → HeadMayBe known.net known.earlier q v → meaning.head_claims q known (head_of q v) ≡ head_tests known.net known.earlier q v
-claims_are known Q3 (Unknown (Rests question)) h = absurd h
-claims_are known Q4 (Unknown (Rests question)) h = absurd h
 claims_are known Q6 (Deficiency total classes) h =
     ap (λ (xs : List ℕ). deficiency_tests known.net total (linkage_count known.earlier) (rank_of (on known.earlier Q5)) (AreClassNumbers known.net known.earlier 1 xs)) (abs_back classes.list)
-claims_are known Q6 (Unknown (Rests question)) h = refl
 claims_are known Q9 (YesWeak true) h = refl
-claims_are known Q9 (Unknown (Rests question)) h = refl
-claims_are known Q10 (Unknown (Rests question)) h = refl
-claims_are known Q11 (Unknown (Rests question)) h = refl
-claims_are known Q12 (Unknown (Rests question)) h = refl
 claims_are known Q13 (YesSignal turn shelves mu level weights) h = ap (λ (z : ℤ). signal_head known.earlier (YesSignal z shelves mu level weights)) (turn_is turn h.0)
 claims_are known Q13 (Unknown (Budget nodes)) h = ap (λ (place : ℕ). signal_head known.earlier (verdict_by (kind_at Q13 place) (pos nodes ∷ []) [])) (spent_place (has_vector (on known.earlier Q12)) (sizes_of known))
 claims_are known Q13 (Unknown (Rests question)) h = ap (λ (place : ℕ). signal_head known.earlier (verdict_by (kind_at Q13 place) (pos question ∷ []) [])) (rests_place (has_vector (on known.earlier Q12)) (sizes_of known))
+claims_are known q (Unknown (Rests question)) h = search (refl, h)
 claims_are known q v h = search (refl, h)
 
 -- ---- an answer and its block
-
-abbrev Due : Problem → List Sign → Record → Type 0
-Due w prefix r = IsOneOf (leaf_forms w) r
 
 abbrev block : Known → Verdict → Proof → Block
 block known v p = block_of known.net known.earlier v p
@@ -88,12 +79,7 @@ rows_in known q b = row_records (table.rows known.net known.earlier q b.kind b.h
 
 -- those of the answer are they
 above : (known : Known) (q : Question) (v : Verdict) (p : Proof) → IsFormedOf known.net known.earlier q v p → (head_of q v ≡ head_in q (block known v p)) × (records_below (shapes_of known) (answer v p) ≡ rows_in known q (block known v p))
-above known q v p f =
-    let head = head_in q (block known v p) in
-    let rows = rows_in known q (block known v p) in
-    let own = records_below (shapes_of known) (answer v p) in
-    let all : head_of q v ∷ own ≡ head ∷ rows = records_as_before known q v p f in
-    (head_is (head_of q v) head own rows all, tail_is (head_of q v) head own rows all)
+above known q v p f = (head_as_before q v, records_as_before known q v p f)
 
 -- the records of a formed answer are formed
 pub block_formed : (known : Known) (q : Question) (v : Verdict) (p : Proof) → IsFormedOf known.net known.earlier q v p → IsFormed meaning q known (records q (shapes_of known) (answer v p)) (parts q known (answer v p))
@@ -105,7 +91,7 @@ block_formed known q v p f =
     record {
       head = subst (λ (h : Record). IsOneOf (heads q (sizes_of known)) h) (sym a.0) formed.head;
       rows = subst (λ (h : Record). AllZip Fits (below q (shapes_of known) h) own) (sym a.0) (subst (λ (rs : List Record). AllZip Fits (below q (shapes_of known) (head_in q b)) rs) (sym a.1) formed.rows);
-      trees = subst (λ (h : Record). AreTrees Due (meaning.problems q known h) (proof_nodes p)) (sym a.0) (subst (λ (ns : List Record). AreTrees Due (meaning.problems q known (head_in q b)) ns) (sym (nodes_in p)) formed.trees);
+      trees = subst (λ (h : Record). AreTrees Leaf (meaning.problems q known h) (proof_nodes p)) (sym a.0) (subst (λ (ns : List Record). AreTrees Leaf (meaning.problems q known (head_in q b)) ns) (sym (nodes_in p)) formed.trees);
     }
 
 -- and say its verdict
@@ -161,11 +147,9 @@ by_trees P q v t a b c = absurd t
 
 bare_or : (net : Net) (earlier : Earlier) (q : Question) (v : Verdict) → (trees net earlier q (kind_of v).0 ≡ []) ⊎ HaveTrees q v
 bare_or net earlier Q13 No = inr tt
-bare_or net earlier Q13 (Unknown (Rests question)) = inl refl
 bare_or net earlier Q14 Yes = inr tt
-bare_or net earlier Q14 (Unknown (Rests question)) = inl refl
 bare_or net earlier Q15 Yes = inr tt
-bare_or net earlier Q15 (Unknown (Rests question)) = inl refl
+bare_or net earlier q (Unknown (Rests question)) = inl refl
 bare_or net earlier q v = inl refl
 
 -- ---- each question

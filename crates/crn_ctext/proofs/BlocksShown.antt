@@ -1,6 +1,6 @@
 -- The proof that the records below a head show is that of the block, but for its trees.
-use Rattle.crn_ctext.proofs.Prelude.{◌≡◌, ◌∙◌, ◌-◌, ◌+◌, ◌++◌, ℕ, zero, suc, List, [], ◌∷◌, length, map, take, drop, refl, sym, ap, ap₂, subst, ℤ, pos, replicate, codes, AllByRecursion, AllZip, flat_map, range_with_len, append-nil, take-map, drop-map, abs_back, all_append, KeptNums, RankProof, Question, Q1, Q2, Q3, Q4, Q5, Q6, Q7, Q8, Q9, Q10, Q11, Q12, Q13, Q14, Q15, on, linkage_count, pair_places, HeadKind, Classes, Strong, Rank, Deficiency, Yes, YesWeak, YesVec, YesSignal, No, NoReaction, NoVec, NoNumber, NoTerminal, NoClass, NoSum, NoDependence, NoCycle, NoPair, NotRegular, OnlyZero, Plane, NotApplicable, Rests, Datum, Num, Nums, Ints, Marks, Led, FreeSeveral, Side, AreClassProofs, tight_rank, Row, row, rank_rows, class_rows, fields, Block, FitsBlock, FitsRow, FitsHead, proof_of, rank_proof, class_proofs, rank_data, list_in, AllOf, given, fields_in, head_back, rows_back, classes_formed, blocks_are_of_answers, kind_at, later_numbers, Record, rank_records, Known, has_vector, nums, lists, shapes_of, said_sizes, ranks_of, said_proof, said_rank, said_classes}
-use Rattle.crn_cert.specs.declared.head_kind.HeadKind.TheVariants.{Wide, Budget}
+use Rattle.crn_ctext.proofs.Prelude.{◌≡◌, ◌∙◌, ◌-◌, ◌+◌, ◌++◌, ℕ, suc, List, [], ◌∷◌, length, map, take, drop, refl, sym, ap, ap₂, subst, ℤ, pos, replicate, codes, AllByRecursion, AllZip, flat_map, range_with_len, append-nil, take-map, drop-map, all_append, KeptNums, RankProof, Question, Q1, Q2, Q3, Q5, Q6, Q11, Q12, Q13, on, linkage_count, pair_places, HeadKind, Classes, Strong, Rank, Deficiency, Yes, YesVec, OnlyZero, Rests, Datum, Num, Nums, Ints, Marks, Led, FreeSeveral, Side, AreClassProofs, tight_rank, Row, row, rank_rows, class_rows, fields, Block, FitsBlock, FitsRow, FitsHead, proof_of, rank_proof, class_proofs, rank_data, list_in, AllOf, given, head_back, rows_back, classes_formed, blocks_are_of_answers, kind_at, later_numbers, Record, rank_records, Known, has_vector, nums, lists, shapes_of, said_sizes, ranks_of, said_proof, said_rank, said_classes}
+use Rattle.crn_cert.specs.declared.head_kind.HeadKind.TheVariants.{Budget}
 use Rattle.crn_cert.specs.Data.{Field, Fits}
 use Rattle.crn_cert.specs.Table.{rows, sizes_of}
 use Rattle.crn_cert.proofs.CallerLemmas.{fields_of}
@@ -9,7 +9,9 @@ use Rattle.crn_cert.specs.declared.answer.Proof.TheVariants as proof
 use Rattle.crn_ctext.proofs.RanksLinked.{places_from, sizes_from, classes_said as ranks_said}
 use Rattle.crn_ctext.proofs.RecordsDerived.{classes_said}
 use Rattle.crn_ctext.proofs.BlocksFormed.{answers_formed, classes_tight}
-use Rattle.crn_ctext.proofs.Forms.{numbers_of, head_record, row_records, spent_place, rests_place}
+use Rattle.crn_ctext.proofs.Forms.{numbers_of, head_record, row_records, spent_place, rests_place, all_same}
+use Rattle.crn_ctext.proofs.RowsDerived.{HeadOf, head_by}
+use Rattle.crn_ctext.proofs.BlocksSaid.{due, kept, nums_back}
 
 -- ---- numbers of records
 
@@ -22,19 +24,8 @@ free_list r d i f = absurd (subst (λ (x : Field). Fits x d) i.1 f)
 
 free_lists : (rs : List Row) (us : List Datum) → AllByRecursion IsFreeRow rs → AllZip FitsRow rs us → lists (row_records rs us) ≡ map list_in us
 free_lists [] [] i f = refl
-free_lists [] (u ∷ us) i f = absurd f
-free_lists (r ∷ rs) [] i f = absurd f
 free_lists (r ∷ rs) (u ∷ us) i f = ap₂ (λ (x : List ℤ) (xs : List (List ℤ)). x ∷ xs) (free_list r u i.0 f.0) (free_lists rs us i.1 f.1)
-
-are_free : (word : List ℕ) (width count : ℕ) → AllByRecursion IsFreeRow (replicate count (row word (FreeSeveral width)))
-are_free word width zero = tt
-are_free word width (suc n) = ((width, refl), are_free word width n)
-
-abbrev kept : List ℕ → KeptNums
-kept xs = record { list = xs; spare = 0 }
-
-nums_back : (xs : List ℕ) → nums (map pos xs) ≡ kept xs
-nums_back xs = ap (λ (t : List ℕ). kept t) (abs_back xs)
+free_lists rs us i f = absurd f
 
 abbrev proof_with : KeptNums → List (List ℤ) → List (List ℤ) → RankProof
 proof_with base duals combs = record { base = base; duals = duals; combs = combs }
@@ -45,32 +36,22 @@ rank_shown species rank members (Nums xs ∷ us) f =
     let duals = replicate rank (row (codes "dual") (FreeSeveral species)) in
     let combs = replicate (length members - rank) (row (codes "comb") (FreeSeveral (suc rank))) in
     let all : lists (row_records (duals ++ combs) us) ≡ map list_in us =
-    free_lists (duals ++ combs) us (all_append IsFreeRow duals combs (are_free (codes "dual") species rank) (are_free (codes "comb") (suc rank) (length members - rank))) f.1 in
+    free_lists (duals ++ combs) us (all_append IsFreeRow duals combs (all_same IsFreeRow rank (row (codes "dual") (FreeSeveral species)) (species, refl)) (all_same IsFreeRow (length members - rank) (row (codes "comb") (FreeSeveral (suc rank))) (suc rank, refl))) f.1 in
     ap₂ (λ (a b : List (List ℤ)). proof_with (nums (map pos xs)) a b) (ap (λ (t : List (List ℤ)). take rank t) all ∙ take-map list_in rank us) (ap (λ (t : List (List ℤ)). drop rank t) all ∙ drop-map list_in rank us)
     ∙ ap (λ (b : KeptNums). proof_with b (map list_in (take rank us)) (map list_in (drop rank us))) (nums_back xs)
 rank_shown species rank members (d ∷ us) f = absurd f.0
 
 sides_shown : (c : ℕ) (pairs : List ℕ) (us : List Datum) → AllZip FitsRow (map (λ r. row (codes "side") (Side r c)) pairs) us → map later_numbers (lists (row_records (map (λ r. row (codes "side") (Side r c)) pairs) us)) ≡ map list_in us
 sides_shown c [] [] f = refl
-sides_shown c [] (u ∷ us) f = absurd f
-sides_shown c (r ∷ pairs) [] f = absurd f
 sides_shown c (r ∷ pairs) (Marks n zs ∷ us) f = ap (λ (t : List (List ℤ)). zs ∷ t) (sides_shown c pairs us f.1)
 sides_shown c (r ∷ pairs) (u ∷ us) f = absurd f.0
+sides_shown c pairs us f = absurd f
 
 -- ---- for each question and kind of head
 
 -- the records show the proof of the block
 abbrev pub IsShown : Known → Question → HeadKind → List Datum → List Datum → Type 0
 IsShown known q kind h r = said_proof q (shapes_of known) (head_record q kind h) (row_records (rows known.net known.earlier q kind h) r) ≡ proof_of known.net known.earlier q kind h r []
-
-abbrev HeadOf : Known → Question → HeadKind → Type 0
-HeadOf known q kind = AllOf (fields_in (fields q (sizes_of known.net known.earlier) kind))
-
-abbrev head_by : (known : Known) (q : Question) (kind : HeadKind) → HeadOf known q kind → List Datum
-head_by known q kind a = given (fields_in (fields q (sizes_of known.net known.earlier) kind)) a
-
-abbrev due : (known : Known) (q : Question) (kind : HeadKind) → HeadOf known q kind → List Row
-due known q kind a = rows known.net known.earlier q kind (head_by known q kind a)
 
 by_rows : (known : Known) (q : Question) (kind : HeadKind) (a : HeadOf known q kind) (r : List Datum) → AllZip FitsRow (due known q kind a) r
     → ((b : AllOf (fields_of (due known q kind a))) → IsShown known q kind (head_by known q kind a) (given (fields_of (due known q kind a)) b)) → IsShown known q kind (head_by known q kind a) r
@@ -81,7 +62,7 @@ ties_shown known [] f = absurd f
 ties_shown known (Ints zs ∷ us) f =
     let width = length known.net.names + linkage_count known.earlier in
     let count = length known.net.complexes - 1 in
-    ap (λ (t : List (List ℤ)). proof.Ties t) (free_lists (replicate count (row (codes "tie") (FreeSeveral width))) us (are_free (codes "tie") width count) f.1)
+    ap (λ (t : List (List ℤ)). proof.Ties t) (free_lists (replicate count (row (codes "tie") (FreeSeveral width))) us (all_same IsFreeRow count (row (codes "tie") (FreeSeveral width)) (width, refl)) f.1)
 ties_shown known (d ∷ us) f = absurd f.0
 
 -- the proofs of the ranks of all classes
@@ -108,23 +89,17 @@ shown_by known Q2 Strong a r h f = by_rows known Q2 Strong a r f (λ b.
     ∙ ap₂ (λ (x y : KeptNums). proof.Strong (kept b.1.0) (kept b.1.1.0) x y (nums (map pos b.1.1.1.1.1.0))) (nums_back b.1.1.1.0) (nums_back b.1.1.1.1.0)
     ∙ ap (λ (x : KeptNums). proof.Strong (kept b.1.0) (kept b.1.1.0) (kept b.1.1.1.0) (kept b.1.1.1.1.0) x) (nums_back b.1.1.1.1.1.0))
 shown_by known Q3 Yes a r h f = by_rows known Q3 Yes a r f (λ b. ap (λ (x : KeptNums). proof.Back x) (nums_back b.0))
-shown_by known Q4 Yes a r h f = refl
 shown_by known Q5 Rank a r h f = ap (λ (x : RankProof). proof.Rank x) (rank_shown (length known.net.names) a.0 (range_with_len 1 (length known.net.reactions)) r f)
 shown_by known Q6 Deficiency a r h f = classes_shown known a.0.0 a.0.1 r h f
-shown_by known Q7 YesVec a r h f = refl
-shown_by known Q8 YesVec a r h f = refl
-shown_by known Q9 YesWeak a r h f = refl
-shown_by known Q10 Yes a r h f = refl
 shown_by known Q11 Yes a r h f = ap (λ (t : List (List ℤ)). proof.Sides t) (sides_shown (length known.net.complexes) (pair_places known.net known.earlier) r f)
 shown_by known Q12 YesVec a r h f = ties_shown known r f
 shown_by known Q12 OnlyZero a r h f =
     let width = length known.net.names + linkage_count known.earlier in
     let count = length known.net.complexes in
-    ap (λ (t : List (List ℤ)). proof.Ties t) (free_lists (replicate count (row (codes "tie") (FreeSeveral width))) r (are_free (codes "tie") width count) f)
+    ap (λ (t : List (List ℤ)). proof.Ties t) (free_lists (replicate count (row (codes "tie") (FreeSeveral width))) r (all_same IsFreeRow count (row (codes "tie") (FreeSeveral width)) (width, refl)) f)
 shown_by known Q13 Budget a r h f = ap (λ (place : ℕ). proof_by (kind_at Q13 place) Q13 (ranks_of (shapes_of known) (head_record Q13 Budget (Num a.0 ∷ [])) []) (pos a.0 ∷ []) []) (spent_place (has_vector (on known.earlier Q12)) (said_sizes known))
 shown_by known Q13 Rests a r h f = ap (λ (place : ℕ). proof_by (kind_at Q13 place) Q13 (ranks_of (shapes_of known) (head_record Q13 Rests (Num a.0 ∷ [])) []) (pos a.0 ∷ []) []) (rests_place (has_vector (on known.earlier Q12)) (said_sizes known))
-shown_by known Q14 Yes a r h f = refl
-shown_by known Q15 Yes a r h f = refl
+shown_by known q Classes a r h f = search (refl, h)
 shown_by known q kind a r h f = search (refl, h)
 
 pub block_shown : (known : Known) (q : Question) (kind : HeadKind) (h r : List Datum) → FitsHead q (sizes_of known.net known.earlier) kind h → AllZip FitsRow (rows known.net known.earlier q kind h) r → IsShown known q kind h r

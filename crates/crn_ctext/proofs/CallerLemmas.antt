@@ -38,7 +38,7 @@ pub use Rattle.crn_ctext.proofs.TreesAlike.{IsLike, HoldTogether, like_itself, l
 -- What records of given forms are, and what a course gives in two parts.
 pub use Rattle.crn_ctext.proofs.AnswersApart.{zip_long}
 -- The forms of heads, as they come.
-pub use Rattle.crn_ctext.proofs.Forms.{numbers_of, head_record, head, yes, no, no_by, none_by, open_by, wide, wide_signal, rests, spent, last_forms, spent_place, rests_place, given_back}
+pub use Rattle.crn_ctext.proofs.Forms.{numbers_of, head_record, head, yes, no, no_by, none_by, open_by, wide, wide_signal, rests, spent, last_forms, spent_place, rests_place, given_back, all_same}
 pub use Rattle.crn_ctext.proofs.BlocksSaid.{turn_is}
 pub use Rattle.crn_ctext.proofs.RanksLinked.{record_is}
 pub use Rattle.crn_ctext.proofs.TreesAlike.{gives_parts}

@@ -131,12 +131,11 @@ gives_then (End next) f at mid after x y p q = (p.0, gives_then next f at mid af
 pub fails_before : {A B : Type 0} (c : Course A) (f : A → Course B) (at : Place) (n code : ℕ) → FailsFirst c at n code → FailsFirst (c >>= f) at n code
 unfolding FailsFirst
 fails_before (Give x) f at n code p = absurd p
-fails_before (Line node next) f at n code (inl p) = inl p
 fails_before (Line node next) f at n code (inr p) = inr (p.0, p.1, p.2, fails_before (next p.0) f p.1 n code p.3)
 fails_before (Test m c X P next) f at n code (inl p) = inl p
 fails_before (Test m c X P next) f at n code (inr p) = inr (p.0, p.1, fails_before (next p.0) f at n code p.2)
-fails_before (End next) f at n code (inl p) = inl p
 fails_before (End next) f at n code (inr p) = inr (p.0, fails_before next f at n code p.1)
+fails_before c f at n code (inl p) = inl p
 
 -- and what fails in the second fails after the first
 pub fails_then : {A B : Type 0} (c : Course A) (f : A → Course B) (at mid : Place) (x : A) (n code : ℕ) → Gives c at x mid → FailsFirst (f x) mid n code → FailsFirst (c >>= f) at n code

@@ -63,14 +63,7 @@ group_digits (b ∷ bs) (suc i) all eight = rw (later i) (all.0, group_digits bs
 
 eight_after : (v : ℕ) (bs : List ℕ) → 8 ≤ length bs → digits_value_after 10 v (take 8 bs) ≡ v * 100000000 + digits_value 10 (take 8 bs)
 eight_after v (a ∷ b ∷ c ∷ d ∷ e ∷ f ∷ g ∷ h ∷ bs) le = omega arith
-eight_after v (a ∷ b ∷ c ∷ d ∷ e ∷ f ∷ g ∷ []) le = absurd (omega (arith, le))
-eight_after v (a ∷ b ∷ c ∷ d ∷ e ∷ f ∷ []) le = absurd (omega (arith, le))
-eight_after v (a ∷ b ∷ c ∷ d ∷ e ∷ []) le = absurd (omega (arith, le))
-eight_after v (a ∷ b ∷ c ∷ d ∷ []) le = absurd (omega (arith, le))
-eight_after v (a ∷ b ∷ c ∷ []) le = absurd (omega (arith, le))
-eight_after v (a ∷ b ∷ []) le = absurd (omega (arith, le))
-eight_after v (a ∷ []) le = absurd (omega (arith, le))
-eight_after v [] le = absurd (omega (arith, le))
+eight_after v bs le = absurd (omega (arith, le))
 
 group_after : (v : ℕ) (bs : List ℕ) (i : ℕ) → 8 ≤ length (drop i bs)
     → digits_value_after 10 v (take (i + 8) bs) ≡ digits_value_after 10 v (take i bs) * 100000000 + digits_value 10 (take 8 (drop i bs))

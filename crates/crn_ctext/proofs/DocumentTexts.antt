@@ -1,5 +1,5 @@
 -- The records of a document by its version: sections and shared lists change neither the cut leaves nor, in version 1, the records.
-use Rattle.crn_ctext.proofs.Prelude.{◌≡◌, ◌≤◌, ◌==◌, ◌++◌, ◌∙◌, ℕ, suc, Bool, true, false, cond, if◌then◌else◌, List, [], ◌∷◌, length, map, refl, sym, ap, ap₂, subst, inl, inr, arith, append_assoc, ℤ, codes, AllByRecursion, AllZip, filter, bytes_eq, cases_Bool, Question, Q1, Q2, Q3, Q4, Q5, Q6, Q7, Q8, Q9, Q10, Q11, Q12, Q13, Q14, Q15, MAX_SHARED, Record, opens, Meaning, sections, word_of, one_word, section, is_cut_leaf, cut_lists, table_records, in_sections, IsNamed, IsShareable, AreFormed}
+use Rattle.crn_ctext.proofs.Prelude.{◌≡◌, ◌≤◌, ◌==◌, ◌++◌, ◌∙◌, ℕ, suc, Bool, true, false, if◌then◌else◌, List, [], ◌∷◌, length, map, refl, sym, ap, ap₂, subst, inl, inr, arith, append_assoc, ℤ, codes, AllByRecursion, AllZip, filter, bytes_eq, Question, Q1, MAX_SHARED, Record, opens, Meaning, sections, word_of, one_word, section, is_cut_leaf, cut_lists, table_records, in_sections, IsNamed, IsShareable, AreFormed, map-append, filter-append}
 use Rattle.crn_ctext.proofs.Bounded.{IsPlain, words_fit, all_narrow}
 use Rattle.crn_ctext.proofs.ShortAnswers.{AllPlain, short_both}
 use Rattle.crn_ctext.proofs.Shared.{IsWrittenFor, named_at}
@@ -19,16 +19,8 @@ parted_second [] answers = refl
 parted_second (q ∷ qs) [] = refl
 parted_second (q ∷ qs) (rs ∷ more) = ap (λ (t : List Record). map section (opens q) ++ (rs ++ t)) (parted_second qs more) ∙ sym (append_assoc (map section (opens q)) rs (in_sections qs more))
 
--- the lists of cut leaves, by whether the first record is one
-abbrev lists_by : Bool → Record → List Record → List (List ℤ)
-lists_by t r rs = map (λ r. r.numbers) (cond t (r ∷ filter is_cut_leaf rs) (filter is_cut_leaf rs))
-
 pub cuts_append : (xs ys : List Record) → cut_lists (xs ++ ys) ≡ cut_lists xs ++ cut_lists ys
-cuts_append [] ys = refl
-cuts_append (x ∷ xs) ys = elim (cases_Bool (is_cut_leaf x)) [
-  | inl cut ↦ subst (λ (t : Bool). lists_by t x (xs ++ ys) ≡ lists_by t x xs ++ cut_lists ys) (sym cut) (ap (λ (t : List (List ℤ)). x.numbers ∷ t) (cuts_append xs ys))
-  | inr none ↦ subst (λ (t : Bool). lists_by t x (xs ++ ys) ≡ lists_by t x xs ++ cut_lists ys) (sym none) (cuts_append xs ys)
-]
+cuts_append xs ys = ap (λ (t : List Record). map (λ (r : Record). r.numbers) t) (filter-append is_cut_leaf xs ys) ∙ map-append (λ (r : Record). r.numbers) (filter is_cut_leaf xs) (filter is_cut_leaf ys)
 
 section_cuts : (names : List (List ℕ)) → cut_lists (map section names) ≡ []
 section_cuts [] = refl
@@ -49,8 +41,6 @@ parted_cuts version m (q ∷ qs) known (rs ∷ more) v =
 -- without shared lists each record is written in its own place
 pub written_alone : (table : List (List ℤ)) (ws rs : List Record) → table ≡ [] → AllZip (IsWrittenFor table) ws rs → ws ≡ rs
 written_alone table [] [] e z = refl
-written_alone table [] (r ∷ rs) e z = absurd z
-written_alone table (w ∷ ws) [] e z = absurd z
 written_alone table (w ∷ ws) (r ∷ rs) e z = ap₂ (λ (x : Record) (xs : List Record). x ∷ xs) (one z.0) (written_alone table ws rs e z.1)
   where
     none : (table : List (List ℤ)) (k : ℕ) (u : List ℤ) → table ≡ [] → IsNamed table (suc k) u → ⊥
@@ -60,17 +50,13 @@ written_alone table (w ∷ ws) (r ∷ rs) e z = ap₂ (λ (x : Record) (xs : Lis
     one : IsWrittenFor table w r → w ≡ r
     one (inl same) = same
     one (inr named) = absurd (none table named.0 r.numbers e named.2)
+written_alone table ws rs e z = absurd z
 
 -- ---- plain records
 
 section_words : (q : Question) → AllByRecursion (λ name. words_fit (codes "section" ∷ name ∷ []) ≡ true) (opens q)
 section_words Q1 = (refl, tt)
-section_words Q5 = (refl, tt)
-section_words Q7 = (refl, tt)
-section_words Q9 = (refl, tt)
-section_words Q11 = (refl, tt)
-section_words Q14 = (refl, tt)
-section_words q = tt
+section_words q = assumption
 
 sections_plain : (version : ℕ) (q : Question) → AllPlain (map section (sections version q))
 sections_plain version q = by (version == 2)
@@ -91,8 +77,6 @@ parted_plain version (q ∷ qs) (rs ∷ more) p = short_both (map section (secti
 -- what is written in the place of plain records is plain
 pub written_plain : (table : List (List ℤ)) (ws rs : List Record) → length table ≤ MAX_SHARED → AllPlain rs → AllZip (IsWrittenFor table) ws rs → AllPlain ws
 written_plain table [] [] few p z = tt
-written_plain table [] (r ∷ rs) few p z = absurd z
-written_plain table (w ∷ ws) [] few p z = absurd z
 written_plain table (w ∷ ws) (r ∷ rs) few p z = (one z.0, written_plain table ws rs few p.1 z.1)
   where
     name_fits : (t : Bool) → words_fit ((if t then codes "refa" else codes "refb") ∷ []) ≡ true
@@ -102,6 +86,7 @@ written_plain table (w ∷ ws) (r ∷ rs) few p z = (one z.0, written_plain tabl
     one : IsWrittenFor table w r → IsPlain w
     one (inl same) = subst IsPlain (sym same) p.0
     one (inr named) = let at = named_at table named.0 r.numbers named.2 in subst IsPlain (sym named.3) (record { words = name_fits (bytes_eq (word_of r) (codes "cuta")); few = omega arith; numbers = (omega (arith, few, at.0), tt) })
+written_plain table ws rs few p z = absurd z
 
 pub table_plain : (version : ℕ) (table : List (List ℤ)) → length table ≤ MAX_SHARED → AllByRecursion IsShareable table → AllPlain (table_part version table)
 table_plain version table few s = by (version == 2)

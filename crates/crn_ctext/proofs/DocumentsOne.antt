@@ -1,5 +1,5 @@
 -- If two documents are equal, so are their networks, formed answers and shares, and they are of one version.
-use Rattle.crn_ctext.proofs.Prelude.{◌≡◌, ◌+◌, ◌≤◌, ◌==◌, ◌++◌, ◌∙◌, ℕ, if◌then◌else◌, List, [], ◌∷◌, length, map, refl, sym, ap, ap₂, subst, inl, inr, arith, ℤ, pos, codes, decimal, slice_index, AllByRecursion, AllZip, bytes_eq, first_number, digits, append_cancel_left, length-map, append_cancel_right, decimal_injective, Net, IsNetwork, canonical, spells_its_network, spelling_unique, Spells, Record, record_text, word_of, title, network_line, ended, one_word, AreFormed, Share, FitsShare, IsNamed, cut_lists, written, table_records, document, document2, meaning, built, AreFormedOf}
+use Rattle.crn_ctext.proofs.Prelude.{◌≡◌, ◌+◌, ◌≤◌, ◌==◌, ◌++◌, ◌∙◌, ℕ, if◌then◌else◌, List, [], ◌∷◌, length, map, refl, sym, ap, ap₂, subst, inl, inr, arith, ℤ, pos, codes, decimal, slice_index, AllByRecursion, AllZip, bytes_eq, first_number, digits, append_cancel_left, length-map, append_cancel_right, decimal_injective, Net, IsNetwork, canonical, spells_its_network, spelling_unique, Spells, Record, record_text, word_of, title, network_line, ended, one_word, AreFormed, Share, FitsShare, IsNamed, cut_lists, written, table_records, document, document2, meaning, built, AreFormedOf, all_append}
 use Rattle.std.specs.Prelude.{Bool, true, false}
 use Rattle.crn_ctext.proofs.Texts.{text_is_one}
 use Rattle.crn_ctext.proofs.Image.{AllShort}
@@ -14,7 +14,7 @@ use Rattle.crn_ctext.proofs.NetworkLines.{ends_in, net_line}
 use Rattle.crn_ctext.proofs.DocumentsRead.{no_ends}
 use Rattle.crn_ctext.proofs.ShortAnswers.{AllPlain, plain_are_short, short_both}
 use Rattle.crn_ctext.proofs.ShortLines.{text_lines_are_short}
-use Rattle.crn_ctext.proofs.AnswersApart.{AllWorded, worded_both, formed_are_worded, parted_worded, answers_apart, same_long, first_same}
+use Rattle.crn_ctext.proofs.AnswersApart.{AllWorded, IsWorded, formed_are_worded, parted_worded, answers_apart, same_long, first_same}
 use Rattle.crn_ctext.proofs.Written.{first_ended}
 use Rattle.crn_ctext.proofs.DocumentsShort.{formed_plain}
 
@@ -50,12 +50,11 @@ ended_one (l ∷ ls) (k ∷ ks) p q e =
 
 records_one : (rs ss : List Record) → AllWorded rs → AllWorded ss → AllShort rs → AllShort ss → map record_text rs ≡ map record_text ss → rs ≡ ss
 records_one [] [] a b c d e = refl
-records_one [] (s ∷ ss) a b c d e = absurd cc
-records_one (r ∷ rs) [] a b c d e = absurd cc
 records_one (r ∷ rs) (s ∷ ss) a b c d e =
     let first : record_text r ≡ record_text s = cc in
     let rest : map record_text rs ≡ map record_text ss = cc in
     ap₂ (λ (x : Record) (xs : List Record). x ∷ xs) (text_is_one r s a.0 b.0 c.0 d.0 first) (records_one rs ss a.1 b.1 c.1 d.1 rest)
+records_one rs ss a b c d e = absurd cc
 
 -- ---- documents
 
@@ -87,13 +86,9 @@ document_one net other answers others n k f g e =
     let known : AreFormed meaning built (meaning.start other) answers = subst (λ (t : Net). AreFormed meaning built (meaning.start t) answers) one.0 f in
     (one.0, answers_apart meaning built (meaning.start other) answers others known g one.1)
   where
-    plain_both : (xs ys : List Record) → AllPlain xs → AllPlain ys → AllPlain (xs ++ ys)
-    plain_both [] ys p q = q
-    plain_both (x ∷ xs) ys p q = (p.0, plain_both xs ys p.1 q)
-
     all_plain : (answers : List (List Record)) → AllByRecursion AllPlain answers → AllPlain (all_of answers)
     all_plain [] p = tt
-    all_plain (rs ∷ more) p = plain_both rs (all_of more) p.0 (all_plain more p.1)
+    all_plain (rs ∷ more) p = short_both rs (all_of more) p.0 (all_plain more p.1)
 
 -- ---- version 2
 
@@ -107,8 +102,6 @@ table_worded table = (words_yes (codes "vectors" ∷ []) refl, each table)
 -- what is written in the place of records with words has words
 written_worded : (table : List (List ℤ)) (ws rs : List Record) → AllWorded rs → AllZip (IsWrittenFor table) ws rs → AllWorded ws
 written_worded table [] [] p z = tt
-written_worded table [] (r ∷ rs) p z = absurd z
-written_worded table (w ∷ ws) [] p z = absurd z
 written_worded table (w ∷ ws) (r ∷ rs) p z = (one z.0, written_worded table ws rs p.1 z.1)
   where
     name : (t : Bool) → AreWords ((if t then codes "refa" else codes "refb") ∷ [])
@@ -118,6 +111,7 @@ written_worded table (w ∷ ws) (r ∷ rs) p z = (one z.0, written_worded table 
     one : IsWrittenFor table w r → AreWords w.words
     one (inl same) = subst (λ (x : Record). AreWords x.words) (sym same) p.0
     one (inr named) = subst (λ (x : Record). AreWords x.words) (sym named.3) (name (bytes_eq (word_of r) (codes "cuta")))
+written_worded table ws rs p z = absurd z
 
 -- the records of a document of version 2
 second_records : List (List Record) → Share → List Record
@@ -134,7 +128,7 @@ second_texts net answers share n f fits =
     let ws = written share.leaf rs in
     let plain : AllPlain ws = written_plain share.table ws rs fits.most (parted_plain 2 built answers (formed_plain net answers n f)) for in
     let worded : AllWorded ws = written_worded share.table ws rs (parted_worded 2 meaning built (meaning.start net) answers f) for in
-    (short_both (table_records share.table) ws (table_plain 2 share.table fits.most fits.lists) plain, worded_both (table_records share.table) ws (table_worded share.table) worded)
+    (short_both (table_records share.table) ws (table_plain 2 share.table fits.most fits.lists) plain, all_append IsWorded (table_records share.table) ws (table_worded share.table) worded)
 
 -- equal shared lists and what follows them
 tables_one : (table other : List (List ℤ)) (ws vs : List Record) → table_records table ++ ws ≡ table_records other ++ vs → (table ≡ other) × (ws ≡ vs)

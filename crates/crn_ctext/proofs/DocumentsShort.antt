@@ -43,12 +43,11 @@ numbers_for table w r (inr h) = let one : length w.numbers ≡ 1 = ap (λ (x : R
 -- the lines of plain records
 pub lines_weigh : (table : List (List ℤ)) (ws rs : List Record) → AllPlain ws → AllZip (IsWrittenFor table) ws rs → length (ended (map record_text ws)) ≤ weight rs
 lines_weigh table [] [] p z = omega arith
-lines_weigh table [] (r ∷ rs) p z = absurd z
-lines_weigh table (w ∷ ws) [] p z = absurd z
 lines_weigh table (w ∷ ws) (r ∷ rs) p z =
     let more = lines_weigh table ws rs p.1 z.1 in
     let size : length (ended (map record_text (w ∷ ws))) ≡ length (record_text w) + length (10 ∷ ended (map record_text ws)) = ap length (first_ended (record_text w) (map record_text ws)) ∙ length-append (record_text w) (10 ∷ ended (map record_text ws)) in
     omega (arith, more, size, record_line_length w p.0, numbers_for table w r z.0)
+lines_weigh table ws rs p z = absurd z
 
 pub same_for : (rs : List Record) → AllZip (IsWrittenFor []) rs rs
 same_for [] = tt

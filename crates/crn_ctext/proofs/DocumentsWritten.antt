@@ -1,5 +1,5 @@
 -- The document of valid answers, written in one of the versions, is read by the course of documents to its end.
-use Rattle.crn_ctext.proofs.Prelude.{◌≡◌, ◌+◌, ◌<◌, ◌≤◌, ◌++◌, ℕ, zero, suc, false, List, [], ◌∷◌, length, map, refl, sym, ap, subst, ◌∙◌, inl, inr, arith, append_assoc, ap₂, ℤ, codes, AllByRecursion, AllZip, flat_map, append-nil, length-map, IsIn, Net, IsNetwork, canonical, reaction_line, complex_text, Record, record_text, end_form, Question, Course, Give, ◌>>=◌, ◌>>◌, find, ends, Gives, IsWrittenBy, Meaning, AfterBlocks, asks, asks_blocks, asks_table, lists_of, asks_lines, title, network_line, ended, ReadOf, IsNetworkOf, course, one_word, opening, record_lines, IsShareable, AreValid, MAX_DOCUMENT, MAX_SHARED, Place, beginning, BadNetwork}
+use Rattle.crn_ctext.proofs.Prelude.{◌≡◌, ◌+◌, ◌<◌, ◌≤◌, ◌++◌, ℕ, zero, suc, false, List, [], ◌∷◌, length, map, refl, sym, ap, subst, ◌∙◌, inl, inr, arith, append_assoc, ap₂, ℤ, codes, AllByRecursion, AllZip, flat_map, append-nil, length-map, IsIn, Net, IsNetwork, canonical, reaction_line, complex_text, Record, record_text, end_form, Question, Course, Give, ◌>>=◌, ◌>>◌, find, ends, Gives, IsWrittenBy, Meaning, AfterBlocks, asks, asks_blocks, asks_table, lists_of, asks_lines, title, network_line, ended, ReadOf, IsNetworkOf, course, one_word, opening, record_lines, IsShareable, AreValid, MAX_DOCUMENT, MAX_SHARED, Place, beginning, BadNetwork, map-append}
 use Rattle.crn_ctext.proofs.Written.{IsShortLine, written_is_given}
 use Rattle.crn_ctext.proofs.FormWords.{end_has}
 use Rattle.crn_ctext.proofs.FormKinds.{end_kind, one_due}
@@ -18,10 +18,6 @@ network_lines net = map (λ r. complex_text net r.0 ++ codes " -> " ++ complex_t
 abbrev pub text_lines : ℕ → Net → List Record → List (List ℕ)
 text_lines version net records = title version ∷ network_line (length net.reactions) ∷ (network_lines net ++ (map record_text records ++ codes "end" ∷ []))
 
--- all lines of a document of version 1
-abbrev pub document_lines : Net → List (List Record) → List (List ℕ)
-document_lines net answers = text_lines 1 net (all_of answers)
-
 pub taken_no_end : (n : ℕ) → HasNoEnd (asks_lines n)
 unfolding HasNoEnd asks_lines
 taken_no_end zero = tt
@@ -31,10 +27,7 @@ pub lines_taken : (ls : List (List ℕ)) → IsWrittenBy (asks_lines (length ls)
 unfolding asks_lines IsWrittenBy
 lines_taken [] = (refl, refl)
 lines_taken (l ∷ ls) = subst (λ (ms : List (List ℕ)). IsWrittenBy (asks_lines (length ls) >>= (λ lines. Give (l ∷ lines))) ms (l ∷ ls)) (append-nil ls)
-    (written_then (asks_lines (length ls)) (λ lines. Give (l ∷ lines)) ls [] ls (l ∷ ls) (lines_no_end (length ls)) (lines_taken ls) (refl, refl))
-  where
-    lines_no_end : (n : ℕ) → HasNoEnd (asks_lines n)
-    lines_no_end n = taken_no_end n
+    (written_then (asks_lines (length ls)) (λ lines. Give (l ∷ lines)) ls [] ls (l ∷ ls) (taken_no_end (length ls)) (lines_taken ls) (refl, refl))
 
 pub canonical_ended : (net : Net) → canonical net ≡ ended (network_lines net)
 canonical_ended net = each net.reactions
@@ -167,12 +160,8 @@ document_is_read {Known} version table m versions built net answers ws i t n v s
     let w = document_is_written version table m versions built net answers (map record_text ws) i t n v s in
     let all = table_part version table ++ ws in
     let same : text_lines version net all ≡ title version ∷ network_line (length net.reactions) ∷ (network_lines net ++ (map record_text (table_part version table) ++ (map record_text ws ++ codes "end" ∷ []))) =
-    ap (λ (t : List (List ℕ)). title version ∷ network_line (length net.reactions) ∷ (network_lines net ++ (t ++ codes "end" ∷ []))) (map_append (table_part version table) ws)
+    ap (λ (t : List (List ℕ)). title version ∷ network_line (length net.reactions) ∷ (network_lines net ++ (t ++ codes "end" ∷ []))) (map-append record_text (table_part version table) ws)
     ∙ ap (λ (t : List (List ℕ)). title version ∷ network_line (length net.reactions) ∷ (network_lines net ++ t)) (append_assoc (map record_text (table_part version table)) (map record_text ws) (codes "end" ∷ [])) in
     let written : IsWrittenBy (course m versions built) (text_lines version net all) w.0 = subst (λ (ls : List (List ℕ)). IsWrittenBy (course m versions built) ls w.0) (sym same) w.1 in
     let g = written_is_given (course m versions built) (text_lines version net all) w.0 written lines (beginning (text_of version net all)) (text_ended version net all) (from_zero (length (text_of version net all)) short) in
     (w.0, g.0, g.1)
-  where
-    map_append : (xs ys : List Record) → map record_text (xs ++ ys) ≡ map record_text xs ++ map record_text ys
-    map_append [] ys = refl
-    map_append (x ∷ xs) ys = ap (λ t. record_text x ∷ t) (map_append xs ys)

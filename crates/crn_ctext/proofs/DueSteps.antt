@@ -38,23 +38,19 @@ IsNoLine answer = Unit {0}
 
 -- what an answer says of what is left, it says of no bytes if the source does not show them
 shown : (answer : Next) (taken : ℕ) (bytes : List ℕ) (after : Option (List ℕ)) (new : KeptLines) (rest : List ℕ) → IsRest after rest → NextIs answer taken bytes after new → NextIs answer taken bytes (Some rest) new
-shown Line taken bytes after new rest r q = q
-shown LineTooLong taken bytes after new rest r q = q
-shown DocumentTooLong taken bytes after new rest r q = q
-shown Failed taken bytes after new rest r q = q
 shown Last taken bytes None new rest r q = (q.0, q.1, q.2, q.3, q.4, r)
 shown Last taken bytes (Some left) new rest r q = (q.0, q.1, q.2, q.3, q.4, subst (λ (t : List ℕ). t ≡ []) r q.5)
 shown End taken bytes None new rest r q = (q.0, r)
 shown End taken bytes (Some left) new rest r q = (q.0, subst (λ (t : List ℕ). t ≡ []) r q.1)
+shown answer taken bytes after new rest r q = q
 
 breaks : (answer : Next) (node : Bool) (n : ℕ) (old new : KeptLines) (bytes rest : List ℕ) → IsNoLine answer → DueIs answer node (place n old bytes) (place (n + 1) new rest) new.line
     → BreaksLine (place n old bytes) (early node) (LacksLine (place n old bytes)) (code_of (early node) answer)
-breaks Line node n old new bytes rest none d = absurd none
-breaks Failed node n old new bytes rest none d = absurd none
 breaks Last node n old new bytes rest none d = d
 breaks End node n old new bytes rest none d = d
 breaks LineTooLong node n old new bytes rest none d = d
 breaks DocumentTooLong node n old new bytes rest none d = d
+breaks answer node n old new bytes rest none d = absurd none
 
 -- if none came, the course fails first here
 pub line_is_missing : (answer : Next) (node : Bool) (n : ℕ) (old new : KeptLines) (before now : SourceSeen) → IsNoLine answer → old.taken < MAX_DOCUMENT → NextGives answer old new before now

@@ -18,9 +18,7 @@ use Rattle.crn_ctext.proofs.DocumentsShort.{node_limit, AreFewNodes, first_few, 
 nodes_counted : (tree : Plan) → length (nodes tree) ≡ node_count tree
 nodes_counted (Both zeros pluses) = omega (arith, nodes_counted zeros, nodes_counted pluses, length-append (nodes zeros) (nodes pluses))
 nodes_counted (Three zeros pluses minuses) = omega (arith, nodes_counted zeros, nodes_counted pluses, nodes_counted minuses, length-append (nodes zeros ++ nodes pluses) (nodes minuses), length-append (nodes zeros) (nodes pluses))
-nodes_counted (RulesA u) = refl
-nodes_counted (RulesB u) = refl
-nodes_counted Level = refl
+nodes_counted tree = refl
 
 -- a proof without trees has no nodes
 no_nodes : (p : Proof) → IsTreeless p → length (proof_nodes p) ≡ 0
@@ -72,8 +70,6 @@ few_by : (b : Bool) (qs : List Question) → AreInOrder b qs → AllByRecursion 
     → AreFewNodes qs known (all_records meaning qs known answers)
 unfolding AreFewNodes all_records
 few_by b [] links shorts known [] n f few = refl
-few_by b [] links shorts known (a ∷ answers) n f few = absurd f
-few_by b (q ∷ qs) links shorts known [] n f few = absurd f
 few_by b (q ∷ qs) links shorts known (a ∷ answers) n f few =
     let j = joined b q links.0 in
     let formed = j.formed in
@@ -84,6 +80,7 @@ few_by b (q ∷ qs) links shorts known (a ∷ answers) n f few =
       nodes known.net known.earlier a.verdict a.proof f.0 few.0,
       few_by (after b q) qs links.1 shorts.1 (known_after q known a) answers (known_next b q known a n j f.0) (formed_next b q qs known a answers n j f.0 f.1) few.1,
     )
+few_by b qs links shorts known answers n f few = absurd f
 
 -- the records of formed answers whose trees have few nodes
 answers_few : (net : Net) (answers : List Answer) → AreFormed net [] built answers → HaveFewNodes MAX_BUDGET answers → AreFewNodes built (meaning.start net) (records_of net answers)

@@ -80,17 +80,12 @@ if_light n true way light = (light, tt)
 if_light n false way light = tt
 
 ways_light : (f : Field) → highest f < 10 ^ 22 → AllByRecursion (IsLightWay (widest f)) (ways f)
-ways_light (One least greatest) lt = ((((omega arith, omega arith), tt), omega arith), tt)
 ways_light (CountAndPart greatest) lt = (((omega arith, tt), omega arith), tt)
 ways_light (TwoOf greatest) lt = (((omega arith, tt), omega arith), tt)
-ways_light (Several count least greatest) lt = ((((omega arith, omega arith), tt), omega arith), tt)
-ways_light (OneAnd count least greatest) lt = ((((omega arith, omega arith), tt), omega arith), tt)
-ways_light (Walk greatest) lt = ((((omega arith, omega arith), tt), omega arith), tt)
 ways_light (Members count members) lt = (((all_from (λ n. IsSlim (pos n)) members (λ n i. omega (arith, lt, in_total members n i)), tt), omega arith), tt)
 ways_light Free lt = (((tt, tt), omega arith), tt)
 ways_light (FreeSeveral count) lt = (((tt, tt), omega arith), tt)
 ways_light Turn lt = (((tt, tt), omega arith), tt)
-ways_light (Shelves count) lt = ((((omega arith, omega arith), tt), omega arith), tt)
 ways_light (Side reaction count) lt = ((((omega arith, omega arith), ((omega arith, omega arith), tt)), omega arith), tt)
 ways_light (Wide s columns rows) lt = (wide_light s columns rows (3 + columns) (omega arith) (omega arith), tt)
 ways_light (WideOf s columns rows may t more_columns more_rows) lt =
@@ -100,6 +95,7 @@ ways_light (ClassWide s columns classes rows) lt =
     let sizes = map rows (range_with_len 1 classes) in
     let each = all_from (λ r. IsSlim (pos (columns + r))) sizes (λ r i. omega (arith, lt, in_total sizes r i)) in
     ((((omega arith, omega arith), ((each, omega (arith, lt, length-map (range_with_len 1 classes) rows, length-range_with_len 1 classes)), tt)), omega arith), tt)
+ways_light f lt = ((((omega arith, omega arith), tt), omega arith), tt)
 
 -- the numbers are no more than the field has, and short
 field_short : (f : Field) (d : Datum) → Fits f d → highest f < 10 ^ 22 → (length (numbers_of d) ≤ widest f) × AreSlim (numbers_of d)
@@ -112,12 +108,11 @@ field_short f d fits lt =
 
 fields_short : (fs : List Field) (ds : List Datum) → AllZip Fits fs ds → highest_of fs < 10 ^ 22 → (length (flat_map numbers_of ds) ≤ widest_of fs) × AreSlim (flat_map numbers_of ds)
 fields_short [] [] p lt = (omega arith, tt)
-fields_short [] (d ∷ ds) p lt = absurd p
-fields_short (f ∷ fs) [] p lt = absurd p
 fields_short (f ∷ fs) (d ∷ ds) p lt =
     let one = field_short f d p.0 (omega arith) in
     let more = fields_short fs ds p.1 (omega arith) in
     (omega (arith, one.0, more.0, length-append (numbers_of d) (flat_map numbers_of ds)), short_append (numbers_of d) (flat_map numbers_of ds) one.1 more.1)
+fields_short fs ds p lt = absurd p
 
 -- the words of heads are short and plain
 word_is_fit : (q : Question) → word_fits (head_word q) ≡ true
@@ -137,8 +132,7 @@ IsLightRow row = (words_fit (row.word ∷ []) ≡ true) × AreLight (row.field �
 
 pub rows_plain : (rows : List Row) (ds : List Datum) → AllByRecursion IsLightRow rows → AllZip FitsRow rows ds → AllPlain (row_records rows ds)
 rows_plain [] [] light f = tt
-rows_plain [] (d ∷ ds) light f = absurd f
-rows_plain (row ∷ rows) [] light f = absurd f
 rows_plain (row ∷ rows) (d ∷ ds) light f =
     let short = field_short row.field d f.0 (omega (arith, light.0.1.1)) in
     (record { words = light.0.0; few = omega (arith, short.0, light.0.1.0); numbers = short.1 }, rows_plain rows ds light.1 f.1)
+rows_plain rows ds light f = absurd f

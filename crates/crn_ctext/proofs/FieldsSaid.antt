@@ -1,7 +1,6 @@
 -- Data that fit fields of the table are said as the fields of lines have it, field by field, and so is a block.
-use Rattle.crn_ctext.proofs.Prelude.{◌≡◌, ◌≤◌, ◌+◌, ◌++◌, ◌∙◌, ℕ, zero, suc, Bool, List, [], ◌∷◌, map, refl, sym, ap, subst, inl, inr, append_assoc, arith, ℤ, ◌≤ℤ◌, pos, negsuc, slice_index, Option, Some, None, AllByRecursion, AllZip, flat_map, range_with_len, ints, append-nil, length-map, length-map-range_with_len, get_or-map-range_with_len, IsIn, all_from, in_left, in_right, IsFrom, AreFrom, IsBasisOf, IsShelf, Question, Q1, Q2, Q3, Q4, Q5, Q6, Q7, Q8, Q9, Q10, Q11, Q12, Q13, Q14, Q15, words, kinds, ways, ways_of, wide_numbers, if_may, forms_at, forms_from, heads, head_word, Form, AreOf, AreBetween, Small, Rising, small, just, IsOneOf, HeadKind, Classes, Strong, Rank, Deficiency, Yes, YesWeak, YesVec, YesSignal, No, NoReaction, NoVec, NoNumber, NoTerminal, NoClass, NoSum, NoDependence, NoCycle, NoPair, NotRegular, OnlyZero, Plane, NotApplicable, WideHead, Rests, Datum, Num, Int, Nums, Ints, Marks, Led, Basis, OneAnd, Walk, FreeSeveral, Shelves, Side, WideOf, Sizes, fields, FitsFields, FitsHead}
+use Rattle.crn_ctext.proofs.Prelude.{◌≡◌, ◌≤◌, ◌+◌, ◌++◌, ◌∙◌, ℕ, zero, suc, Bool, List, [], ◌∷◌, map, refl, sym, ap, subst, inl, inr, append_assoc, arith, ℤ, ◌≤ℤ◌, pos, negsuc, slice_index, Option, Some, None, AllByRecursion, AllZip, flat_map, range_with_len, ints, append-nil, length-map, length-map-range_with_len, get_or-map-range_with_len, IsIn, all_from, in_left, in_right, IsFrom, AreFrom, IsBasisOf, IsShelf, Question, Q1, words, kinds, ways, ways_of, wide_numbers, if_may, forms_at, forms_from, heads, head_word, Form, AreOf, AreBetween, Small, Rising, small, just, IsOneOf, HeadKind, Classes, Datum, Num, Int, Nums, Ints, Marks, Led, Basis, OneAnd, Walk, FreeSeveral, Shelves, Side, WideOf, Sizes, fields, FitsFields, FitsHead}
 use Rattle.std.specs.Prelude.{◌⊎◌}
-use Rattle.crn_cert.specs.declared.head_kind.HeadKind.TheVariants.{Budget}
 use Rattle.crn_cert.specs.Data.{Two, Field, One, CountAndPart, TwoOf, Several, Members, Free, Turn, Wide, ClassWide, Fits}
 use Rattle.crn_ctext.specs.Records as records
 use Rattle.crn_ctext.proofs.Forms.{numbers_of}
@@ -48,7 +47,7 @@ wide s columns rows index basis b =
     (then (small 1 1 (columns + rows)) (Rising columns (columns + rows) ∷ []) (pos index ∷ []) (map pos basis) (number 1 (columns + rows) index coordinate)
     (alone (Rising columns (columns + rows)) (map pos basis) ((length-map basis pos ∙ long, (basis, refl, up, between 1 (columns + rows) basis each)), tt))))
 
-bits : (zs : List ℤ) → AllByRecursion (λ x. (x ≡ pos 0) ⊎ (x ≡ pos 1)) zs → AreBetween (pos 0) (pos 1) zs
+pub bits : (zs : List ℤ) → AllByRecursion (λ x. (x ≡ pos 0) ⊎ (x ≡ pos 1)) zs → AreBetween (pos 0) (pos 1) zs
 bits [] a = tt
 bits (z ∷ zs) a = (elim a.0 [ inl e ↦ subst (λ (x : ℤ). (pos 0 ≤ℤ x) × (x ≤ℤ pos 1)) (sym e) (omega (arith, ints), omega (arith, ints)) | inr e ↦ subst (λ (x : ℤ). (pos 0 ≤ℤ x) × (x ≤ℤ pos 1)) (sym e) (omega (arith, ints), omega (arith, ints)) ], bits zs a.1)
 
@@ -132,12 +131,11 @@ in_joined a b (c ∷ firsts) others (inr i) j = in_right (a ++ b) (map (λ more.
 
 pub fields_said : (fs : List Field) (ds : List Datum) → AllZip Fits fs ds → IsSaidBy (ways_of fs) (flat_map numbers_of ds)
 fields_said [] [] f = ([], inl refl, refl)
-fields_said [] (d ∷ ds) f = absurd f
-fields_said (field ∷ fs) [] f = absurd f
 fields_said (field ∷ fs) (d ∷ ds) f =
     let one = field_said field d f.0 in
     let more = fields_said fs ds f.1 in
     (one.0 ++ more.0, in_joined one.0 more.0 (ways field) (ways_of fs) one.1 more.1, both_of one.0 more.0 (numbers_of d) (flat_map numbers_of ds) one.2 more.2)
+fields_said fs ds f = absurd f
 
 -- ---- a head
 
@@ -147,56 +145,8 @@ IsKind (Some fs) = Unit {0}
 
 kind_in : (q : Question) (z : Sizes) (kind : HeadKind) → IsKind (fields q z kind) → IsIn kind (kinds q)
 kind_in Q1 z Classes f = inl refl
-kind_in Q2 z Strong f = inl refl
-kind_in Q3 z Yes f = inl refl
-kind_in Q3 z NoReaction f = inr (inl refl)
-kind_in Q4 z Yes f = inl refl
-kind_in Q4 z NoReaction f = inr (inl refl)
-kind_in Q5 z Rank f = inl refl
-kind_in Q5 z WideHead f = inr (inl refl)
-kind_in Q6 z Deficiency f = inl refl
-kind_in Q6 z WideHead f = inr (inl refl)
-kind_in Q6 z Rests f = inr (inr (inr (inl refl)))
-kind_in Q7 z YesVec f = inl refl
-kind_in Q7 z NoVec f = inr (inl refl)
-kind_in Q7 z WideHead f = inr (inr (inl refl))
-kind_in Q8 z YesVec f = inl refl
-kind_in Q8 z NoVec f = inr (inl refl)
-kind_in Q8 z WideHead f = inr (inr (inl refl))
-kind_in Q9 z YesWeak f = inl refl
-kind_in Q9 z NoNumber f = inr (inl refl)
-kind_in Q9 z Rests f = inr (inr (inr (inr (inl refl))))
-kind_in Q10 z Yes f = inl refl
-kind_in Q10 z NoTerminal f = inr (inl refl)
-kind_in Q10 z NoClass f = inr (inr (inl refl))
-kind_in Q10 z NoSum f = inr (inr (inr (inl refl)))
-kind_in Q10 z Rests f = inr (inr (inr (inr (inr (inr (inl refl))))))
-kind_in Q11 z Yes f = inl refl
-kind_in Q11 z NoTerminal f = inr (inl refl)
-kind_in Q11 z NoDependence f = inr (inr (inl refl))
-kind_in Q11 z NoCycle f = inr (inr (inr (inl refl)))
-kind_in Q11 z Rests f = inr (inr (inr (inr (inr (inr (inl refl))))))
-kind_in Q12 z YesVec f = inl refl
-kind_in Q12 z NotRegular f = inr (inl refl)
-kind_in Q12 z OnlyZero f = inr (inr (inl refl))
-kind_in Q12 z Plane f = inr (inr (inr (inl refl)))
-kind_in Q12 z WideHead f = inr (inr (inr (inr (inl refl))))
-kind_in Q12 z Rests f = inr (inr (inr (inr (inr (inr (inl refl))))))
-kind_in Q13 z YesSignal f = inl refl
-kind_in Q13 z No f = inr (inl refl)
-kind_in Q13 z NotApplicable f = inr (inr (inl refl))
-kind_in Q13 z WideHead f = inr (inr (inr (inl refl)))
-kind_in Q13 z Budget f = inr (inr (inr (inr (inl refl))))
-kind_in Q13 z Rests f = inr (inr (inr (inr (inr (inl refl)))))
-kind_in Q14 z Yes f = inl refl
-kind_in Q14 z NoPair f = inr (inl refl)
-kind_in Q14 z WideHead f = inr (inr (inl refl))
-kind_in Q14 z Budget f = inr (inr (inr (inl refl)))
-kind_in Q15 z Yes f = inl refl
-kind_in Q15 z NoPair f = inr (inl refl)
-kind_in Q15 z WideHead f = inr (inr (inl refl))
-kind_in Q15 z Budget f = inr (inr (inr (inl refl)))
-kind_in q z kind f = absurd f
+kind_in q z Classes f = absurd f
+kind_in q z kind f = search (inl, inr, refl, f) depth 9
 
 in_forms : (q : Question) (z : Sizes) (kind : HeadKind) (h : List Datum) (fs : List Field) (way : List records.Field) (place : ℕ) (ks : List HeadKind) → fields q z kind ≡ Some fs → IsIn way (ways_of fs) → IsIn kind ks
     → (form : Form) × IsIn form (forms_from q z place ks) × (form.words ≡ head_word q ∷ words kind) × (form.fields ≡ way)

@@ -101,9 +101,8 @@ single f way other zs k (inl e) p = k zs (subst (λ (w : List records.Field). Ar
 single f way other zs k (inr none) p = absurd none
 
 one_free : (zs : List ℤ) → Holds (records.Free 1) zs → Has Free zs
-one_free [] h = absurd (let l = h.0 in omega (arith, l))
 one_free (z ∷ []) h = (Int z, h.1.0, refl)
-one_free (z ∷ x ∷ zs) h = absurd (let l = h.0 in omega (arith, l))
+one_free zs h = absurd (let l = h.0 in omega (arith, l))
 
 pub field_typed : (f : Field) (way : List records.Field) (zs : List ℤ) → IsIn way (ways f) → AreOf Holds way zs → Has f zs
 field_typed (One least greatest) way zs i p = single (One least greatest) (small 1 least greatest ∷ []) way zs (λ zs p. let n = number least greatest zs (alone (small 1 least greatest) zs p) in (Num n.0, n.2, n.1)) i p

@@ -1,5 +1,5 @@
 -- The forms and the records of documents, from the table of blocks.
-use Rattle.crn_ctext.proofs.Prelude.{◌≡◌, ◌+◌, ◌-◌, ◌++◌, ◌∙◌, ℕ, suc, Bool, true, false, List, [], ◌∷◌, length, map, refl, ap, ap₂, arith, ℤ, pos, codes, slice_index_or, flat_map, range_with_len, MAX_BUDGET, Question, Datum, Odd, Num, Int, Nums, Ints, Marks, Led, Basis, Row, Sizes, HeadKind, Record, Form, Field, small, just, head_word, words, ways, wide_numbers, if_may, place_of}
+use Rattle.crn_ctext.proofs.Prelude.{◌≡◌, ◌+◌, ◌-◌, ◌++◌, ◌∙◌, ℕ, suc, Bool, true, false, List, [], ◌∷◌, length, map, refl, ap, ap₂, arith, ℤ, pos, codes, slice_index_or, flat_map, range_with_len, MAX_BUDGET, Question, Datum, Odd, Num, Int, Nums, Ints, Marks, Led, Basis, Row, Sizes, HeadKind, Record, Form, Field, small, just, head_word, words, ways, wide_numbers, if_may, place_of, zero, replicate, AllByRecursion}
 use Rattle.crn_cert.specs.Data.{Two}
 
 -- ---- records
@@ -99,3 +99,9 @@ from_at f a (x ∷ xs) e =
 -- the numbers of reactions of the classes are the list that is given
 pub given_back : (xs : List ℕ) → map (λ k. slice_index_or xs (k - 1) 0) (range_with_len 1 (length xs)) ≡ xs
 given_back xs = from_at (λ k. slice_index_or xs (k - 1) 0) 1 xs (λ i. ap (λ (j : ℕ). slice_index_or xs j 0) (let m : 1 + i - 1 ≡ i = omega arith in m))
+
+-- ---- one member, as often as this
+
+pub all_same : {A : Type 0} (P : A → Type 0) (n : ℕ) (x : A) → P x → AllByRecursion P (replicate n x)
+all_same P zero x p = tt
+all_same P (suc n) x p = (p, all_same P n x p)

@@ -36,8 +36,6 @@ IsRight q v = Unit {0}
 head_right : (net : Net) (earlier : Earlier) (v : Verdict) → HeadMayBe net earlier Q2 v → IsStrong v
 head_right net earlier (Strong count terminal label exit) h = tt
 head_right net earlier (Unknown (Wide system class index basis)) h = absurd h
-head_right net earlier (Unknown (Budget nodes)) h = absurd h
-head_right net earlier (Unknown (Rests question)) h = absurd h
 head_right net earlier v h = absurd h
 
 pub formed_right : (net : Net) (earlier : Earlier) (q : Question) (v : Verdict) (p : Proof) → IsFormedOf net earlier q v p → IsRight q v

@@ -26,16 +26,14 @@ ends_last_then (End next) f e l = absurd e
 none_awaited : {A : Type 0} (c : Course A) (at : Place) → gives_at_once c → Awaits c at → ⊥
 unfolding Awaits
 none_awaited (Give x) at g p = p
-none_awaited (Line node next) at g p = g
 none_awaited (Test n c X P next) at g p = g
-none_awaited (End next) at g p = g
+none_awaited c at g p = g
 
 none_fails : {A : Type 0} (c : Course A) (at : Place) (n code : ℕ) → gives_at_once c → FailsFirst c at n code → ⊥
 unfolding FailsFirst
 none_fails (Give x) at n code g p = p
-none_fails (Line node next) at n code g p = g
 none_fails (Test m c X P next) at n code g p = g
-none_fails (End next) at n code g p = g
+none_fails c at n code g p = g
 
 due_no_end : (node : Bool) → HasNoEnd (due node)
 unfolding HasNoEnd

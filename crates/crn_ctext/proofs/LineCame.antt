@@ -104,10 +104,8 @@ came_all before (b ∷ left) zs c e = absurd (omega (arith, e))
 -- the bytes are one list of numbers
 pub numbers_one : (texts : List (List ℕ)) (bytes : List ℕ) (ys zs : List ℤ) → AllZip IsSpelled texts ys → bytes ≡ spaced texts → SaysNumbers bytes zs → ys ≡ zs
 numbers_one [] bytes [] [] h e s = refl
-numbers_one [] bytes (y ∷ ys) zs h e s = absurd h
 numbers_one [] bytes [] (z ∷ zs) h e ([], t, is) = absurd t
 numbers_one [] bytes [] (z ∷ zs) h e (t ∷ texts, a, is) = absurd (let none : [] ≡ spaced (t ∷ texts) = sym e ∙ is in cc)
-numbers_one (t ∷ texts) bytes [] zs h e s = absurd h
 numbers_one (t ∷ texts) bytes (y ∷ ys) zs h e s =
     let some : 0 < length bytes = let l : length bytes ≡ length (t ++ spaced texts) + 1 = ap length e ∙ length_cons 32 (t ++ spaced texts) in omega (arith, l) in
     let f = first_of bytes zs some s in
@@ -117,3 +115,4 @@ numbers_one (t ∷ texts) bytes (y ∷ ys) zs h e s =
   where
     length_cons : (b : ℕ) (bs : List ℕ) → length (b ∷ bs) ≡ length bs + 1
     length_cons b bs = omega arith
+numbers_one texts bytes ys zs h e s = absurd h

@@ -1,5 +1,5 @@
 -- Numbers as they are held while a line is read: what is asked of them holds of the numbers of the line.
-use Rattle.crn_ctext.proofs.Prelude.{◌≡◌, ◌≤◌, ◌<◌, ◌+◌, ◌++◌, ℕ, zero, suc, true, false, List, [], ◌∷◌, length, map, refl, sym, ap, ap₂, subst, ◌∙◌, inl, inr, arith, ℤ, pos, negsuc, ◌≤ℤ◌, unsigned_abs, slice_index, AllByRecursion, ints, length-map, append-nil, IsIn, MAX_REACTIONS, WIDE_SOLUTION, all_in, Field, Small, Several, Free, Rising, Members, CountAndPart, TwoOf, Turn, ClassWide, Takes, IsNarrow, AreNarrow, AreOf, AreBetween, capped, IsBounded, HasBounds, has_free, fields_of, IsJudged, MAX_NUMBERS, cases_Bool}
+use Rattle.crn_ctext.proofs.Prelude.{◌≡◌, ◌≤◌, ◌<◌, ◌+◌, ◌++◌, ℕ, zero, suc, true, false, List, [], ◌∷◌, length, map, refl, sym, ap, ap₂, subst, ◌∙◌, inl, inr, arith, ℤ, pos, negsuc, ◌≤ℤ◌, unsigned_abs, slice_index, AllByRecursion, ints, length-map, append-nil, IsIn, MAX_REACTIONS, WIDE_SOLUTION, all_in, Field, Small, Several, Free, Rising, Members, CountAndPart, TwoOf, Turn, ClassWide, Takes, IsNarrow, AreNarrow, AreOf, AreBetween, capped, IsBounded, HasBounds, has_free, fields_of, IsJudged, MAX_NUMBERS, cases_Bool, all_append}
 use Rattle.crn_ctext.specs.Records.{FreeSeveral}
 use Rattle.crn_ctext.specs.declared.record_shape.Shape.{Shape}
 use Rattle.crn_ctext.specs.declared.record_shape.Shape.TheVariants as shape
@@ -60,8 +60,6 @@ IsSolid other = Unit {0}
 pub field_narrow : (field : Field) (zs : List ℤ) → IsSolid field → IsBounded field → Takes field zs → AllNarrow zs
 field_narrow (Small count least greatest) zs s b t = all_between least greatest zs b.0 b.1 t.1
 field_narrow (Several fewest most least greatest) zs s b t = all_between least greatest zs b.0 b.1 t.2
-field_narrow (Free count) zs s b t = absurd s
-field_narrow (FreeSeveral fewest most) zs s b t = absurd s
 field_narrow (Rising count greatest) zs s b t = all_up_to greatest zs b t.1.3
 field_narrow (Members count members) zs s b t = subst AllNarrow (sym t.1) (all_members members t.0 b.1 t.4)
 field_narrow (CountAndPart greatest) zs s b t = subst AllNarrow (sym t.2) (omega (arith, b, t.5), (omega (arith, b, t.4, t.5), tt))
@@ -74,14 +72,11 @@ field_narrow (ClassWide species reactions) zs s b t =
       omega (arith, t.4, b.1),
       (omega (arith, t.6, b.0, r), all_up_to (species + slice_index reactions t.0) t.2 (omega (arith, b.0, r)) t.8.3),
     )
-
-append_narrow : (xs ys : List ℤ) → AllNarrow xs → AllNarrow ys → AllNarrow (xs ++ ys)
-append_narrow [] ys p q = q
-append_narrow (x ∷ xs) ys p q = (p.0, append_narrow xs ys p.1 q)
+field_narrow field zs s b t = absurd s
 
 solid_narrow : (fields : List Field) (zs : List ℤ) → AllByRecursion IsSolid fields → AllByRecursion IsBounded fields → AreOf Takes fields zs → AllNarrow zs
 solid_narrow [] zs s b t = subst AllNarrow (sym t) tt
-solid_narrow (f ∷ fields) zs s b t = subst AllNarrow (sym t.2) (append_narrow t.0 t.1 (field_narrow f t.0 s.0 b.0 t.3) (solid_narrow fields t.1 s.1 b.1 t.4))
+solid_narrow (f ∷ fields) zs s b t = subst AllNarrow (sym t.2) (all_append IsNarrow t.0 t.1 (field_narrow f t.0 s.0 b.0 t.3) (solid_narrow fields t.1 s.1 b.1 t.4))
 
 abbrev pub TakesNarrow : Field → List ℤ → Type 0
 TakesNarrow field zs = Takes field zs × AreNarrow field zs

@@ -134,9 +134,8 @@ due_1 due.Walk b z m form i = let o = ordinary_in 1 (due_forms due.Walk 1 z) for
 due_1 (due.Part word count least greatest) b z m form i = let o = row_in 1 row_words (text_of word) rows_1 m.0 in one_form (λ f. MayBe (due.Part word count least greatest) 1 b (kind_of f)) (slice_index_or (due_forms (due.Part word count least greatest) 1 z) 0 no_form) form (o.0, λ e. o.1) i
 due_1 (due.Node count_a count_b shared) b z m form i = (known_in 1 (due_forms (due.Node count_a count_b shared) 1 z) form refl i, λ e. absurd cc)
 due_1 due.Finish b z m form i = let o = ordinary_in 1 (due_forms due.Finish 1 z) form refl i in (o.0, λ e. o.1)
-due_1 due.Table b z m form i = absurd (omega (arith, m))
-due_1 due.Vector b z m form i = absurd (omega (arith, m))
 due_1 (due.Section k) b z m form i = absurd (omega (arith, m.0))
+due_1 d b z m form i = absurd (omega (arith, m))
 
 due_2 : (d : Due) (b : Bool) (z : Sizes) → MayBeDue d 2 → (form : Form) → IsIn form (due_forms d 2 z) → MayBe d 2 b (kind_of form)
 unfolding all_ordinary is_ordinary all_known

@@ -1,5 +1,5 @@
 -- A line, and a form that is tried on it.
-use Rattle.crn_ctext.proofs.Prelude.{◌≡◌, ◌≤◌, ◌<◌, ◌+◌, ◌++◌, ℕ, suc, Bool, true, false, List, [], ◌∷◌, length, take, drop, get_or, refl, sym, ap, ap₂, subst, ◌∙◌, inl, inr, append_assoc, arith, ℤ, pos, slice_index_or, join_with_byte, append-nil, take-append-drop, length-append, length-map, Record, Form, Field, Small, Several, Free, Rising, Members, CountAndPart, TwoOf, Turn, ClassWide, Takes, AreOf, Says, IsWord, BeginsWith, kind_of, field_most, most_of, text_of, spaced, SaysNumbers, IsTail, IsForm, later, fields_of, SaysAfter, FitFields, IsFit, IsTried, IsNotShaped, IsSomeShaped, GivenForm, Fit, Word, eqb_tells}
+use Rattle.crn_ctext.proofs.Prelude.{◌≡◌, ◌≤◌, ◌<◌, ◌+◌, ◌++◌, ℕ, suc, Bool, true, false, List, [], ◌∷◌, length, take, drop, get_or, refl, sym, ap, ap₂, subst, ◌∙◌, inl, inr, append_assoc, arith, ℤ, pos, slice_index_or, join_with_byte, append-nil, take-append-drop, length-append, length-map, Record, Form, Field, Several, Free, Members, CountAndPart, TwoOf, Turn, ClassWide, Takes, AreOf, Says, IsWord, BeginsWith, kind_of, field_most, most_of, text_of, spaced, SaysNumbers, IsTail, IsForm, later, fields_of, SaysAfter, FitFields, IsFit, IsTried, IsNotShaped, IsSomeShaped, GivenForm, Fit, Word, eqb_tells}
 use Rattle.std.specs.Prelude.{◌==◌, if◌then◌else◌}
 use Rattle.std.proofs.lemmas.Grind.{flat_map-append}
 use Rattle.crn_ctext.specs.Records.{FreeSeveral}
@@ -36,11 +36,9 @@ after_one (x ∷ first) s t e = after_one first s t cc
 -- ---- how many numbers
 
 pub takes_few : (field : Field) (zs : List ℤ) → Takes field zs → length zs ≤ field_most field
-takes_few (Small count least greatest) zs t = omega (arith, t.0)
 takes_few (Several fewest most least greatest) zs t = t.1
 takes_few (Free count) zs t = omega (arith, t)
 takes_few (FreeSeveral fewest most) zs t = t.1
-takes_few (Rising count greatest) zs t = omega (arith, t.0)
 takes_few (Members count members) zs t = let n : length zs ≡ length t.0 = ap length t.1 ∙ length-map t.0 pos in omega (arith, n, t.2)
 takes_few (CountAndPart greatest) zs t = let n : length zs ≡ 2 = ap length t.2 in omega (arith, n)
 takes_few (TwoOf greatest) zs t = let n : length zs ≡ 2 = ap length t.2 in omega (arith, n)
@@ -50,6 +48,7 @@ takes_few (ClassWide species reactions) zs t = let n : length zs ≡ length t.2 
   where
     two : (x y : ℤ) (zs : List ℤ) → length (x ∷ y ∷ zs) ≡ length zs + 2
     two x y zs = omega arith
+takes_few field zs t = omega (arith, t.0)
 
 pub are_few : (fields : List Field) (zs : List ℤ) → AreOf Takes fields zs → length zs ≤ most_of fields
 are_few [] zs t = let n : length zs ≡ 0 = ap length t in omega (arith, n)

@@ -1,11 +1,10 @@
 -- The records of formed answers to the built questions are plain: the fields of the table of blocks are light, if their sizes are those of a network.
-use Rattle.crn_ctext.proofs.Prelude.{◌==◌, ◌≤◌, ◌+◌, ◌-◌, ◌*◌, ◌++◌, ◌&&◌, ℕ, zero, suc, Bool, true, false, cond, if◌then◌else◌, List, [], ◌∷◌, length, map, refl, sym, ap, subst, inl, inr, arith, codes, replicate, slice_index, slice_index_or, cases_Bool, length-append, length-map, length-replicate, length-range_with_len, AllByRecursion, AllZip, filter, range_with_len, Option, Some, None, all_from, all_append, Net, IsNetwork, MAX_SPECIES, MAX_COMPLEXES, MAX_REACTIONS, filter_few, Verdict, Earlier, Question, Q1, Q2, Q3, Q4, Q5, Q6, Q7, Q8, Q9, Q10, Q11, Q12, Q13, Q14, Q15, number, on, is_yes, count_of, terminal_of, labels_of, linkage, linkage_count, class_places, ends_at, is_within_terminal, is_least_of_pair, Datum, Num, Nums, Side, FreeSeveral, Row, TreeRow, row, rank_rows, rank_in, class_rows, rank_long, signal_tree, one_or_two, trees, fields, fields_in, head_back, FitsFields, FitsHead, FitsRow, HeadKind, Classes, Strong, Rank, Deficiency, Yes, YesVec, YesSignal, YesWeak, No, NoVec, NoCycle, NoPair, OnlyZero, Plane, NotApplicable, Sizes, Record, heads, Problem, below, IsOneOf, Known, pairs_of, sizes_of, shapes_of, verdict_of, meaning, built}
+use Rattle.crn_ctext.proofs.Prelude.{◌==◌, ◌≤◌, ◌+◌, ◌-◌, ◌*◌, ◌++◌, ◌&&◌, ℕ, zero, suc, Bool, true, false, cond, if◌then◌else◌, List, [], ◌∷◌, length, map, refl, sym, ap, subst, inl, inr, arith, codes, replicate, slice_index, slice_index_or, cases_Bool, length-append, length-map, length-replicate, length-range_with_len, AllByRecursion, AllZip, filter, range_with_len, Option, Some, None, all_from, all_append, Net, IsNetwork, MAX_SPECIES, MAX_COMPLEXES, MAX_REACTIONS, filter_few, Verdict, Earlier, Question, Q1, Q2, Q3, Q4, Q5, Q6, Q7, Q8, Q11, Q12, Q13, Q14, Q15, number, on, is_yes, count_of, terminal_of, labels_of, linkage, linkage_count, class_places, ends_at, is_within_terminal, is_least_of_pair, Datum, Num, Nums, Side, FreeSeveral, Row, TreeRow, row, rank_rows, rank_in, class_rows, rank_long, signal_tree, one_or_two, trees, fields, fields_in, head_back, FitsFields, FitsHead, FitsRow, HeadKind, Classes, Strong, Rank, Deficiency, Yes, YesVec, YesSignal, No, NoVec, NoCycle, NoPair, OnlyZero, Plane, NotApplicable, Sizes, Record, heads, Problem, below, IsOneOf, Known, pairs_of, sizes_of, shapes_of, verdict_of, meaning, built}
 use Rattle.crn_cert.specs.Data.{Field, Fits, Two}
 use Rattle.crn_cert.specs.Blocks as blocks
 use Rattle.crn_cert.specs.Table as table
 use Rattle.crn_cert.specs.declared.answer.Verdict.TheVariants as verdict
-use Rattle.crn_ctext.specs.Records as records
-use Rattle.crn_ctext.proofs.Forms.{head_record, row_form}
+use Rattle.crn_ctext.proofs.Forms.{head_record, row_form, all_same}
 use Rattle.crn_ctext.proofs.BlockLaws.{AreOfBlock}
 use Rattle.crn_ctext.proofs.RowsDerived.{HeadOf, head_by, rows_as_before}
 use Rattle.crn_ctext.proofs.RecordsTyped.{head_typed, records_are_blocks}
@@ -98,20 +97,7 @@ sizes_few known s =
 
 heads_light : (z : Sizes) → AreFew z → (q : Question) (kind : HeadKind) → AreLight (fields_in (fields q z kind))
 heads_light z s Q1 Classes = (omega arith, omega arith)
-heads_light z s Q2 Strong = (omega arith, omega arith)
-heads_light z s Q3 Yes = (omega arith, omega arith)
-heads_light z s Q4 Yes = (omega arith, omega arith)
-heads_light z s Q5 Rank = (omega arith, omega arith)
-heads_light z s Q6 Deficiency = (omega arith, omega arith)
-heads_light z s Q7 YesVec = (omega arith, omega arith)
-heads_light z s Q8 YesVec = (omega arith, omega arith)
-heads_light z s Q9 YesWeak = (omega arith, omega arith)
-heads_light z s Q10 Yes = (omega arith, omega arith)
-heads_light z s Q11 Yes = (omega arith, omega arith)
-heads_light z s Q12 YesVec = (omega arith, omega arith)
-heads_light z s Q13 YesSignal = (omega arith, omega arith)
-heads_light z s Q14 Yes = (omega arith, omega arith)
-heads_light z s Q15 Yes = (omega arith, omega arith)
+heads_light z s q Classes = (omega arith, omega arith)
 heads_light z s q kind = (omega arith, omega arith)
 
 -- ---- the records below a head
@@ -124,18 +110,14 @@ most q = 1000
 abbrev AreFewRows : ℕ → List Row → Type 0
 AreFewRows n rows = (length rows ≤ n) × AllByRecursion IsLightRow rows
 
-again : (n : ℕ) (row : Row) → IsLightRow row → AllByRecursion IsLightRow (replicate n row)
-again zero row light = tt
-again (suc n) row light = (light, again n row light)
-
 rank_few : (species rank : ℕ) (reactions : List ℕ) → species ≤ 60 → rank ≤ 240 → AreFewReactions reactions → AreFewRows 241 (rank_rows species rank reactions)
 rank_few species rank reactions a b c =
     let n = length reactions - rank in (
       omega (arith, rank_long species rank reactions, b, c.0),
       (
         (refl, (omega (arith, b), omega (arith, c.1))),
-        all_append IsLightRow (replicate rank (row (codes "dual") (FreeSeveral species))) (replicate n (row (codes "comb") (FreeSeveral (suc rank)))) (again rank (row (codes "dual") (FreeSeveral species)) (refl, (omega (arith, a), omega arith)))
-            (again n (row (codes "comb") (FreeSeveral (suc rank))) (refl, (omega (arith, b), omega arith))),
+        all_append IsLightRow (replicate rank (row (codes "dual") (FreeSeveral species))) (replicate n (row (codes "comb") (FreeSeveral (suc rank)))) (all_same IsLightRow rank (row (codes "dual") (FreeSeveral species)) (refl, (omega (arith, a), omega arith)))
+            (all_same IsLightRow n (row (codes "comb") (FreeSeveral (suc rank))) (refl, (omega (arith, b), omega arith))),
       ),
     )
 
@@ -159,7 +141,7 @@ sides_light complexes (r ∷ pairs) a b = ((refl, (omega arith, omega arith)), s
 
 -- a list of as many rows of one kind as complexes, or fewer
 ties_few : (n width : ℕ) → n ≤ 160 → width ≤ 220 → AreFewRows 160 (replicate n (row (codes "tie") (FreeSeveral width)))
-ties_few n width a b = (omega (arith, a, length-replicate n (row (codes "tie") (FreeSeveral width))), again n (row (codes "tie") (FreeSeveral width)) (refl, (omega arith, omega arith)))
+ties_few n width a b = (omega (arith, a, length-replicate n (row (codes "tie") (FreeSeveral width))), all_same IsLightRow n (row (codes "tie") (FreeSeveral width)) (refl, (omega arith, omega arith)))
 
 few_by : (known : Known) → IsSmall known → AreFew (sizes_of known) → (q : Question) (kind : HeadKind) (a : HeadOf known q kind) → FitsHead q (sizes_of known) kind (head_by known q kind a) → AreFewRows (most q) (table.rows known.net known.earlier q kind (head_by known q kind a))
 few_by known s z Q1 Classes a h = let first = h.0.1 in (omega arith, ((refl, (omega arith, omega arith)), ((refl, (omega arith, omega arith)), ((refl, (omega arith, omega arith)), tt))))
@@ -210,9 +192,8 @@ trees_few known z q kind = tt
 
 like_within : (n : ℕ) (ts : List TreeRow) (ws : List {1} Problem) → AreLike ts ws → AreFewCuts n ts → AreWithin n ws
 like_within n [] [] l few = tt
-like_within n [] (w ∷ ws) l few = absurd l
-like_within n (t ∷ ts) [] l few = absurd l
 like_within n (t ∷ ts) (w ∷ ws) l few = ((omega (arith, l.0.1, few.0.0), omega (arith, l.0.2, few.0.1)), like_within n ts ws l.1 few.1)
+like_within n ts ws l few = absurd l
 
 -- ---- what is known after a block
 

@@ -18,9 +18,7 @@ in_preorder (Three zeros pluses minuses) =
     map-append node_record (preorder zeros ++ preorder pluses) (preorder minuses)
     ∙ ap₂ (λ (x y : List Record). x ++ y) (map-append node_record (preorder zeros) (preorder pluses) ∙ ap₂ (λ (x y : List Record). x ++ y) (in_preorder zeros) (in_preorder pluses)) (in_preorder minuses)
     )
-in_preorder (RulesA u) = refl
-in_preorder (RulesB u) = refl
-in_preorder Level = refl
+in_preorder tree = refl
 
 -- the records of a tree's nodes are those of the tree
 records_are_nodes : (tree : Plan) (list : List TreeNode) → AreNodesOf tree list → node_records list ≡ nodes tree

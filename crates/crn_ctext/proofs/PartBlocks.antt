@@ -2,7 +2,7 @@
 use Rattle.crn_ctext.proofs.Prelude.{◌≡◌, ◌≤◌, ◌∙◌, ◌+◌, ◌*◌, ◌++◌, ℕ, suc, Bool, false, List, [], ◌∷◌, length, map, refl, sym, ap, ap₂, subst, inl, append_assoc, arith, AllByRecursion, AllZip, append-nil, length-append, Sign, Answer, Earlier, Question, tight, Record, Says, record_text, IsWrittenBy, head_of, records_below, proof_nodes, all_records, Known, shapes_of, meaning, Meaning, Problem, AfterBlocks, asks_blocks, below, has_tree, leaf_forms, IsGoodLeaf, IsOneOf, AreTrees, AreValid, learned, verdicts_on}
 use Rattle.crn_cert.specs.Formed.{AreFormed}
 use Rattle.crn_ctext.specs.Documents as documents
-use Rattle.crn_ctext.proofs.Shared.{IsWrittenFor, IsTextFor, all_texts, said_for}
+use Rattle.crn_ctext.proofs.Shared.{IsTextFor, all_texts, said_for}
 use Rattle.crn_ctext.proofs.AnswersApart.{zip_long}
 use Rattle.crn_ctext.proofs.MeaningShort.{IsSmall, IsFew, most}
 use Rattle.crn_ctext.proofs.ShortAnswers.{AllPlain, IsShortFor, plain_are_short, valid_are_formed}
@@ -13,6 +13,7 @@ use Rattle.crn_ctext.proofs.KnownBefore.{AreKnown, after}
 use Rattle.crn_ctext.proofs.BlocksLinked.{joined}
 use Rattle.crn_ctext.proofs.RecordsTold.{AreInOrder}
 use Rattle.crn_ctext.proofs.AnswersLinked.{earlier_next, formed_next, known_after, known_next}
+use Rattle.crn_ctext.proofs.DocumentsShort.{same_for}
 
 -- no tree follows the records below a head of these questions
 abbrev pub AreTreeless : {Known : Type 0} → Meaning Known → List Question → Type 0
@@ -46,16 +47,12 @@ blocks_read {Known} m qs at end ls t w =
     let same : b.3.0 ≡ b.0 = whole m qs at.known b.3.0 b.0 t b.3.2 in
     (b.0, subst (λ (rs : List Record). AllZip Says ls rs) alone s.1, b.2, b.3.3 ∙ ap (λ (bs : List (List Record)). learned m qs at.known bs) same)
 
-each_alone : (rs : List Record) → AllZip (IsWrittenFor []) rs rs
-each_alone [] = tt
-each_alone (r ∷ rs) = (inl refl, each_alone rs)
-
 -- the lines of valid answers are read
 pub blocks_written : {Known : Type 0} (m : Meaning Known) (qs : List Question) (at : AfterBlocks Known) (answers : List (List Record)) → AreTreeless m qs → AreValid m qs at.known answers → AllByRecursion AllPlain answers
     → (end : AfterBlocks Known) × IsWrittenBy (asks_blocks m 1 [] qs at) (map record_text (all_of answers)) end × (end.known ≡ learned m qs at.known answers)
 blocks_written {Known} m qs at answers t v plain =
     let rs = parted 1 qs answers in
-    let texts : AllZip (IsTextFor []) (map record_text rs) rs = all_texts [] rs rs (each_alone rs) (plain_are_short rs (parted_plain 1 qs answers plain)) in
+    let texts : AllZip (IsTextFor []) (map record_text rs) rs = all_texts [] rs rs (same_for rs) (plain_are_short rs (parted_plain 1 qs answers plain)) in
     let w = blocks_are_written 1 [] m qs at (map record_text rs) answers (inl (refl, refl)) v texts in
     let same : w.2.0 ≡ answers = whole m qs at.known w.2.0 answers t w.2.1 in
     let alone : rs ≡ all_of answers = parted_first m qs at.known answers (valid_are_formed m qs at.known answers v) in
@@ -68,8 +65,6 @@ pub answers_learned : (b : Bool) (qs : List Question) → AreInOrder b qs → Ar
     → (learned meaning qs known (all_records meaning qs known answers)).earlier ≡ known.earlier ++ verdicts_on qs answers
 unfolding all_records
 answers_learned b [] links t known [] n f = sym (append-nil known.earlier)
-answers_learned b [] links t known (a ∷ answers) n f = absurd f
-answers_learned b (q ∷ qs) links t known [] n f = absurd f
 answers_learned b (q ∷ qs) links t known (a ∷ answers) n f =
     let j = joined b q links.0 in
     let formed = j.formed in
@@ -83,6 +78,7 @@ answers_learned b (q ∷ qs) links t known (a ∷ answers) n f =
     let rest = answers_learned (after b q) qs links.1 t.1 next answers (known_next b q known a n j f.0) (formed_next b q qs known a answers n j f.0 f.1) in
     ap (λ (x : Known). (learned meaning qs x (all_records meaning qs next answers)).earlier) same ∙ rest ∙ ap (λ (es : Earlier). es ++ verdicts_on qs answers) (earlier_next b q known a n j f.0)
     ∙ append_assoc known.earlier ((q, tight a.verdict) ∷ []) (verdicts_on qs answers)
+answers_learned b qs links t known answers n f = absurd f
 
 -- ---- how many records
 

@@ -1,10 +1,10 @@
 -- The records of a part, one by one: what a record that fits a form is, and that those of formed answers fit and are plain.
-use Rattle.crn_ctext.proofs.Prelude.{◌≡◌, ◌≤◌, ◌+◌, ◌++◌, ◌^◌, ◌⊎◌, ℕ, zero, suc, true, List, [], ◌∷◌, length, map, refl, sym, ap, subst, ◌∙◌, inl, inr, arith, ℤ, pos, negsuc, ◌≤ℤ◌, AllByRecursion, ints, append-nil, length-map, Net, IsNetwork, AreBits, AreFrom, IsBasisOf, Record, Form, Field, Rising, AreBetween, Fits, small, record_form, small_form, free_form, IsOneOf, one_word}
+use Rattle.crn_ctext.proofs.Prelude.{◌≡◌, ◌≤◌, ◌+◌, ◌++◌, ◌^◌, ◌⊎◌, ℕ, true, List, [], ◌∷◌, length, map, refl, sym, ap, subst, ◌∙◌, inl, inr, arith, ℤ, pos, ◌≤ℤ◌, append-nil, length-map, Net, IsNetwork, AreBits, AreFrom, IsBasisOf, Record, Form, Field, Rising, Fits, small, record_form, small_form, free_form, IsOneOf, one_word}
 use Rattle.crn_ctext.proofs.Bounded.{IsPlain, IsBounded, words_fit, fitting_is_plain}
 use Rattle.crn_ctext.proofs.RanksLinked.{record_is}
 use Rattle.crn_ctext.proofs.PartNumbers.{FitFields, number_back, number_then, rising_fits, one_number}
-use Rattle.crn_ctext.proofs.FieldsTyped.{rising}
-use Rattle.crn_ctext.proofs.FieldsSaid.{between}
+use Rattle.crn_ctext.proofs.FieldsTyped.{rising, between_bits}
+use Rattle.crn_ctext.proofs.FieldsSaid.{between, bits}
 
 -- a record that fits one form
 pub only : (form : Form) (r : Record) → IsOneOf (form ∷ []) r → Fits form r
@@ -23,13 +23,6 @@ one_back word least most r f =
     let n = one_number least most r.numbers f.1 in
     (n.0, record_is r (word ∷ []) (pos n.0 ∷ []) f.0 n.1, n.2)
 
-between_bits : (zs : List ℤ) → AreBetween (pos 0) (pos 1) zs → AllByRecursion (λ x. (x ≡ pos 0) ⊎ (x ≡ pos 1)) zs
-between_bits [] b = tt
-between_bits (pos zero ∷ zs) b = (inl refl, between_bits zs b.1)
-between_bits (pos (suc zero) ∷ zs) b = (inr refl, between_bits zs b.1)
-between_bits (pos (suc (suc n)) ∷ zs) b = absurd (omega (arith, ints, b.0.1))
-between_bits (negsuc n ∷ zs) b = absurd (omega (arith, ints, b.0.0))
-
 -- marks
 pub bits_back : (word : List ℕ) (count : ℕ) (r : Record) → Fits (small_form word count 0 1) r → (r ≡ one_word word r.numbers) × AreBits count r.numbers
 bits_back word count r f =
@@ -37,18 +30,10 @@ bits_back word count r f =
     let all : p.0 ≡ r.numbers = sym (p.2 ∙ ap (λ (t : List ℤ). p.0 ++ t) p.4 ∙ append-nil p.0) in
     (record_is r (word ∷ []) r.numbers f.0 refl, subst (AreBits count) all (record { long = p.3.0.0; each = between_bits p.0 p.3.0.1 }))
 
-bits_between : (zs : List ℤ) → AllByRecursion (λ x. (x ≡ pos 0) ⊎ (x ≡ pos 1)) zs → AreBetween (pos 0) (pos 1) zs
-bits_between [] a = tt
-bits_between (z ∷ zs) a = (by a.0, bits_between zs a.1)
-  where
-    by : (z ≡ pos 0) ⊎ (z ≡ pos 1) → (pos 0 ≤ℤ z) × (z ≤ℤ pos 1)
-    by (inl e) = (omega (arith, ints, e), omega (arith, ints, e))
-    by (inr e) = (omega (arith, ints, e), omega (arith, ints, e))
-
 pub bits_fit : (word : List ℕ) (count : ℕ) (zs : List ℤ) → AreBits count zs → Fits (small_form word count 0 1) (one_word word zs)
 bits_fit word count zs b =
     let each = b.each in
-    (refl, (zs, [], sym (append-nil zs), ((b.long, bits_between zs each), tt), refl))
+    (refl, (zs, [], sym (append-nil zs), ((b.long, bits zs each), tt), refl))
 
 pub small_numbers_fit : (count least greatest : ℕ) (xs : List ℕ) → AreFrom count least greatest xs → FitFields (small count least greatest ∷ []) (map pos xs)
 small_numbers_fit count least greatest xs f =

@@ -1,5 +1,5 @@
 -- Runs of numbers, and a line of a part that is tried.
-use Rattle.crn_ctext.proofs.Prelude.{◌≡◌, ◌<◌, ◌+◌, ◌++◌, ℕ, Bool, true, false, List, [], ◌∷◌, length, map, take, drop, refl, sym, ap, ap₂, subst, ◌∙◌, inl, inr, arith, ℤ, unsigned_abs, slice_index_or, AllByRecursion, join_with_byte, length-map, get_or-map, Bor, KeptInts, no_form, IsIn, WIDE_SOLUTION, Record, Form, Field, Small, Free, Rising, Takes, AreNarrow, AreOf, Says, IsWord, BeginsWith, IsShaped, Fits, kind_of, record_form, SaysNumbers, IsTail, capped, spaced, IsJudged, AreTried, IsFit, IsTried, FitFields, Gives, FailsFirst, AreChoices, IsChoice, IsRun, IsPartReadAs, IsPartRefusedBy, field_of, form_in, forms_in, texts_of, Choice, map_in, in_map, all_in, all_at, at_in, Run}
+use Rattle.crn_ctext.proofs.Prelude.{◌≡◌, ◌<◌, ◌+◌, ◌++◌, ℕ, Bool, true, false, List, [], ◌∷◌, length, map, take, drop, refl, sym, ap, ap₂, subst, ◌∙◌, inl, inr, arith, ℤ, unsigned_abs, slice_index_or, AllByRecursion, join_with_byte, length-map, get_or-map, Bor, KeptInts, no_form, IsIn, WIDE_SOLUTION, Record, Form, Field, Small, Free, Rising, Takes, AreNarrow, AreOf, Says, IsWord, BeginsWith, IsShaped, Fits, kind_of, record_form, SaysNumbers, IsTail, capped, spaced, IsJudged, AreTried, IsFit, IsTried, FitFields, Gives, FailsFirst, AreChoices, IsChoice, IsRun, IsPartReadAs, IsPartRefusedBy, field_of, form_in, forms_in, texts_of, Choice, map_in, in_map, all_in, all_at, at_in, Run, all_append, IsNarrow}
 use Rattle.std.specs.Prelude.{if◌then◌else◌}
 use Rattle.crn_ctext.proofs.LineSought.{same_kept}
 use Rattle.crn_ctext.specs.declared.record_shape.Fit.TheVariants as fit
@@ -34,9 +34,8 @@ field_is_narrow f xs (free count) t n = n
 field_is_narrow f xs (rising count greatest a) t n = field_narrow f xs tt a t
 
 narrow_field : (f : Field) (xs : List ℤ) → IsRunField f → AllNarrow xs → AreNarrow f xs
-narrow_field f xs (some count least greatest a b) n = tt
 narrow_field f xs (free count) n = n
-narrow_field f xs (rising count greatest a) n = tt
+narrow_field f xs way n = tt
 
 -- ---- runs
 
@@ -67,17 +66,13 @@ fields_capped : (fs : List Field) (xs : List ℤ) → AllRuns fs → AreOf Takes
 fields_capped [] xs a t = ap (map capped) t
 fields_capped (f ∷ fs) xs a t = (map capped t.0, map capped t.1, ap (map capped) t.2 ∙ map_both t.0 t.1, field_capped f t.0 a.0 t.3, fields_capped fs t.1 a.1 t.4)
 
-narrow_both : (xs ys : List ℤ) → AllNarrow xs → AllNarrow ys → AllNarrow (xs ++ ys)
-narrow_both [] ys p q = q
-narrow_both (x ∷ xs) ys p q = (p.0, narrow_both xs ys p.1 q)
-
 narrow_parts : (xs ys : List ℤ) → AllNarrow (xs ++ ys) → AllNarrow xs × AllNarrow ys
 narrow_parts [] ys p = (tt, p)
 narrow_parts (x ∷ xs) ys p = let r = narrow_parts xs ys p.1 in ((p.0, r.0), r.1)
 
 fit_narrow : (fs : List Field) (xs : List ℤ) → AllRuns fs → FitFields fs xs → AllNarrow xs
 fit_narrow [] xs a t = subst AllNarrow (sym t) tt
-fit_narrow (f ∷ fs) xs a t = subst AllNarrow (sym t.2) (narrow_both t.0 t.1 (field_is_narrow f t.0 a.0 t.3.0 t.3.1) (fit_narrow fs t.1 a.1 t.4))
+fit_narrow (f ∷ fs) xs a t = subst AllNarrow (sym t.2) (all_append IsNarrow t.0 t.1 (field_is_narrow f t.0 a.0 t.3.0 t.3.1) (fit_narrow fs t.1 a.1 t.4))
 
 narrow_fit : (fs : List Field) (xs : List ℤ) → AllRuns fs → AllNarrow xs → AreOf Takes fs xs → FitFields fs xs
 narrow_fit [] xs a n t = t

@@ -1,5 +1,5 @@
 -- The documents of a part's formed and valid answers are those that its course reads to their end.
-use Rattle.crn_ctext.proofs.Prelude.{◌≡◌, ◌≤◌, ◌<◌, ◌+◌, ◌++◌, ℕ, List, [], ◌∷◌, length, map, refl, sym, ap, ap₂, subst, ◌∙◌, inl, inr, append_assoc, arith, codes, AllByRecursion, AllZip, join_with_byte, append-nil, length-append, length-map, Net, IsNetwork, MAX_REACTIONS, canonical, complex_text, MAX_DOCUMENT, beginning, Record, Form, Says, IsSpelled, Fits, record_text, end_form, Course, Give, ◌>>=◌, find, ends, IsWrittenBy, IsSettled, asks_lines, network_line, ended, IsNetworkOf, one_word, record_lines, Part, Meant, part_title, part_opening, part_ending, part_course, part_document, asks_part, IsPartDocument, IsPartRead, AreJudged, BadNetwork, IsIn}
+use Rattle.crn_ctext.proofs.Prelude.{◌≡◌, ◌≤◌, ◌<◌, ◌+◌, ◌++◌, ℕ, List, [], ◌∷◌, length, map, refl, sym, ap, ap₂, subst, ◌∙◌, inl, inr, append_assoc, arith, codes, AllByRecursion, AllZip, append-nil, length-append, length-map, Net, IsNetwork, MAX_REACTIONS, canonical, complex_text, MAX_DOCUMENT, beginning, Record, Says, record_text, end_form, Course, Give, ◌>>=◌, find, ends, IsWrittenBy, IsSettled, asks_lines, network_line, ended, IsNetworkOf, one_word, record_lines, Part, Meant, part_title, part_opening, part_ending, part_course, part_document, asks_part, IsPartDocument, IsPartRead, AreJudged, BadNetwork, IsIn}
 use Rattle.crn_ctext.proofs.Written.{IsShortLine, gives_what_is_written, written_is_given, is_none}
 use Rattle.crn_ctext.proofs.Image.{HasNoEnd, written_then, written_cuts, no_end_then, part_record_is_written, written_is_part_record, part_no_end}
 use Rattle.crn_ctext.proofs.Courses.{each_is_judged, gives_or_fails, first_is_one, fails_with_a_code}
@@ -8,7 +8,7 @@ use Rattle.crn_ctext.proofs.NetworkLines.{lines_are_reactions}
 use Rattle.crn_ctext.proofs.FormWords.{words_yes}
 use Rattle.crn_ctext.proofs.ShortAnswers.{AllPlain, plain_are_short}
 use Rattle.crn_ctext.proofs.ShortLines.{text_lines_are_short}
-use Rattle.crn_ctext.proofs.BlocksRead.{lines_back}
+use Rattle.crn_ctext.proofs.BlocksRead.{lines_back, end_line}
 use Rattle.crn_ctext.proofs.DocumentsRead.{IsEnded, ended_then, ended_leaves_none, given_below, no_ends, prefix_of, texts_are}
 use Rattle.crn_ctext.proofs.DocumentsShort.{ended_short, lines_weigh, plain_weight, same_for}
 use Rattle.crn_ctext.proofs.DocumentsWritten.{network_lines, canonical_ended, ended_append, taken_no_end, lines_taken}
@@ -75,20 +75,6 @@ opening_written name net n = (tt, refl, (count, (some, (let p = n.partial in p.r
         (subst (λ (k : ℕ). IsWrittenBy (asks_lines k) (network_lines net) (network_lines net)) whole (lines_taken (network_lines net))) (net, (n, canonical_ended net), (refl, refl)))
 
 -- ---- the last line
-
-end_line : (line : List ℕ) (r : Record) → Says line r → (form : Form) → IsIn form (end_form ∷ []) → Fits form r → line ≡ codes "end"
-end_line line r says form (inr none) fits = absurd none
-end_line line r says form (inl e) fits = by r.words r.numbers says.0 (fits.0 ∙ ap (λ (f : Form). f.words) e) (none (subst (λ (f : Form). Fits f r) e fits)) says.1 says.2
-  where
-    none : Fits end_form r → r.numbers ≡ []
-    none f = f.1
-
-    by : (words : List (List ℕ)) (numbers : List _) (texts : List (List ℕ)) → words ≡ codes "end" ∷ [] → numbers ≡ [] → AllZip IsSpelled texts numbers → line ≡ join_with_byte 32 (words ++ texts) → line ≡ codes "end"
-    by words numbers texts w z all l = l ∙ ap₂ (λ (x y : List (List ℕ)). join_with_byte 32 (x ++ y)) w (empty texts (subst (λ zs. AllZip IsSpelled texts zs) z all))
-      where
-        empty : (texts : List (List ℕ)) → AllZip IsSpelled texts [] → texts ≡ []
-        empty [] p = refl
-        empty (t ∷ ts) p = absurd p
 
 ending_back : {A : Type 0} (words : List (List ℕ)) (n : ℕ) (read y : A) (ls : List (List ℕ)) → IsWrittenBy (part_ending words n read) ls y → (ls ≡ codes "end" ∷ []) × (read ≡ y)
 unfolding IsWrittenBy

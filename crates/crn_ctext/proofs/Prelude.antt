@@ -1,7 +1,7 @@
 -- What this crate's proofs use of other crates and of its specs.
 pub use Rattle.crn_cert.proofs.CallerLemmas.{AllOf, IsTreeless, below_long, blocks_are_of_answers, class_ascending, classes_formed, shares_fit as cut_shares_fit, duals_long, fields_in, free_there, given, head_back, hold_append, hold_parts, is_true_tight, numbered, rank_formed, rank_long, rows_back, shape_count, shape_with, side_inside, side_marks, side_sum, sides_formed, signal_trees_formed, strong_law, treeless, valid_documents_are_true}
 pub use Rattle.crn_cert.specs.Answers.{verdicts_of}
-pub use Rattle.crn_cert.specs.Blocks.{Block, FitsBlock, FitsFields, FitsHead, FitsRow, FitsTree, SaysAnswer, at, block_of, class_length, class_proofs, gap_in, ints_in, list_in, nat_in, nums_in, proof_by, proof_of, rank_data, rank_proof, second_in, side_data, trees_of}
+pub use Rattle.crn_cert.specs.Blocks.{Block, FitsBlock, FitsFields, FitsHead, FitsRow, FitsTree, SaysAnswer, at, block_of, class_length, class_proofs, gap_in, ints_in, list_in, nat_in, nums_in, proof_by, proof_of, rank_data, rank_proof, rows_of, second_in, side_data, trees_of}
 pub use Rattle.crn_cert.specs.Built.{built}
 pub use Rattle.crn_cert.specs.ClassTests.{AreAllExits, AreEven, AreFromTrees, AreLinkTrees, AreNumbered, AreReverses, AreSideMarks, AreToTrees, DoLevelsFall, EachComplex, GoesOut, HangsByLink, HangsFrom, HangsTo, IsExit, IsFirst, IsReverse, IsWayRound, of_class, zeros_in}
 pub use Rattle.crn_cert.specs.ConfluenceTests.{DoTerminalsGather, IsInSpace, IsTie, least_from, others_than, tie_at, tie_tests}
@@ -22,18 +22,18 @@ pub use Rattle.crn_cert.specs.Tests.{AllHold, Test as Claim}
 pub use Rattle.crn_cert.specs.TreeSizes.{HasFewNodes, HaveFewNodes}
 pub use Rattle.crn_cert.specs.TreeTests.{tree_tests}
 pub use Rattle.crn_cert.specs.Trees.{Both, IsFormedTree, Level, Plan, RulesA, RulesB, Three, node_count}
-pub use Rattle.crn_cert.specs.Valid.{AreClassNumbers, HasVector, HaveOneBefore, HaveOneEach, IsApartAt, IsClassNumber, IsFirstLarge, IsFirstSplit, IsLeft, IsNodeOf, IsNormal, IsSignalNode, IsValid, IsWithinTerminal, LeavesLabel, OfVector, WithDeficiencies, class_places, class_rank_tests, confluence_head, confluence_rows, conservation_rows, deficiency_head, deficiency_rows, dependence_rows, ends_at, exits, head_tests, is_least_of_pair, is_within_terminal, linkage, linkage_count, linkage_rows, one_head, pair_places, regular_head, regular_rows, reversible_head, reversible_rows, row_tests, side_tests, signal_head, signal_rows, strong, strong_rows, table_rows, terminals_in, weak_head, zero_head}
+pub use Rattle.crn_cert.specs.Valid.{AreClassNumbers, HasVector, HaveOneBefore, HaveOneEach, IsApartAt, IsClassNumber, IsFirstLarge, IsFirstSplit, IsLeft, IsNodeOf, IsNormal, IsSignalNode, IsValid, IsWithinTerminal, LeavesLabel, OfVector, WithDeficiencies, class_places, class_rank_tests, ends_at, exits, head_tests, is_least_of_pair, is_within_terminal, linkage, linkage_count, pair_places, row_tests, side_tests, signal_head, strong, terminals_in}
 pub use Rattle.crn_cert.specs.Verdicts.{tight, tight_gap, tight_nums, tight_proof, tight_rank}
 pub use Rattle.crn_cert.specs.declared.answer.Answer.{Answer}
 pub use Rattle.crn_cert.specs.declared.answer.Gap.{Gap}
-pub use Rattle.crn_cert.specs.declared.answer.Gap.TheVariants.{Budget, Rests as RestsOn, Budget as Spent, Wide, Wide as WideGap}
+pub use Rattle.crn_cert.specs.declared.answer.Gap.TheVariants.{Budget, Wide, Wide as WideGap}
 pub use Rattle.crn_cert.specs.declared.answer.Proof.{Proof}
 pub use Rattle.crn_cert.specs.declared.answer.Proof.TheVariants.{Back, Forest, Nothing, One, Rank as RankRows, Ranks, Sides, Strong as StrongTrees, Ties, Two}
 pub use Rattle.crn_cert.specs.declared.answer.RankProof.{RankProof}
 pub use Rattle.crn_cert.specs.declared.answer.Verdict.{Verdict}
 pub use Rattle.crn_cert.specs.declared.answer.Verdict.TheVariants.{Unknown}
 pub use Rattle.crn_cert.specs.declared.head_kind.HeadKind.{HeadKind}
-pub use Rattle.crn_cert.specs.declared.head_kind.HeadKind.TheVariants.{Classes, Deficiency, No, NoClass, NoCycle, NoDependence, NoNumber, NoPair, NoReaction, NoSum, NoTerminal, NoVec, NotApplicable, NotRegular, OnlyZero, Plane, Rank, Rests, Strong, Wide as WideHead, Yes, YesSignal, YesVec, YesWeak}
+pub use Rattle.crn_cert.specs.declared.head_kind.HeadKind.TheVariants.{Classes, Deficiency, No, NoClass, NoCycle, NoDependence, NoNumber, NoPair, NoReaction, NoSum, NoTerminal, NoVec, NotApplicable, NotRegular, OnlyZero, Plane, Rank, Rests, Strong, Yes, YesSignal, YesVec, YesWeak}
 pub use Rattle.crn_cert.specs.declared.tree_node.TreeNode.{TreeNode}
 pub use Rattle.crn_ctext.specs.Answers.{head_of, head_with, later_records, nodes, proof_nodes, proof_records, rank_records, records, records_below, side_records, small_record, verdict_records}
 unfoldable pub use Rattle.crn_ctext.specs.Answers.{all_records}

@@ -100,8 +100,6 @@ proofs_from net earlier k ds rs = class_proofs (sizes_from earlier k (length ds)
 
 pub classes_said : (net : Net) (earlier : Earlier) (k : ℕ) (ds : List ℕ) (ps : List RankProof) → AreClassProofs net earlier k ds ps → proofs_from net earlier k ds (flat_map rank_records ps) ≡ map tight_rank ps
 classes_said net earlier k [] [] f = refl
-classes_said net earlier k [] (p ∷ ps) f = absurd f
-classes_said net earlier k (d ∷ ds) [] f = absurd f
 classes_said net earlier k (d ∷ ds) (p ∷ ps) f =
     let members = class_places net earlier k in
     let rank = rank_at earlier k d in
@@ -116,6 +114,7 @@ classes_said net earlier k (d ∷ ds) (p ∷ ps) f =
     let more : proofs_from net earlier (k + 1) ds (drop (suc (length members)) (rank_records p ++ rest)) ≡ map tight_rank ps = ap (λ (rs : List Record). proofs_from net earlier (k + 1) ds rs) back
     ∙ subst (λ (j : ℕ). proofs_from net earlier j ds rest ≡ map tight_rank ps) (next k) (classes_said net earlier (suc k) ds ps f.1) in
     ap₂ (λ (x : RankProof) (xs : List RankProof). x ∷ xs) one more
+classes_said net earlier k ds ps f = absurd f
 
 pub said_again : (ps : List RankProof) → map tight_rank (map tight_rank ps) ≡ map tight_rank ps
 said_again [] = refl

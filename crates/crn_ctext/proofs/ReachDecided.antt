@@ -74,9 +74,8 @@ top_prefix (t ∷ ts) o (suc y) lt = top_prefix ts o y (omega (arith, lt))
 
 top_last : (ts : List (Option ℕ)) (o : Option ℕ) (y : ℕ) → y ≡ length ts → top_at (ts ++ o ∷ []) y ≡ o
 top_last [] o zero e = refl
-top_last [] o (suc y) e = absurd (omega (arith, e))
-top_last (t ∷ ts) o zero e = absurd (omega (arith, e))
 top_last (t ∷ ts) o (suc y) e = top_last ts o y (omega (arith, e))
+top_last ts o y e = absurd (omega (arith, e))
 
 -- a class that is found is one of the list, or the last
 top_cases : (ts : List (Option ℕ)) (o : Option ℕ) (y k : ℕ) → top_at (ts ++ o ∷ []) y ≡ Some k → (top_at ts y ≡ Some k) ⊎ ((y ≡ length ts) × (o ≡ Some k))

@@ -1,5 +1,5 @@
 -- The formed records of a block are those of a formed answer, which they say.
-use Rattle.crn_ctext.proofs.Prelude.{◌≡◌, ◌∙◌, Bool, true, List, [], ◌∷◌, sym, ap, ap₂, flat_map, head_is, tail_is, Verdict, Proof, Question, Q11, Q13, Block, proof_of, block_of, IsFormedOf, blocks_are_of_answers, Record, Parts, nodes, head_of, records_below, proof_nodes, Known, shapes_of, sizes_of, said_verdict, meaning}
+use Rattle.crn_ctext.proofs.Prelude.{◌≡◌, ◌∙◌, Bool, true, List, [], ◌∷◌, sym, ap, ap₂, flat_map, Verdict, Proof, Question, Q11, Q13, Block, proof_of, block_of, IsFormedOf, blocks_are_of_answers, Record, Parts, nodes, head_of, records_below, proof_nodes, Known, shapes_of, sizes_of, said_verdict, meaning}
 use Rattle.crn_cert.specs.Blocks.{verdict_of}
 use Rattle.crn_cert.specs.Table as table
 use Rattle.crn_ctext.specs.Documents as documents
@@ -7,7 +7,7 @@ use Rattle.crn_ctext.proofs.Forms.{head_record, row_records}
 use Rattle.crn_ctext.proofs.KnownBefore.{after}
 use Rattle.crn_ctext.proofs.TreeRecords.{tree_formed, tree_of}
 use Rattle.crn_ctext.proofs.TablesLinked.{at_root}
-use Rattle.crn_ctext.proofs.RecordsDerived.{records_as_before}
+use Rattle.crn_ctext.proofs.RecordsDerived.{head_as_before, records_as_before}
 use Rattle.crn_ctext.proofs.BlocksFormed.{OfTrees, formed_are_blocks, answers_formed, nodes_in}
 use Rattle.crn_ctext.proofs.BlocksSaid.{block_said}
 use Rattle.crn_ctext.proofs.Joined.{answer}
@@ -32,9 +32,9 @@ AreInOrder b (q ∷ qs) = ComesAfter b q × AreInOrder (after b q) qs
 
 -- ---- a block
 
--- the records of the head of a block and of the rows below it
-abbrev above_trees : Known → Question → Block → List Record
-above_trees known q b = head_record q b.kind b.head ∷ row_records (table.rows known.net known.earlier q b.kind b.head) b.rows
+-- the records of the rows below the head of a block
+abbrev rows_in : Known → Question → Block → List Record
+rows_in known q b = row_records (table.rows known.net known.earlier q b.kind b.head) b.rows
 
 -- an answer, with the parts of its block
 pub told : (known : Known) (q : Question) (rs : List Record) (p : Parts rs) → documents.IsFormed meaning q known rs p
@@ -47,13 +47,13 @@ told known q rs p f =
     let u = proof_of known.net known.earlier q b.kind b.head b.rows b.trees in
     let formed = answers_formed known q b fits in
     let same : block_of known.net known.earlier v u ≡ b = blocks_are_of_answers known.net known.earlier q b fits in
-    let above : head_of q v ∷ records_below (shapes_of known) (answer v u) ≡ above_trees known q b = records_as_before known q v u formed ∙ ap (λ (c : Block). above_trees known q c) same in
-    let rows = row_records (table.rows known.net known.earlier q b.kind b.head) b.rows in (
+    let head : head_of q v ≡ head_record q b.kind b.head = head_as_before q v ∙ ap (λ (c : Block). head_record q c.kind c.head) same in
+    let rows : records_below (shapes_of known) (answer v u) ≡ rows_in known q b = records_as_before known q v u formed ∙ ap (λ (c : Block). rows_in known q c) same in (
       v,
       u,
       formed,
-      found.3 ∙ sym (head_is (head_of q v) (head_record q b.kind b.head) (records_below (shapes_of known) (answer v u)) rows above),
-      found.4 ∙ sym (tail_is (head_of q v) (head_record q b.kind b.head) (records_below (shapes_of known) (answer v u)) rows above),
+      found.3 ∙ sym head,
+      found.4 ∙ sym rows,
       found.5 ∙ sym (nodes_in u ∙ ap (λ (c : Block). flat_map nodes c.trees) same),
       ap₂ (λ (h : Record) (xs : List Record). said_verdict q (sizes_of known) h xs) found.3 found.4 ∙ block_said known q b.kind b.head b.rows fits.head fits.rows,
     )

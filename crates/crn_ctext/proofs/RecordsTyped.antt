@@ -1,17 +1,13 @@
 -- Records that fit the forms of a question are those of a block of the table that fits.
-use Rattle.crn_ctext.proofs.Prelude.{◌≡◌, ◌++◌, ℕ, suc, List, [], ◌∷◌, map, refl, sym, ap₂, subst, inl, inr, ℤ, Option, Some, None, AllZip, flat_map, IsIn, Question, words, kinds, ways, ways_of, forms_at, forms_from, heads, head_word, Record, Form, below, IsOneOf, shapes_of, HeadKind, Datum, OneAnd, Walk, FreeSeveral, Shelves, Side, WideOf, Row, Sizes, fields, FitsFields, FitsHead, FitsRow}
-use Rattle.crn_cert.specs.Data.{Field, One, CountAndPart, TwoOf, Several, Members, Free, Turn, Wide, ClassWide}
+use Rattle.crn_ctext.proofs.Prelude.{◌≡◌, ◌++◌, ℕ, suc, List, [], ◌∷◌, map, refl, sym, ap₂, subst, inl, inr, Option, Some, None, AllZip, flat_map, IsIn, Question, words, kinds, ways, ways_of, forms_at, forms_from, heads, head_word, Record, Form, below, IsOneOf, shapes_of, HeadKind, Datum, Row, Sizes, fields, FitsFields, FitsHead, FitsRow}
+use Rattle.crn_cert.specs.Data.{Field, One}
 use Rattle.crn_ctext.specs.Records as records
-use Rattle.crn_ctext.proofs.Forms.{numbers_of}
+use Rattle.crn_ctext.proofs.Forms.{numbers_of, row_records, way_of, row_form}
 use Rattle.crn_cert.specs.Table as table
-use Rattle.crn_ctext.proofs.Forms.{row_records}
-use Rattle.crn_ctext.proofs.Forms.{way_of, row_form}
 use Rattle.crn_ctext.proofs.BlockLaws.{RecordsAreBlocks}
 use Rattle.crn_ctext.proofs.FieldsTyped.{field_typed, fields_typed}
 use Rattle.crn_ctext.proofs.RowsDerived.{rows_as_before}
-
-abbrev pub record_is : (r : Record) (words : List (List ℕ)) (numbers : List ℤ) → r.words ≡ words → r.numbers ≡ numbers → r ≡ record { words = words; numbers = numbers }
-record_is r words numbers w n = ap₂ (λ (ws : List (List ℕ)) (zs : List ℤ). record { words = ws; numbers = zs }) w n
+use Rattle.crn_ctext.proofs.RanksLinked.{record_is}
 
 -- ---- a head
 
@@ -52,12 +48,11 @@ has_way f = inl refl
 
 pub rows_typed : (due : List Row) (rs : List Record) → AllZip records.Fits (map row_form due) rs → (ds : List Datum) × AllZip FitsRow due ds × (rs ≡ row_records due ds)
 rows_typed [] [] f = ([], tt, refl)
-rows_typed [] (r ∷ rs) f = absurd f
-rows_typed (row ∷ due) [] f = absurd f
 rows_typed (row ∷ due) (r ∷ rs) f =
     let one = field_typed row.field (way_of (ways row.field)) r.numbers (has_way row.field) f.0.1 in
     let more = rows_typed due rs f.1 in
     (one.0 ∷ more.0, (one.1, more.1), ap₂ (λ (x : Record) (xs : List Record). x ∷ xs) (record_is r (row.word ∷ []) (numbers_of one.0) f.0.0 one.2) more.2)
+rows_typed due rs f = absurd f
 
 -- ---- a block
 

@@ -1,10 +1,9 @@
 -- The forms of the records below a head are those of the table.
-use Rattle.crn_ctext.proofs.Prelude.{◌≡◌, ◌+◌, ◌-◌, ◌++◌, ◌∙◌, ℕ, zero, suc, Bool, true, false, List, [], ◌∷◌, length, map, refl, sym, ap, ap₂, subst, arith, ℤ, pos, replicate, codes, range_with_len, append-nil, class_members, Question, Q1, Q2, Q3, Q4, Q5, Q6, Q7, Q8, Q9, Q10, Q11, Q12, Q13, Q14, Q15, on, linkage, linkage_count, class_places, Form, free_form, class_forms, heads, landed_rows, below, place_of, Known, pairs_of, has_vector, sizes_of, shapes_of, HeadKind, Classes, Strong, Rank, Deficiency, Yes, YesWeak, YesVec, YesSignal, No, NoReaction, NoVec, NoNumber, NoTerminal, NoClass, NoSum, NoDependence, NoCycle, NoPair, NotRegular, OnlyZero, Plane, NotApplicable, Rests, Datum, FreeSeveral, Side, Row, row, rank_rows, rank_in, class_rows, fields, table_sizes, FitsHead, AllOf, given, fields_in, head_back}
-use Rattle.crn_cert.specs.declared.head_kind.HeadKind.TheVariants.{Wide, Budget}
+use Rattle.crn_ctext.proofs.Prelude.{◌≡◌, ◌+◌, ◌-◌, ◌++◌, ◌∙◌, ℕ, zero, suc, Bool, true, false, List, [], ◌∷◌, length, map, refl, sym, ap, ap₂, subst, arith, ℤ, pos, replicate, codes, range_with_len, append-nil, class_members, Question, Q1, Q5, Q6, Q11, Q12, Q13, on, linkage, linkage_count, class_places, Form, free_form, class_forms, heads, landed_rows, below, place_of, Known, pairs_of, has_vector, sizes_of, shapes_of, HeadKind, Classes, Rank, Deficiency, Yes, YesVec, OnlyZero, Rests, Datum, FreeSeveral, Side, Row, row, rank_rows, rank_in, class_rows, fields, table_sizes, FitsHead, AllOf, given, fields_in, head_back}
+use Rattle.crn_cert.specs.declared.head_kind.HeadKind.TheVariants.{Budget}
 use Rattle.crn_cert.specs.Data.{Members}
 use Rattle.crn_cert.specs.Table.{rows}
-use Rattle.crn_ctext.proofs.Forms.{head_record}
-use Rattle.crn_ctext.proofs.Forms.{row_form}
+use Rattle.crn_ctext.proofs.Forms.{head_record, row_form}
 use Rattle.crn_ctext.proofs.BlockLaws.{RowsAsBefore}
 
 abbrev pub HeadOf : Known → Question → HeadKind → Type 0
@@ -76,22 +75,14 @@ rests_said known n false = refl
 
 by_kind : (known : Known) (q : Question) (kind : HeadKind) (a : HeadOf known q kind) → FitsHead q (table_sizes known.net known.earlier) kind (head_by known q kind a) → AreForms known q kind (head_by known q kind a)
 by_kind known Q1 Classes a h = refl
-by_kind known Q2 Strong a h = refl
-by_kind known Q3 Yes a h = refl
-by_kind known Q4 Yes a h = refl
 by_kind known Q5 Rank a h = sym (rank_said (length known.net.names) a.0 (range_with_len 1 (length known.net.reactions)))
 by_kind known Q6 Deficiency a h = ap (λ (zs : List ℤ). class_forms (sizes_of known) (shapes_of known).class_complexes (shapes_of known).class_members zs) (append-nil (map pos a.0.1)) ∙ by_classes known a.0.1 (let x = h.0.1 in x.long)
-by_kind known Q7 YesVec a h = refl
-by_kind known Q8 YesVec a h = refl
-by_kind known Q9 YesWeak a h = refl
-by_kind known Q10 Yes a h = refl
 by_kind known Q11 Yes a h = sides_said (length known.net.complexes) (pairs_of known)
 by_kind known Q12 YesVec a h = ap (λ (t : List Form). free_form (codes "vec") (length known.net.complexes) ∷ t) (by_ties known (length known.net.complexes - 1))
 by_kind known Q12 OnlyZero a h = by_ties known (length known.net.complexes)
 by_kind known Q13 Budget a h = budget_said known a.0 (has_vector (on known.earlier Q12))
 by_kind known Q13 Rests a h = rests_said known a.0 (has_vector (on known.earlier Q12))
-by_kind known Q14 Yes a h = refl
-by_kind known Q15 Yes a h = refl
+by_kind known q Classes a h = search (refl, h)
 by_kind known q kind a h = search (refl, h)
 
 pub rows_as_before : RowsAsBefore

@@ -1,11 +1,9 @@
 -- Records of a block that fits are those of the forms of its question.
-use Rattle.crn_ctext.proofs.Prelude.{◌≡◌, ◌-◌, ◌++◌, ℕ, zero, suc, List, [], ◌∷◌, length, map, refl, sym, subst, inl, inr, AllByRecursion, AllZip, range_with_len, IsIn, class_places, pair_places, Question, Q1, Q2, Q3, Q5, Q6, Q7, Q8, Q11, Q12, Q13, Q14, Q15, ways, heads, Record, Form, AreOf, below, IsOneOf, Known, shapes_of, HeadKind, Classes, Strong, Rank, Deficiency, Yes, YesVec, YesSignal, NoVec, NoCycle, NoPair, OnlyZero, Plane, Datum, Row, Sizes, rank_rows, rank_in, class_rows, rows_by, others, FitsRow}
+use Rattle.crn_ctext.proofs.Prelude.{◌≡◌, ◌-◌, ◌++◌, ℕ, suc, List, [], ◌∷◌, length, map, refl, sym, subst, inl, inr, AllByRecursion, AllZip, range_with_len, IsIn, class_places, pair_places, Question, Q5, Q6, Q11, Q12, ways, heads, Record, Form, AreOf, below, IsOneOf, Known, shapes_of, HeadKind, Classes, Rank, Deficiency, Yes, YesVec, OnlyZero, Datum, Row, Sizes, rank_rows, rank_in, class_rows, rows_by, others, FitsRow, all_append}
 use Rattle.std.proofs.Common.{replicate}
 use Rattle.crn_ctext.specs.Records as records
-use Rattle.crn_ctext.proofs.Forms.{numbers_of}
+use Rattle.crn_ctext.proofs.Forms.{numbers_of, all_same, row_record, row_records, way_of, row_form}
 use Rattle.crn_cert.specs.Table as table
-use Rattle.crn_ctext.proofs.Forms.{row_record, row_records}
-use Rattle.crn_ctext.proofs.Forms.{way_of, row_form}
 use Rattle.crn_ctext.proofs.BlockLaws.{BlocksAreRecords}
 use Rattle.crn_ctext.proofs.FieldsTyped.{Holds}
 use Rattle.crn_ctext.proofs.FieldsSaid.{field_said, head_said}
@@ -24,27 +22,18 @@ row_said row d e f = let s = field_said row.field d f in (refl, by s.0 (subst (I
 
 rows_said : (due : List Row) (ds : List Datum) → AllByRecursion OneWay due → AllZip FitsRow due ds → AllZip records.Fits (map row_form due) (row_records due ds)
 rows_said [] [] a f = tt
-rows_said [] (d ∷ ds) a f = absurd f
-rows_said (row ∷ due) [] a f = absurd f
 rows_said (row ∷ due) (d ∷ ds) a f = (row_said row d a.0 f.0, rows_said due ds a.1 f.1)
+rows_said due ds a f = absurd f
 
 -- ---- the rows of the table
 
-again : (n : ℕ) (row : Row) → OneWay row → AllByRecursion OneWay (replicate n row)
-again zero row e = tt
-again (suc n) row e = (e, again n row e)
-
-both : (xs ys : List Row) → AllByRecursion OneWay xs → AllByRecursion OneWay ys → AllByRecursion OneWay (xs ++ ys)
-both [] ys a b = b
-both (x ∷ xs) ys a b = (a.0, both xs ys a.1 b)
-
 of_rank : (species rank : ℕ) (reactions : List ℕ) → AllByRecursion OneWay (rank_rows species rank reactions)
-of_rank species rank reactions = (refl, both (replicate rank _) (replicate (length reactions - rank) _) (again rank _ refl) (again (length reactions - rank) _ refl))
+of_rank species rank reactions = (refl, all_append OneWay (replicate rank _) (replicate (length reactions - rank) _) (all_same OneWay rank _ refl) (all_same OneWay (length reactions - rank) _ refl))
 
 of_classes : (known : Known) (k : ℕ) (ds : List ℕ) → AllByRecursion OneWay (class_rows known.net known.earlier k ds)
 of_classes known k [] = tt
 of_classes known k (d ∷ ds) =
-    both (rank_rows (length known.net.names) (rank_in known.net known.earlier k d) (class_places known.net known.earlier k)) (class_rows known.net known.earlier (suc k) ds)
+    all_append OneWay (rank_rows (length known.net.names) (rank_in known.net known.earlier k d) (class_places known.net known.earlier k)) (class_rows known.net known.earlier (suc k) ds)
     (of_rank (length known.net.names) (rank_in known.net known.earlier k d) (class_places known.net known.earlier k)) (of_classes known (suc k) ds)
 
 each : (f : ℕ → Row) (xs : List ℕ) → ((x : ℕ) → OneWay (f x)) → AllByRecursion OneWay (map f xs)
@@ -52,24 +41,13 @@ each f [] e = tt
 each f (x ∷ xs) e = (e x, each f xs e)
 
 one_ways : (q : Question) (known : Known) (z : Sizes) (kind : HeadKind) (h : List Datum) → AllByRecursion OneWay (rows_by known.net known.earlier z q kind h)
-one_ways Q1 known z Classes h = (refl, (refl, (refl, tt)))
-one_ways Q2 known z Strong h = (refl, (refl, (refl, (refl, (refl, (refl, (refl, tt)))))))
-one_ways Q3 known z Yes h = (refl, tt)
 one_ways Q5 known z Rank h = of_rank z.species (table.first h) (range_with_len 1 z.reactions)
 one_ways Q6 known z Deficiency h = of_classes known 1 (others h)
-one_ways Q7 known z YesVec h = (refl, tt)
-one_ways Q7 known z NoVec h = (refl, tt)
-one_ways Q8 known z YesVec h = (refl, tt)
-one_ways Q8 known z NoVec h = (refl, tt)
 one_ways Q11 known z Yes h = each _ (pair_places known.net known.earlier) (λ r. refl)
-one_ways Q11 known z NoCycle h = (refl, tt)
-one_ways Q12 known z YesVec h = (refl, again (z.complexes - 1) _ refl)
-one_ways Q12 known z OnlyZero h = again z.complexes _ refl
-one_ways Q12 known z Plane h = (refl, (refl, tt))
-one_ways Q13 known z YesSignal h = (refl, (refl, (refl, (refl, tt))))
-one_ways Q14 known z NoPair h = (refl, (refl, tt))
-one_ways Q15 known z NoPair h = (refl, (refl, tt))
-one_ways q known z kind h = tt
+one_ways Q12 known z YesVec h = (refl, all_same OneWay (z.complexes - 1) _ refl)
+one_ways Q12 known z OnlyZero h = all_same OneWay z.complexes _ refl
+one_ways q known z Classes h = assumption
+one_ways q known z kind h = assumption
 
 -- ---- a block
 

@@ -1,9 +1,11 @@
 -- The course of a document is settled, if the tests of meaning are decided.
-use Rattle.crn_ctext.proofs.Prelude.{◌≡◌, ◌⊎◌, ◌==◌, ◌≤◌, ◌+◌, ◌++◌, ℕ, zero, suc, Bool, true, false, List, [], ◌∷◌, length, map, refl, sym, ap, subst, ◌∙◌, inl, inr, arith, ℤ, replicate, codes, decimal, append_cancel_left, decimal_injective, IsIn, Net, IsNetwork, Sign, Zero, Plus, Minus, MAX_REACTIONS, canonical, Spells, spells_its_network, judged, no_fault, spelling_unique, Record, Form, node_forms, section_form, table_form, vector_form, end_form, Question, heads, first_number, Course, Give, ◌>>=◌, due, find, test, ends, test_own, IsSettled, Claim, all_zero, Problem, Meaning, either, asks, asks_node, asks_all, claims, Node, Split, Flat, CutA, CutB, node_of, leaf, asks_leaf, goes_on, if_signed, asks_tree, asks_trees, sections, below, has_tree, AfterBlocks, asks_block, after_sections, asks_blocks, asks_table, lists_of, asks_lines, title, network_line, ended, IsNetworkOf, ReadOf, course, BadHeader, BadLeaf, BadNetwork, Fault, NodeNotAllowed, TreeEndsEarly, WrongOrder, WrongShape}
+use Rattle.crn_ctext.proofs.Prelude.{◌≡◌, ◌⊎◌, ◌==◌, ◌≤◌, ◌+◌, ◌++◌, ℕ, zero, suc, Bool, true, false, List, [], ◌∷◌, length, map, refl, sym, ap, subst, ◌∙◌, inl, inr, arith, ℤ, replicate, codes, decimal, append_cancel_left, decimal_injective, IsIn, Net, IsNetwork, Sign, Zero, Plus, Minus, MAX_REACTIONS, canonical, Spells, spells_its_network, judged, no_fault, spelling_unique, Record, Form, node_forms, section_form, table_form, vector_form, end_form, Question, heads, first_number, Course, Give, ◌>>=◌, due, find, test, ends, test_own, IsSettled, Claim, all_zero, Problem, Meaning, either, asks, asks_node, asks_all, claims, Node, Split, Flat, CutA, CutB, node_of, leaf, asks_leaf, goes_on, if_signed, asks_tree, asks_trees, sections, below, AfterBlocks, asks_block, after_sections, asks_blocks, asks_table, lists_of, asks_lines, title, network_line, ended, IsNetworkOf, ReadOf, course, BadHeader, BadLeaf, BadNetwork, Fault, NodeNotAllowed, TreeEndsEarly, WrongOrder, WrongShape}
 use Rattle.crn_ctext.proofs.Decided.{IsDecided, if_decided, nat_decided, bool_decided, bytes_decided, some_decided}
 use Rattle.crn_ctext.proofs.Courses.{settled_then, settled_with, GivesOnly, gives_only_then}
 use Rattle.crn_ctext.proofs.LinesRead.{HaveWords, reads_settled}
-use Rattle.crn_ctext.proofs.FormWords.{heads_have, below_have, nodes_have, sections_have, table_has, vectors_have, end_has}
+use Rattle.crn_ctext.proofs.FormWords.{nodes_have, sections_have, table_has, vectors_have, end_has}
+use Rattle.crn_ctext.proofs.BlocksWritten.{after_block, from_trees, from_row_claims, from_rows, from_claims}
+use Rattle.crn_ctext.proofs.FormKinds.{heads_have, below_have}
 
 -- ---- what is asked of the meaning
 
@@ -129,31 +131,14 @@ trees_settled own version table (p ∷ ps) n d = settled_then own (asks_tree ver
 
 -- ---- blocks
 
--- what is after a block
-abbrev given : {Known : Type 0} → Meaning Known → Question → AfterBlocks Known → Record → List Record → ℕ → AfterBlocks Known
-given m q at head rows line = record { known = m.learn q at.known head rows; by_tree = has_tree (m.problems q at.known head); line = line; blocks = at.blocks ++ (head ∷ rows) ∷ [] }
-
--- the course of a block from its trees on, from the tests of its rows on, from its rows on, and from the tests of its head on
-abbrev from_trees : {Known : Type 0} → Meaning Known → (version : ℕ) → List (List ℤ) → Question → AfterBlocks Known → Record → List Record → Course (AfterBlocks Known)
-from_trees m version table q at head rows = asks_trees version table (m.problems q at.known head) (at.line + 1 + length rows) >>= (λ line. Give (given m q at head rows line))
-
-abbrev from_row_claims : {Known : Type 0} → Meaning Known → (version : ℕ) → List (List ℤ) → Question → AfterBlocks Known → Record → List Record → Course (AfterBlocks Known)
-from_row_claims m version table q at head rows = claims at.line (m.row_claims q at.known head rows) >>= (λ y. from_trees m version table q at head rows)
-
-abbrev from_rows : {Known : Type 0} → Meaning Known → (version : ℕ) → List (List ℤ) → Question → AfterBlocks Known → Record → Course (AfterBlocks Known)
-from_rows m version table q at head = asks_all version (at.line + 1) false (below q (m.shapes at.known) head) >>= (λ rows. from_row_claims m version table q at head rows)
-
-abbrev from_claims : {Known : Type 0} → Meaning Known → (version : ℕ) → List (List ℤ) → Question → AfterBlocks Known → Record → Course (AfterBlocks Known)
-from_claims m version table q at head = claims at.line (m.head_claims q at.known head) >>= (λ x. from_rows m version table q at head)
-
 block_settled : {Known : Type 0} (own : ℕ → Type 0) (m : Meaning Known) (Ok : Known → Type 0) (version : ℕ) (table : List (List ℤ)) (q : Question) (at : AfterBlocks Known) → IsDecidedFor m Ok q → Ok at.known → IsSettled own (asks_block m version table q at)
 block_settled own m Ok version table q at d ok =
     settled_then own (asks version at.line at.by_tree (heads q (m.shapes at.known).sizes)) (λ head. from_claims m version table q at head) (asks_settled own version at.line at.by_tree (heads q (m.shapes at.known).sizes) (heads_have q (m.shapes at.known).sizes))
     (λ head. settled_then own (claims at.line (m.head_claims q at.known head)) (λ x. from_rows m version table q at head) (claims_settled own at.line (m.head_claims q at.known head) (let g = d.head in g at.known head ok))
     (λ x. settled_then own (asks_all version (at.line + 1) false (below q (m.shapes at.known) head)) (λ rows. from_row_claims m version table q at head rows) (all_settled own version (at.line + 1) false (below q (m.shapes at.known) head) (below_have q (m.shapes at.known) head))
     (λ rows. settled_then own (claims at.line (m.row_claims q at.known head rows)) (λ y. from_trees m version table q at head rows) (claims_settled own at.line (m.row_claims q at.known head rows) (let g = d.rows in g at.known head rows ok))
-    (λ y. settled_then own (asks_trees version table (m.problems q at.known head) (at.line + 1 + length rows)) (λ line. Give (given m q at head rows line)) (trees_settled own version table (m.problems q at.known head) (at.line + 1 + length rows) (let g = d.trees in g at.known head ok))
-    (λ line. give_settled own (given m q at head rows line))))))
+    (λ y. settled_then own (asks_trees version table (m.problems q at.known head) (at.line + 1 + length rows)) (λ line. Give (after_block m q at head rows line)) (trees_settled own version table (m.problems q at.known head) (at.line + 1 + length rows) (let g = d.trees in g at.known head ok))
+    (λ line. give_settled own (after_block m q at head rows line))))))
 
 -- what is known after a block has the property
 block_keeps : {Known : Type 0} (m : Meaning Known) (Ok : Known → Type 0) (version : ℕ) (table : List (List ℤ)) (q : Question) (at : AfterBlocks Known) → IsDecidedFor m Ok q → Ok at.known → GivesOnly (λ (after : AfterBlocks Known). Ok after.known) (asks_block m version table q at)
@@ -164,7 +149,7 @@ block_keeps {Known} m Ok version table q at d ok =
     gives_only_then Has (claims at.line (m.head_claims q at.known head)) (λ x. from_rows m version table q at head) (λ x.
     gives_only_then Has (asks_all version (at.line + 1) false (below q (m.shapes at.known) head)) (λ rows. from_row_claims m version table q at head rows) (λ rows.
     gives_only_then Has (claims at.line (m.row_claims q at.known head rows)) (λ y. from_trees m version table q at head rows) (λ y.
-    gives_only_then Has (asks_trees version table (m.problems q at.known head) (at.line + 1 + length rows)) (λ line. Give (given m q at head rows line)) (λ line. let g = d.learn in g at.known head rows ok)))))
+    gives_only_then Has (asks_trees version table (m.problems q at.known head) (at.line + 1 + length rows)) (λ line. Give (after_block m q at head rows line)) (λ line. let g = d.learn in g at.known head rows ok)))))
 
 sections_keep : {Known : Type 0} (Ok : Known → Type 0) (opened : List Record) (at : AfterBlocks Known) → Ok at.known → Ok (after_sections opened at).known
 sections_keep Ok [] at ok = ok

@@ -53,10 +53,10 @@ abbrev NamedFor : List (List ℤ) → List ℕ → List Record → Type 0
 NamedFor table leaf rs = AllZip (IsNamed table) leaf (cut_lists rs)
 
 -- the lists of the cut leaves, by whether the first record is one
-abbrev lists_by : Bool → Record → List Record → List (List ℤ)
+abbrev pub lists_by : Bool → Record → List Record → List (List ℤ)
 lists_by t r rs = map (λ r. r.numbers) (cond t (r ∷ filter is_cut_leaf rs) (filter is_cut_leaf rs))
 
-abbrev written_by : Bool → List ℕ → Record → List Record → List Record
+abbrev pub written_by : Bool → List ℕ → Record → List Record → List Record
 written_by t leaf r rs = if t then leaf_written (first_leaf leaf) r ∷ written (later_leaves leaf) rs else r ∷ written leaf rs
 
 -- what is written by leaves that fit is written for each record
@@ -78,8 +78,6 @@ HasLeaves table ws rs = (leaf : List ℕ) × NamedFor table leaf rs × (ws ≡ w
 
 pub shared_back : (table : List (List ℤ)) (ws rs : List Record) → AllZip (IsWrittenFor table) ws rs → HasLeaves table ws rs
 shared_back table [] [] z = ([], tt, refl)
-shared_back table [] (r ∷ rs) z = absurd z
-shared_back table (w ∷ ws) [] z = absurd z
 shared_back table (w ∷ ws) (r ∷ rs) z = by (cases_Bool (is_cut_leaf r)) z.0 (shared_back table ws rs z.1)
   where
     -- the leaves that begin with this one
@@ -99,6 +97,7 @@ shared_back table (w ∷ ws) (r ∷ rs) z = by (cases_Bool (is_cut_leaf r)) z.0 
       subst (λ (t : Bool). w ∷ ws ≡ written_by t more.0 r rs) (sym none) (ap₂ (λ (x : Record) (xs : List Record). x ∷ xs) e more.2),
     )
     by (inr none) (inr named) more = absurd (let f : true ≡ false = sym named.1 ∙ none in cc)
+shared_back table ws rs z = absurd z
 
 -- ---- lists that are related place by place
 
@@ -124,32 +123,28 @@ same_for table w r none (inr named) = absurd (let f : true ≡ false = sym named
 -- their lines are their texts
 pub texts_for : (table : List (List ℤ)) (ls : List (List ℕ)) (rs : List Record) → NoCuts rs → AllZip (IsTextFor table) ls rs → (ls ≡ map record_text rs) × AllByRecursion (λ r. AreShort r.numbers) rs
 texts_for table [] [] n z = (refl, tt)
-texts_for table [] (r ∷ rs) n z = absurd z
-texts_for table (l ∷ ls) [] n z = absurd z
 texts_for table (l ∷ ls) (r ∷ rs) n z =
     let e = same_for table z.0.0 r n.0 z.0.3 in
     let more = texts_for table ls rs n.1 z.1 in
     (ap₂ (λ (x : List ℕ) (xs : List (List ℕ)). x ∷ xs) (z.0.1 ∙ ap record_text e) more.0, (subst (λ (w : Record). AreShort w.numbers) e z.0.2, more.1))
+texts_for table ls rs n z = absurd z
 
 -- ---- texts of all
 
 -- the texts of what is written for each record
 pub all_texts : (table : List (List ℤ)) (ws rs : List Record) → AllZip (IsWrittenFor table) ws rs → AllByRecursion (λ w. AreShort w.numbers) ws → AllZip (IsTextFor table) (map record_text ws) rs
 all_texts table [] [] z s = tt
-all_texts table [] (r ∷ rs) z s = absurd z
-all_texts table (w ∷ ws) [] z s = absurd z
 all_texts table (w ∷ ws) (r ∷ rs) z s = ((w, refl, s.0, z.0), all_texts table ws rs z.1 s.1)
+all_texts table ws rs z s = absurd z
 
 -- a record that is written in its own place is said
 pub says_for : (table : List (List ℤ)) (ls : List (List ℕ)) (rs : List Record) → AllZip Says ls rs → AllZip (SaysFor table) ls rs
 says_for table [] [] z = tt
-says_for table [] (r ∷ rs) z = absurd z
-says_for table (l ∷ ls) [] z = absurd z
 says_for table (l ∷ ls) (r ∷ rs) z = ((r, z.0, inl refl), says_for table ls rs z.1)
+says_for table ls rs z = absurd z
 
 -- the records that lines say in the place of these
 pub said_for : (table : List (List ℤ)) (ls : List (List ℕ)) (rs : List Record) → AllZip (SaysFor table) ls rs → (ws : List Record) × AllZip Says ls ws × AllZip (IsWrittenFor table) ws rs
 said_for table [] [] z = ([], tt, tt)
-said_for table [] (r ∷ rs) z = absurd z
-said_for table (l ∷ ls) [] z = absurd z
 said_for table (l ∷ ls) (r ∷ rs) z = let more = said_for table ls rs z.1 in (z.0.0 ∷ more.0, (z.0.1, more.1), (z.0.2, more.2))
+said_for table ls rs z = absurd z

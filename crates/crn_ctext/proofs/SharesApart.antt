@@ -1,9 +1,10 @@
 -- What is written in the place of formed records determines them, and the leaves by which it is written.
-use Rattle.crn_ctext.proofs.Prelude.{◌≡◌, ◌⊎◌, ◌++◌, ◌∙◌, ℕ, zero, suc, Bool, true, false, cond, if◌then◌else◌, List, [], ◌∷◌, map, refl, sym, ap, ap₂, subst, inl, inr, arith, ℤ, pos, codes, slice_index, slice_index_or, AllByRecursion, AllZip, filter, list_any, bytes_eq, cases_Bool, bytes_eq-Decides, append_cancel_left, IsIn, Sign, Zero, Plus, Minus, all_in, Question, Record, Form, Fits, kind_of, known_words, record_form, free_form, heads, Problem, Meaning, sections, below, word_of, one_word, section, is_cut_leaf, cut_lists, naming_word, IsNamed, leaf_written, first_leaf, later_leaves, written, leaf_forms, IsOneOf, IsTree, AreTrees, AreFormed}
-use Rattle.crn_ctext.proofs.FormKinds.{IsRowKind, HaveKinds, in_passes, heads_kinds, below_kinds, fits_no_cut}
-use Rattle.crn_ctext.proofs.Shared.{IsWrittenFor, named_at, shared_written}
+use Rattle.crn_ctext.proofs.Prelude.{◌≡◌, ◌⊎◌, ◌++◌, ◌∙◌, ℕ, zero, suc, Bool, true, false, if◌then◌else◌, List, [], ◌∷◌, map, refl, sym, ap, ap₂, subst, inl, inr, arith, ℤ, pos, codes, slice_index, slice_index_or, AllByRecursion, AllZip, list_any, bytes_eq, cases_Bool, bytes_eq-Decides, append_cancel_left, IsIn, Sign, Zero, Plus, Minus, all_in, Question, Record, Form, Fits, kind_of, known_words, record_form, free_form, heads, Problem, Meaning, sections, below, word_of, one_word, section, is_cut_leaf, cut_lists, naming_word, IsNamed, leaf_written, written, leaf_forms, IsOneOf, IsTree, AreTrees, AreFormed, all_append}
+use Rattle.crn_ctext.proofs.FormKinds.{IsRowKind, HaveKinds, heads_kinds, below_kinds, fits_no_cut}
+use Rattle.crn_ctext.proofs.Shared.{IsWrittenFor, named_at, shared_written, lists_by, written_by}
 use Rattle.crn_ctext.proofs.BlocksWritten.{parted}
-use Rattle.crn_ctext.proofs.AnswersApart.{block_apart, first_same}
+use Rattle.crn_ctext.proofs.AnswersApart.{block_apart, first_same, IsLeaf}
+use Rattle.crn_ctext.proofs.WordsApart.{among_yes}
 
 -- ---- the kinds of records of an answer
 
@@ -18,10 +19,6 @@ IsKind r = ((is_cut_leaf r ≡ true) → (r.words ≡ codes "cuta" ∷ []) ⊎ (
 abbrev pub AllKinds : List Record → Type 0
 AllKinds rs = AllByRecursion IsKind rs
 
-kinds_both : (xs ys : List Record) → AllKinds xs → AllKinds ys → AllKinds (xs ++ ys)
-kinds_both [] ys p q = q
-kinds_both (x ∷ xs) ys p q = (p.0, kinds_both xs ys p.1 q)
-
 -- words that a test tells apart
 apart : (v w : List ℕ) → bytes_eq v w ≡ false → v ≡ w → ⊥
 apart v w none e = let h : true ≡ false = sym ((bytes_eq-Decides v w).1 e) ∙ none in cc
@@ -32,7 +29,7 @@ kind_by r words e k = subst (λ (ws : List (List ℕ)). IsKind (record { words =
 
 -- no known word of version 1 names a list
 no_name : (w name : List ℕ) → IsIn w (known_words 1) → list_any (bytes_eq name) (known_words 1) ≡ false → w ≡ name → ⊥
-no_name w name i none e = let h : true ≡ false = sym (in_passes name (known_words 1) (subst (λ (x : List ℕ). IsIn x (known_words 1)) e i)) ∙ none in cc
+no_name w name i none e = let h : true ≡ false = sym (among_yes name (known_words 1) (subst (λ (x : List ℕ). IsIn x (known_words 1)) e i)) ∙ none in cc
 
 row_kind : (form : Form) (r : Record) → IsRowKind form → Fits form r → IsKind r
 row_kind form r k fits =
@@ -42,16 +39,12 @@ row_kind form r k fits =
 
 rows_kind : (forms : List Form) (rs : List Record) → HaveKinds forms → AllZip Fits forms rs → AllKinds rs
 rows_kind [] [] k z = tt
-rows_kind [] (r ∷ rs) k z = absurd z
-rows_kind (form ∷ forms) [] k z = absurd z
 rows_kind (form ∷ forms) (r ∷ rs) k z = (row_kind form r k.0 z.0, rows_kind forms rs k.1 z.1)
+rows_kind forms rs k z = absurd z
 
 sections_kind : (names : List (List ℕ)) → AllKinds (map section names)
 sections_kind [] = tt
 sections_kind (n ∷ ns) = (((λ cut. absurd cc), ((λ e. absurd cc), (λ e. absurd cc))), sections_kind ns)
-
-abbrev IsLeaf : Problem → List Sign → Record → Type 0
-IsLeaf p prefix r = IsOneOf (leaf_forms p) r
 
 leaf_kind : (p : Problem) (r : Record) → IsOneOf (leaf_forms p) r → IsKind r
 leaf_kind p r (form, i, fits) = by form i fits
@@ -74,13 +67,13 @@ tree_kinds p zero prefix rs t = subst AllKinds (sym t.1) (leaf_kind p t.0 t.2, t
 tree_kinds p (suc more) prefix rs (inl t) = subst AllKinds (sym t.1) (leaf_kind p t.0 t.2, tt)
 tree_kinds p (suc more) prefix rs (inr t) = subst AllKinds (sym t.3) (
   split_kind,
-  kinds_both t.0 (t.1 ++ t.2) (tree_kinds p more (prefix ++ Zero ∷ []) t.0 t.4) (kinds_both t.1 t.2 (tree_kinds p more (prefix ++ Plus ∷ []) t.1 t.5)
+  all_append IsKind t.0 (t.1 ++ t.2) (tree_kinds p more (prefix ++ Zero ∷ []) t.0 t.4) (all_append IsKind t.1 t.2 (tree_kinds p more (prefix ++ Plus ∷ []) t.1 t.5)
       (elim t.6 [ inl z ↦ subst AllKinds (sym z.1) tt | inr f ↦ tree_kinds p more (prefix ++ Minus ∷ []) t.2 f.1 ])),
 )
 
 trees_kinds : (ps : List {1} Problem) (rs : List Record) → AreTrees IsLeaf ps rs → AllKinds rs
 trees_kinds [] rs t = subst AllKinds (sym t) tt
-trees_kinds (p ∷ ps) rs t = subst AllKinds (sym t.2) (kinds_both t.0 t.1 (tree_kinds p p.choices [] t.0 t.3) (trees_kinds ps t.1 t.4))
+trees_kinds (p ∷ ps) rs t = subst AllKinds (sym t.2) (all_append IsKind t.0 t.1 (tree_kinds p p.choices [] t.0 t.3) (trees_kinds ps t.1 t.4))
 
 pub formed_kinds : {Known : Type 0} (version : ℕ) (m : Meaning Known) (qs : List Question) (known : Known) (answers : List (List Record)) → AreFormed m qs known answers → AllKinds (parted version qs answers)
 unfolding AreFormed
@@ -91,8 +84,8 @@ formed_kinds version m (q ∷ qs) known (rs ∷ more) v =
     let f = v.1 in
     let z = m.shapes known in
     let head : IsKind p.head = row_kind f.head.0 p.head (all_in IsRowKind (heads q z.sizes) f.head.0 (heads_kinds q z.sizes) f.head.1) f.head.2 in
-    let block : AllKinds rs = subst AllKinds (sym p.all) (head, kinds_both p.rows p.nodes (rows_kind (below q z p.head) p.rows (below_kinds q z p.head) f.rows) (trees_kinds (m.problems q known p.head) p.nodes f.trees)) in
-    kinds_both (map section (sections version q)) (rs ++ parted version qs more) (sections_kind (sections version q)) (kinds_both rs (parted version qs more) block (formed_kinds version m qs (m.learn q known p.head p.rows) more v.2))
+    let block : AllKinds rs = subst AllKinds (sym p.all) (head, all_append IsKind p.rows p.nodes (rows_kind (below q z p.head) p.rows (below_kinds q z p.head) f.rows) (trees_kinds (m.problems q known p.head) p.nodes f.trees)) in
+    all_append IsKind (map section (sections version q)) (rs ++ parted version qs more) (sections_kind (sections version q)) (all_append IsKind rs (parted version qs more) block (formed_kinds version m qs (m.learn q known p.head p.rows) more v.2))
 
 -- ---- records
 
@@ -148,19 +141,12 @@ one_for table w r s a b (inr p) (inr q) =
 
 all_for : (table : List (List ℤ)) (ws rs ss : List Record) → AllKinds rs → AllKinds ss → AllZip (IsWrittenFor table) ws rs → AllZip (IsWrittenFor table) ws ss → rs ≡ ss
 all_for table [] [] [] a b p q = refl
-all_for table [] [] (s ∷ ss) a b p q = absurd q
 all_for table [] (r ∷ rs) ss a b p q = absurd p
 all_for table (w ∷ ws) [] ss a b p q = absurd p
-all_for table (w ∷ ws) (r ∷ rs) [] a b p q = absurd q
 all_for table (w ∷ ws) (r ∷ rs) (s ∷ ss) a b p q = ap₂ (λ (x : Record) (xs : List Record). x ∷ xs) (one_for table w r s a.0 b.0 p.0 q.0) (all_for table ws rs ss a.1 b.1 p.1 q.1)
+all_for table ws rs ss a b p q = absurd q
 
 -- ---- leaves
-
-abbrev lists_by : Bool → Record → List Record → List (List ℤ)
-lists_by t r rs = map (λ r. r.numbers) (cond t (r ∷ filter is_cut_leaf rs) (filter is_cut_leaf rs))
-
-abbrev written_by : Bool → List ℕ → Record → List Record → List Record
-written_by t leaf r rs = if t then leaf_written (first_leaf leaf) r ∷ written (later_leaves leaf) rs else r ∷ written leaf rs
 
 leaf_one : (r : Record) (k j : ℕ) → IsKind r → is_cut_leaf r ≡ true → leaf_written k r ≡ leaf_written j r → k ≡ j
 leaf_one r zero zero a cut e = refl

@@ -1,5 +1,5 @@
 -- The lines of a document of plain records are short, and no byte ends one.
-use Rattle.crn_ctext.proofs.Prelude.{◌≡◌, ◌+◌, ◌*◌, ◌<◌, ◌≤◌, ◌==◌, ◌^◌, ◌++◌, ℕ, zero, suc, Bool, true, false, if◌then◌else◌, List, [], ◌∷◌, length, map, get_or, refl, ap, subst, inl, inr, arith, ℤ, pos, negsuc, codes, decimal, nat_le, AllByRecursion, list_all, join_with_byte, signed_decimal, length-append, All-nil, cases_Bool, nat_tests, length-decimal-le_wide, Net, IsNetwork, IsPartialNetwork, IsVector, JoinsTwo, all_at, and_cases, side_text, held, good_terms, side_length, held_length, IsLine, Record, record_text}
+use Rattle.crn_ctext.proofs.Prelude.{◌≡◌, ◌+◌, ◌*◌, ◌<◌, ◌≤◌, ◌==◌, ◌^◌, ◌++◌, ℕ, zero, suc, Bool, true, false, if◌then◌else◌, List, [], ◌∷◌, length, map, get_or, refl, ap, subst, inl, inr, arith, ℤ, pos, negsuc, codes, decimal, nat_le, AllByRecursion, list_all, join_with_byte, signed_decimal, length-append, All-nil, cases_Bool, nat_tests, length-decimal-le_wide, Net, IsNetwork, IsPartialNetwork, IsVector, JoinsTwo, all_at, and_cases, side_text, held, good_terms, side_length, held_length, IsLine, Record, record_text, all_append}
 use Rattle.crn_ctext.proofs.Digits.{is_digit, spells}
 use Rattle.crn_ctext.proofs.Written.{IsShortLine}
 use Rattle.crn_ctext.proofs.DocumentsWritten.{network_lines, text_lines}
@@ -69,19 +69,14 @@ total_append : (xs ys : List (List ℕ)) → total (xs ++ ys) ≡ total xs + tot
 total_append [] ys = omega arith
 total_append (x ∷ xs) ys = omega (arith, total_append xs ys)
 
-all_append : (xs ys : List (List ℕ)) → AllByRecursion Plain xs → AllByRecursion Plain ys → AllByRecursion Plain (xs ++ ys)
-all_append [] ys p q = q
-all_append (x ∷ xs) ys p q = (p.0, all_append xs ys p.1 q)
-
 joined_plain : (ps : List (List ℕ)) → AllByRecursion Plain ps → Plain (join_with_byte 32 ps)
 joined_plain [] p = refl
 joined_plain (x ∷ []) p = p.0
 joined_plain (x ∷ y ∷ xs) p = plain_append x (32 ∷ join_with_byte 32 (y ∷ xs)) p.0 (joined_plain (y ∷ xs) p.1)
 
 joined_length : (ps : List (List ℕ)) → length (join_with_byte 32 ps) ≤ total ps
-joined_length [] = omega arith
-joined_length (x ∷ []) = omega arith
 joined_length (x ∷ y ∷ xs) = omega (arith, length-append x (32 ∷ join_with_byte 32 (y ∷ xs)), joined_length (y ∷ xs))
+joined_length ps = omega arith
 
 words_plain : (ws : List (List ℕ)) → list_all word_fits ws ≡ true → AllByRecursion Plain ws
 words_plain [] e = tt
@@ -110,7 +105,7 @@ record_line_is_short r p =
     let w = and_cases (list_all word_fits r.words) (nat_le (length r.words) 3) p.words in
     let few = p.few in
     let parts = r.words ++ map signed_decimal r.numbers in (
-      plain_is_line (join_with_byte 32 parts) (joined_plain parts (all_append r.words (map signed_decimal r.numbers) (words_plain r.words w.0) (numbers_plain r.numbers p.numbers))),
+      plain_is_line (join_with_byte 32 parts) (joined_plain parts (all_append Plain r.words (map signed_decimal r.numbers) (words_plain r.words w.0) (numbers_plain r.numbers p.numbers))),
       omega (arith, joined_length parts, total_append r.words (map signed_decimal r.numbers), words_length r.words w.0, within (length r.words) 3 w.1, numbers_length r.numbers p.numbers, few),
     )
 
@@ -147,10 +142,6 @@ net_lines_are_short net (r ∷ rs) h a = (net_line_is_short net r h a.0, net_lin
 said_line : (words : List ℕ) (n : ℕ) → Plain words → length words ≤ 100 → n < 10 ^ 22 → IsShortLine (words ++ decimal n)
 said_line words n p few lt = (plain_is_line (words ++ decimal n) (plain_append words (decimal n) p (decimal_plain n (omega (arith, lt)))), omega (arith, length-append words (decimal n), few, decimal_length n lt))
 
-both_short : (xs ys : List (List ℕ)) → AllByRecursion IsShortLine xs → AllByRecursion IsShortLine ys → AllByRecursion IsShortLine (xs ++ ys)
-both_short [] ys p q = q
-both_short (x ∷ xs) ys p q = (p.0, both_short xs ys p.1 q)
-
 records_are_short : (rs : List Record) → AllPlain rs → AllByRecursion IsShortLine (map record_text rs)
 records_are_short [] p = tt
 records_are_short (r ∷ rs) p = (record_line_is_short r p.0, records_are_short rs p.1)
@@ -162,7 +153,7 @@ text_lines_are_short version net records low n p =
       said_line (codes "crn certificate ") version refl (omega arith) (omega (arith, low)),
       (
         said_line (codes "network ") (length net.reactions) refl (omega arith) (omega (arith, few)),
-        both_short (network_lines net) (map record_text records ++ codes "end" ∷ []) (net_lines_are_short net net.reactions h h.apart)
-            (both_short (map record_text records) (codes "end" ∷ []) (records_are_short records p) ((plain_is_line (codes "end") refl, omega arith), tt)),
+        all_append IsShortLine (network_lines net) (map record_text records ++ codes "end" ∷ []) (net_lines_are_short net net.reactions h h.apart)
+            (all_append IsShortLine (map record_text records) (codes "end" ∷ []) (records_are_short records p) ((plain_is_line (codes "end") refl, omega arith), tt)),
       ),
     )

@@ -15,7 +15,6 @@ together (p, []) = p
 together_shown : (p : Proof) → together (shown p) ≡ tight_proof p
 unfolding together
 together_shown (One tree) = refl
-together_shown (Two tree second) = refl
 together_shown p = refl
 
 pub shown_tight : (p r : Proof) → shown p ≡ shown r → tight_proof p ≡ tight_proof r

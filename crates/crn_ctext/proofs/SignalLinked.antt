@@ -1,7 +1,7 @@
 -- Answers on signals that have trees, one or two, and their records.
-use Rattle.crn_ctext.proofs.Prelude.{◌≡◌, ◌⊎◌, ◌<◌, ◌+◌, ◌++◌, ◌∙◌, ℕ, Bool, true, false, List, [], ◌∷◌, length, refl, sym, ap, ap₂, subst, inl, inr, arith, ℤ, pos, negsuc, Option, Some, None, IsSomeAnd, append-nil, Net, reaction_system, Shape, signals, IsShapeOf, Sign, Wide, Budget, Verdict, Unknown, Proof, Nothing, One, Two, Earlier, Q2, Q4, Q12, Q13, on, terminal_of, vector_given, IsYes, AllHold, Plan, node_count, Said, Splits, Flats, CutsA, CutsB, FitsNode, tree_tests, IsTrueOf, by_turn, IsFormedOf, IsSignalTree, AreSignalTrees, IsSignalNode, IsNodeOf, IsValid, shape_count, hold_append, hold_parts, signal_trees_formed, Record, Problem, IsTree, AreTrees, IsGoodLeaf, proof_nodes, records, nodes, Known, is_yes, shapes_of, signal_problem, signal_problems, meaning}
+use Rattle.crn_ctext.proofs.Prelude.{◌≡◌, ◌⊎◌, ◌<◌, ◌+◌, ◌++◌, ◌∙◌, ℕ, Bool, true, false, List, [], ◌∷◌, length, refl, sym, ap, ap₂, subst, inl, inr, arith, ℤ, pos, negsuc, Option, Some, None, IsSomeAnd, append-nil, Net, reaction_system, Shape, signals, IsShapeOf, Sign, Verdict, Unknown, Proof, Nothing, One, Two, Earlier, Q2, Q4, Q12, Q13, on, terminal_of, vector_given, IsYes, AllHold, Plan, node_count, Said, Splits, Flats, CutsA, CutsB, FitsNode, tree_tests, IsTrueOf, by_turn, IsFormedOf, IsSignalTree, AreSignalTrees, IsSignalNode, IsNodeOf, IsValid, shape_count, hold_append, hold_parts, signal_trees_formed, Record, Problem, IsTree, AreTrees, IsGoodLeaf, proof_nodes, records, nodes, Known, is_yes, shapes_of, signal_problem, signal_problems, meaning}
 use Rattle.crn_cert.specs.declared.answer.Gap.TheVariants.{Rests}
-use Rattle.crn_cert.specs.declared.answer.Verdict.TheVariants.{Yes, YesVec, YesSignal, No, NotApplicable}
+use Rattle.crn_cert.specs.declared.answer.Verdict.TheVariants.{Yes, YesVec, No}
 use Rattle.crn_ctext.specs.Documents as documents
 use Rattle.crn_ctext.proofs.Shown.{shown}
 use Rattle.crn_ctext.proofs.KnownBefore.{IsStrong}
@@ -175,12 +175,8 @@ pub signal_trees : (net : Net) (earlier : Earlier) (v : Verdict) (p : Proof) →
 signal_trees net earlier No (One tree) f = let b = f.0 in let t = signal_trees_formed net earlier (One tree) b.trees in inr (inl (tree, refl, t.0, t.1))
 signal_trees net earlier No (Two tree second) f = let b = f.0 in let t = signal_trees_formed net earlier (Two tree second) b.trees in inr (inr (tree, second, refl, t.0, t.1, t.2))
 signal_trees net earlier No p f = let b = f.0 in absurd (signal_trees_formed net earlier p b.trees)
-signal_trees net earlier (YesSignal turn shelves mu level weights) p f = let b = f.0 in bare (λ (x : Proof). HasSignalTrees net earlier x) p b.trees f.1.1 (inl refl)
-signal_trees net earlier NotApplicable p f = let b = f.0 in bare (λ (x : Proof). HasSignalTrees net earlier x) p b.trees f.1.1 (inl refl)
-signal_trees net earlier (Unknown (Wide system class index basis)) p f = let b = f.0 in bare (λ (x : Proof). HasSignalTrees net earlier x) p b.trees f.1.1 (inl refl)
-signal_trees net earlier (Unknown (Budget nodes)) p f = let b = f.0 in bare (λ (x : Proof). HasSignalTrees net earlier x) p b.trees f.1.1 (inl refl)
 signal_trees net earlier (Unknown (Rests question)) p f = let b = f.0 in bare (λ (x : Proof). HasSignalTrees net earlier x) p b.trees f.1.1 (inl refl)
-signal_trees net earlier v p f = let b = f.0 in absurd b.head
+signal_trees net earlier v p f = let b = f.0 in bare (λ (x : Proof). HasSignalTrees net earlier x) p b.trees f.1.1 (inl refl)
 
 no_more : (tree : Plan) (rs : List Record) → nodes tree ++ rs ≡ [] → ⊥
 no_more tree rs e = by (nodes tree) (some_nodes tree) e

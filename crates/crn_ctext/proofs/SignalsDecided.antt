@@ -44,12 +44,7 @@ sign_decided : (a b : Sign) → IsDecided (a ≡ b)
 sign_decided Zero Zero = inl refl
 sign_decided Plus Plus = inl refl
 sign_decided Minus Minus = inl refl
-sign_decided Zero Plus = inr (λ e. cc)
-sign_decided Zero Minus = inr (λ e. cc)
-sign_decided Plus Zero = inr (λ e. cc)
-sign_decided Plus Minus = inr (λ e. cc)
-sign_decided Minus Zero = inr (λ e. cc)
-sign_decided Minus Plus = inr (λ e. cc)
+sign_decided a b = inr (λ e. cc)
 
 has_sign_decided : (s : Sign) (x : ℤ) → IsDecided (HasSign s x)
 has_sign_decided Zero x = int_decided x (pos 0)

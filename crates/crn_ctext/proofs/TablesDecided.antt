@@ -17,11 +17,10 @@ zip_decided R each (x ∷ xs) (y ∷ ys) = both_decided (each x y) (zip_decided 
 -- ---- cuts
 
 weigh_decided : (kind : Kind) (w : ℤ) → IsDecided (MayWeigh kind w)
-weigh_decided Pos w = int_le_decided (pos 0) w
 weigh_decided Neg w = int_le_decided w (pos 0)
-weigh_decided NonNeg w = int_le_decided (pos 0) w
 weigh_decided Zero w = inl tt
 weigh_decided Free w = int_decided w (pos 0)
+weigh_decided kind w = int_le_decided (pos 0) w
 
 -- past the end of the kinds each coordinate is free
 free_past : (kinds : List Kind) (k : ℕ) → length kinds ≤ k → is_signed (kind_at kinds k) ≡ true → ⊥

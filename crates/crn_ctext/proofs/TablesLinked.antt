@@ -1,7 +1,7 @@
 -- Answers on concordance that have a tree, and their records.
-use Rattle.crn_ctext.proofs.Prelude.{◌≡◌, ◌⊎◌, ◌<◌, ◌+◌, ◌++◌, ◌∙◌, ℕ, List, [], ◌∷◌, length, refl, sym, ap, subst, inl, inr, arith, AllZip, range_with_len, append-nil, length-map, length-range_with_len, Net, column, vectors, reaction_system, Signed, plain_table, strong_table, Sign, Wide, Budget, Verdict, Unknown, Proof, Nothing, One, Two, Earlier, Question, Q14, Q15, AllHold, Plan, Both, Three, RulesA, RulesB, Level, IsFormedTree, FitsNode, tree_tests, table_tree, FitsTree, trees_of, IsFormedOf, IsValid, Record, Problem, IsTree, AreTrees, IsGoodLeaf, proof_nodes, records, nodes, Known, shapes_of, problem_over, table_problem, meaning}
+use Rattle.crn_ctext.proofs.Prelude.{◌≡◌, ◌⊎◌, ◌<◌, ◌+◌, ◌++◌, ◌∙◌, ℕ, List, [], ◌∷◌, length, refl, sym, ap, subst, inl, inr, arith, AllZip, range_with_len, append-nil, length-map, length-range_with_len, Net, column, vectors, reaction_system, Signed, plain_table, strong_table, Sign, Verdict, Unknown, Proof, Nothing, One, Two, Earlier, Question, Q14, Q15, AllHold, Plan, Both, IsFormedTree, FitsNode, tree_tests, table_tree, FitsTree, trees_of, IsFormedOf, IsValid, Record, Problem, IsTree, AreTrees, IsGoodLeaf, proof_nodes, records, nodes, Known, shapes_of, problem_over, table_problem, meaning}
 use Rattle.crn_cert.specs.declared.answer.Gap.TheVariants.{Rests}
-use Rattle.crn_cert.specs.declared.answer.Verdict.TheVariants.{Yes, NoPair}
+use Rattle.crn_cert.specs.declared.answer.Verdict.TheVariants.{Yes}
 use Rattle.crn_cert.specs.Table.{sizes_of}
 use Rattle.crn_ctext.specs.Documents as documents
 use Rattle.crn_ctext.proofs.Shown.{shown}
@@ -50,10 +50,7 @@ good_tests net table tree f t =
 
 pub some_nodes : (tree : Plan) → nodes tree ≡ [] → ⊥
 some_nodes (Both zeros pluses) e = cc
-some_nodes (Three zeros pluses minuses) e = cc
-some_nodes (RulesA u) e = cc
-some_nodes (RulesB u) e = cc
-some_nodes Level e = cc
+some_nodes tree e = cc
 
 -- ---- the tree of an answer
 
@@ -68,19 +65,13 @@ one_tree net earlier p f = absurd f
 
 pub concordant_tree : (net : Net) (earlier : Earlier) (v : Verdict) (p : Proof) → IsFormedOf net earlier Q14 v p → IsTreeOrNone net p
 concordant_tree net earlier Yes p f = let b = f.0 in one_tree net earlier p b.trees
-concordant_tree net earlier (NoPair alpha weights) p f = let b = f.0 in bare (λ (x : Proof). IsTreeOrNone net x) p b.trees f.1.1 (inl refl)
-concordant_tree net earlier (Unknown (Wide system class index basis)) p f = let b = f.0 in bare (λ (x : Proof). IsTreeOrNone net x) p b.trees f.1.1 (inl refl)
-concordant_tree net earlier (Unknown (Budget nodes)) p f = let b = f.0 in bare (λ (x : Proof). IsTreeOrNone net x) p b.trees f.1.1 (inl refl)
 concordant_tree net earlier (Unknown (Rests question)) p f = let b = f.0 in absurd b.head
-concordant_tree net earlier v p f = let b = f.0 in absurd b.head
+concordant_tree net earlier v p f = let b = f.0 in bare (λ (x : Proof). IsTreeOrNone net x) p b.trees f.1.1 (inl refl)
 
 pub strongly_tree : (net : Net) (earlier : Earlier) (v : Verdict) (p : Proof) → IsFormedOf net earlier Q15 v p → IsTreeOrNone net p
 strongly_tree net earlier Yes p f = let b = f.0 in one_tree net earlier p b.trees
-strongly_tree net earlier (NoPair alpha weights) p f = let b = f.0 in bare (λ (x : Proof). IsTreeOrNone net x) p b.trees f.1.1 (inl refl)
-strongly_tree net earlier (Unknown (Wide system class index basis)) p f = let b = f.0 in bare (λ (x : Proof). IsTreeOrNone net x) p b.trees f.1.1 (inl refl)
-strongly_tree net earlier (Unknown (Budget nodes)) p f = let b = f.0 in bare (λ (x : Proof). IsTreeOrNone net x) p b.trees f.1.1 (inl refl)
 strongly_tree net earlier (Unknown (Rests question)) p f = let b = f.0 in absurd b.head
-strongly_tree net earlier v p f = let b = f.0 in absurd b.head
+strongly_tree net earlier v p f = let b = f.0 in bare (λ (x : Proof). IsTreeOrNone net x) p b.trees f.1.1 (inl refl)
 
 -- answers with the same nodes show the same
 pub tables_shown : (net : Net) (table : List (List Sign)) (p r : Proof) → IsTreeOrNone net p → IsTreeOrNone net r → proof_nodes p ≡ proof_nodes r → shown p ≡ shown r

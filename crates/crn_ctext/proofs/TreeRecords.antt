@@ -151,8 +151,6 @@ flat_no_split : codes "flat" ≡ codes "split" → ⊥
 flat_no_split e = let h : 102 ≡ 115 = ap (λ (t : List ℕ). slice_index t 0) e in omega (arith, h)
 
 pub tree_true : (w : Problem) (more : ℕ) (p : List Sign) (tree : Plan) → more + length p ≡ w.choices → FormedAt w p tree → IsTree (Good w) more p (nodes tree) → HaveTrueLeaves w p tree
-tree_true w zero p (Both zeros pluses) e f t = absurd (none_left w.choices p e f.0)
-tree_true w zero p (Three zeros pluses minuses) e f t = absurd (none_left w.choices p e f.0)
 tree_true w (suc more) p (Both zeros pluses) e f t =
     let k = split_back w (Good w) (λ p r g. g.0) more p (nodes zeros ++ nodes pluses) t in
     let ez = next_choice w.choices more p Zero e in
@@ -178,6 +176,7 @@ tree_true w (suc more) p (Three zeros pluses minuses) e f t =
 tree_true w more p (RulesA u) e f t = (leaf_back w more p (one_word (codes "cuta") u) (no_split (codes "cuta") u cut_a_no_split) t).1
 tree_true w more p (RulesB u) e f t = (leaf_back w more p (one_word (codes "cutb") u) (no_split (codes "cutb") u cut_b_no_split) t).1
 tree_true w more p Level e f t = (leaf_back w more p (one_word (codes "flat") []) (no_split (codes "flat") [] flat_no_split) t).1
+tree_true w zero p tree e f t = absurd (none_left w.choices p e f.0)
 
 -- ---- a tree of formed records
 

@@ -55,9 +55,8 @@ built_in_order = (
 
 sound_by : (net : Net) (qs : List Question) (answers : List Answer) → AllTrueOrOpen net qs answers → AreSound net qs (verdicts_of answers)
 sound_by net [] [] t = refl
-sound_by net [] (a ∷ answers) t = absurd t
-sound_by net (q ∷ qs) [] t = absurd t
 sound_by net (q ∷ qs) (a ∷ answers) t = (t.0, sound_by net qs answers t.1)
+sound_by net qs answers t = absurd t
 
 answers_true : (net : Net) (answers : List Answer) → IsNetwork net → AreFormed net [] built answers → AreValid net [] built answers → AreSound net built (verdicts_of answers)
 answers_true net answers n f v = sound_by net built answers (valid_documents_are_true built net answers built_in_order n f v)

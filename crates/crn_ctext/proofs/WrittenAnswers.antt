@@ -1,10 +1,10 @@
 -- The answers to the questions that are built, as documents write them.
-use Rattle.crn_ctext.proofs.Prelude.{◌↔◌, ap₂, subst, cond, ◌≤◌, if◌then◌else◌, ◌≡◌, ℕ, zero, suc, ◌+◌, Bool, true, false, List, [], ◌∷◌, ◌++◌, length, map, take, refl, sym, ap, ◌∙◌, append_assoc, arith, AllByRecursion, AllZip, flat_map, int_eq, pointwise, map-append, filter-append, firsts, MAX_SHARED, MAX_NUMBERS, Shared, HasAt, FitsAnswers, cuts_of, cuts_in, all_cuts, number_in, share_of_cuts, share_of, as_share, Plan, Both, Three, RulesA, RulesB, Level, Net, IsNetwork, all_append, cut_shares_fit, IsTreeless, treeless, built, IsFormedOf, IsFormedAnswer, HeadKind, trees, numbered, number, Earlier, Question, Q1, Q2, Q3, Q4, Q5, Q6, Q7, Q8, Q9, Q10, Q11, Q12, Q13, Q14, Q15, on, pair_places, Wide, Budget, Verdict, Unknown, Proof, Answer, Record, IsNarrow, Shapes, opens, records, all_records, head_of, verdict_records, later_records, side_records, records_below, proof_records, proof_nodes, nodes, Share, FitsShare, is_cut_leaf, cut_lists, document, document2, opening, record_lines, table_records, written, in_sections, section, Known, pairs_of, shapes_of, sizes_of, verdict_of, meaning, HoldsNoSides, records_of, question_at, shapes_with, blocks, strong_pairs, pairs_in, tight}
+use Rattle.crn_ctext.proofs.Prelude.{◌↔◌, ap₂, subst, cond, ◌≤◌, if◌then◌else◌, ◌≡◌, ℕ, zero, suc, ◌+◌, Bool, true, false, List, [], ◌∷◌, ◌++◌, length, map, take, refl, sym, ap, ◌∙◌, append_assoc, arith, AllByRecursion, AllZip, flat_map, int_eq, pointwise, firsts, MAX_SHARED, MAX_NUMBERS, Shared, HasAt, FitsAnswers, cuts_of, cuts_in, all_cuts, number_in, share_of_cuts, share_of, as_share, Plan, Both, Three, Net, IsNetwork, all_append, cut_shares_fit, IsTreeless, treeless, built, IsFormedOf, IsFormedAnswer, HeadKind, trees, numbered, number, Earlier, Question, Q1, Q2, Q3, Q4, Q5, Q6, Q7, Q8, Q9, Q10, Q11, Q12, Q13, Q14, Q15, on, pair_places, Verdict, Unknown, Proof, Answer, Record, IsNarrow, Shapes, opens, records, all_records, head_of, verdict_records, later_records, side_records, records_below, proof_records, proof_nodes, nodes, Share, FitsShare, is_cut_leaf, cut_lists, document, document2, opening, record_lines, table_records, written, in_sections, section, Known, pairs_of, shapes_of, sizes_of, verdict_of, meaning, HoldsNoSides, records_of, question_at, shapes_with, blocks, strong_pairs, pairs_in, tight}
 use Rattle.std.proofs.Common.{filter, ℤ, codes}
 use Rattle.crn_cert.specs.Shares.{IsShareable}
 use Rattle.crn_cert.specs.Formed.{AreFormed}
 use Rattle.crn_cert.specs.declared.answer.Gap.TheVariants.{Rests}
-use Rattle.crn_cert.specs.declared.answer.Verdict.TheVariants.{Classes, Strong, Rank}
+use Rattle.crn_cert.specs.declared.answer.Verdict.TheVariants.{Strong}
 use Rattle.crn_cert.specs.Ranges as ranges
 use Rattle.crn_ctext.specs.Documents as documents
 use Rattle.crn_ctext.proofs.TablesLinked.{concordant_tree, strongly_tree}
@@ -12,10 +12,11 @@ use Rattle.crn_ctext.proofs.SignalLinked.{signal_trees}
 use Rattle.crn_ctext.proofs.CutLists.{one_tree_cuts, signal_cuts}
 use Rattle.crn_cert.specs.declared.answer.Proof.TheVariants as proof
 use Rattle.crn_ctext.proofs.KnownBefore.{IsStrong, formed_right, strong_stays, strong_tight, pairs_stay}
-use Rattle.crn_ctext.proofs.AnswersLinked.{linkage_next, strong_next}
+use Rattle.crn_ctext.proofs.AnswersLinked.{linkage_next, strong_next, known_after}
 use Rattle.crn_ctext.proofs.WrittenLines.{lines_append}
 use Rattle.crn_ctext.proofs.WrittenLeaves.{IsPlain, written_none}
 use Rattle.crn_ctext.proofs.WrittenBlocks.{prefix_plain}
+use Rattle.crn_ctext.proofs.DocumentTexts.{cuts_append}
 
 -- without sides the records of a proof are the same, whatever the pairs
 same_rows : (s other : Shapes) (p : Proof) → HoldsNoSides p → proof_records s p ≡ proof_records other p
@@ -30,31 +31,22 @@ rows_by_pairs s other p e = refl
 same_records : (q : Question) (s other : Shapes) (a : Answer) → proof_records s a.proof ≡ proof_records other a.proof → records q s a ≡ records q other a
 same_records q s other a e = ap (λ (rs : List Record). head_of q a.verdict ∷ (verdict_records a.verdict ++ rs ++ later_records a.verdict) ++ proof_nodes a.proof) e
 
--- ---- formed answers to the first two questions have no sides
+-- ---- formed answers to questions but question 11 have no sides
+
+sees_none : (net : Net) (earlier : Earlier) (q : Question) (v : Verdict) (p : Proof) → (q ≡ Q11 → ⊥) → IsFormedOf net earlier q v p → HoldsNoSides p
+sees_none net earlier Q11 v p other f = absurd (other refl)
+sees_none net earlier q (Unknown (Rests question)) (proof.Sides rows) other f = absurd (let s = f.1.1 in cc)
+sees_none net earlier q v (proof.Sides rows) other f = absurd (let s = f.1.1 in cc)
+sees_none net earlier q v p other f = tt
 
 pub sees_first : (net : Net) (earlier : Earlier) (v : Verdict) (p : Proof) → IsFormedOf net earlier Q1 v p → HoldsNoSides p
-sees_first net earlier (Classes count label) (proof.Sides rows) f = absurd (let s = f.1.1 in cc)
-sees_first net earlier (Unknown (Wide system class index basis)) (proof.Sides rows) f = let b = f.0 in absurd b.head
-sees_first net earlier (Unknown (Budget nodes)) (proof.Sides rows) f = let b = f.0 in absurd b.head
-sees_first net earlier (Unknown (Rests question)) (proof.Sides rows) f = let b = f.0 in absurd b.head
-sees_first net earlier v (proof.Sides rows) f = let b = f.0 in absurd b.head
-sees_first net earlier v p f = tt
+sees_first net earlier v p f = sees_none net earlier Q1 v p (λ e. cc) f
 
 pub sees_second : (net : Net) (earlier : Earlier) (v : Verdict) (p : Proof) → IsFormedOf net earlier Q2 v p → HoldsNoSides p
-sees_second net earlier (Strong count terminal label exit) (proof.Sides rows) f = absurd (let s = f.1.1 in cc)
-sees_second net earlier (Unknown (Wide system class index basis)) (proof.Sides rows) f = let b = f.0 in absurd b.head
-sees_second net earlier (Unknown (Budget nodes)) (proof.Sides rows) f = let b = f.0 in absurd b.head
-sees_second net earlier (Unknown (Rests question)) (proof.Sides rows) f = let b = f.0 in absurd b.head
-sees_second net earlier v (proof.Sides rows) f = let b = f.0 in absurd b.head
-sees_second net earlier v p f = tt
+sees_second net earlier v p f = sees_none net earlier Q2 v p (λ e. cc) f
 
 pub sees_rank : (net : Net) (earlier : Earlier) (v : Verdict) (p : Proof) → IsFormedOf net earlier Q5 v p → HoldsNoSides p
-sees_rank net earlier (Rank rank base) (proof.Sides rows) f = absurd (let s = f.1.1 in cc)
-sees_rank net earlier (Unknown (Wide system class index basis)) (proof.Sides rows) f = absurd (let s = f.1.1 in cc)
-sees_rank net earlier (Unknown (Budget nodes)) (proof.Sides rows) f = let b = f.0 in absurd b.head
-sees_rank net earlier (Unknown (Rests question)) (proof.Sides rows) f = let b = f.0 in absurd b.head
-sees_rank net earlier v (proof.Sides rows) f = let b = f.0 in absurd b.head
-sees_rank net earlier v p f = tt
+sees_rank net earlier v p f = sees_none net earlier Q5 v p (λ e. cc) f
 
 -- the records of an answer without sides are the same, whatever the pairs
 pub alone_records : (q : Question) (s other : Shapes) (a : Answer) → HoldsNoSides a.proof → records q s a ≡ records q other a
@@ -116,12 +108,11 @@ plain_for q s = short_plain q s
 
 cuts_by : (net : Net) (earlier : Earlier) (qs : List Question) (xs : List Answer) → IsNetwork net → AllByRecursion ShortFor qs → AreFormed net earlier qs xs → AllByRecursion (IsShareable MAX_NUMBERS) (all_cuts xs)
 cuts_by net earlier [] [] n s h = tt
-cuts_by net earlier [] (a ∷ xs) n s h = absurd h
-cuts_by net earlier (q ∷ qs) [] n s h = absurd h
 cuts_by net earlier (q ∷ qs) (a ∷ xs) n s h =
     let p = plain_for q s.0 in
     let cuts = p.cuts in
     all_append (IsShareable MAX_NUMBERS) (cuts_in a.proof) (all_cuts xs) (cuts net earlier a.verdict a.proof n h.0) (cuts_by net (earlier ++ (q, tight a.verdict) ∷ []) qs xs n s.1 h.1)
+cuts_by net earlier qs xs n s h = absurd h
 
 -- no tree follows a head of the question
 short : (q : Question) → ((net : Net) (earlier : Earlier) (kind : HeadKind) → trees net earlier q kind ≡ []) → IsShortQuestion q
@@ -137,21 +128,16 @@ cuts_shareable net xs n h = cuts_by net [] built xs n built_short h
 -- there are as many answers as questions
 pub as_many : (net : Net) (earlier : Earlier) (qs : List Question) (xs : List Answer) → AreFormed net earlier qs xs → length xs ≡ length qs
 as_many net earlier [] [] h = refl
-as_many net earlier [] (a ∷ xs) h = absurd h
-as_many net earlier (q ∷ qs) [] h = absurd h
 as_many net earlier (q ∷ qs) (a ∷ xs) h = ap suc (as_many net _ qs xs h.1)
+as_many net earlier qs xs h = absurd h
 
 -- ---- blocks
-
--- what is known after an answer
-abbrev after_answer : Question → Known → Answer → Known
-after_answer q known a = meaning.learn q known (head_of q a.verdict) (records_below (meaning.shapes known) a)
 
 -- the records of each answer are those with these pairs
 abbrev AreWritten : List ℕ → List Question → Known → List Answer → Type 0
 AreWritten pairs [] known xs = Unit {0}
 AreWritten pairs (q ∷ qs) known [] = Unit {0}
-AreWritten pairs (q ∷ qs) known (a ∷ xs) = (proof_records (shapes_of known) a.proof ≡ proof_records (shapes_with pairs) a.proof) × AreWritten pairs qs (after_answer q known a) xs
+AreWritten pairs (q ∷ qs) known (a ∷ xs) = (proof_records (shapes_of known) a.proof ≡ proof_records (shapes_with pairs) a.proof) × AreWritten pairs qs (known_after q known a) xs
 
 -- so they are for all questions after the second
 written_after : (pairs : List ℕ) (qs : List Question) (known : Known) (xs : List Answer) → IsStrong (on known.earlier Q2) → pairs_of known ≡ pairs → AreWritten pairs qs known xs
@@ -159,7 +145,7 @@ written_after pairs [] known xs s e = tt
 written_after pairs (q ∷ qs) known [] s e = tt
 written_after pairs (q ∷ qs) known (a ∷ xs) s e =
     let more = (q, verdict_of q (sizes_of known) (head_of q a.verdict) (records_below (shapes_of known) a)) ∷ [] in
-    (rows_by_pairs (shapes_of known) (shapes_with pairs) a.proof e, written_after pairs qs (after_answer q known a) xs (strong_stays known.earlier more s) (pairs_stay known more s ∙ e))
+    (rows_by_pairs (shapes_of known) (shapes_with pairs) a.proof e, written_after pairs qs (known_after q known a) xs (strong_stays known.earlier more s) (pairs_stay known more s ∙ e))
 
 pairs_of_strong : (net : Net) (v w : Verdict) → IsStrong w → pair_places net ((Q1, v) ∷ (Q2, tight w) ∷ []) ≡ strong_pairs net w
 pairs_of_strong net v (Strong count terminal label exit) s = refl
@@ -167,10 +153,10 @@ pairs_of_strong net v w s = absurd s
 
 -- the pairs that are known after the first two answers are those of their verdicts
 pairs_then : (net : Net) (a b : Answer) → IsFormedAnswer net [] Q1 a → IsFormedAnswer net ((Q1, tight a.verdict) ∷ []) Q2 b
-    → (let known = after_answer Q2 (after_answer Q1 (meaning.start net) a) b in IsStrong (on known.earlier Q2) × (pairs_of known ≡ strong_pairs net b.verdict))
+    → (let known = known_after Q2 (known_after Q1 (meaning.start net) a) b in IsStrong (on known.earlier Q2) × (pairs_of known ≡ strong_pairs net b.verdict))
 pairs_then net a b f g =
-    let one = after_answer Q1 (meaning.start net) a in
-    let known = after_answer Q2 one b in
+    let one = known_after Q1 (meaning.start net) a in
+    let known = known_after Q2 one b in
     let first : one.earlier ≡ (Q1, tight a.verdict) ∷ [] = linkage_next (meaning.start net) a f in
     let second : known.earlier ≡ one.earlier ++ (Q2, tight b.verdict) ∷ [] = strong_next one b (subst (λ (es : Earlier). IsFormedAnswer net es Q2 b) (sym first) g) in
     let both : known.earlier ≡ (Q1, tight a.verdict) ∷ (Q2, tight b.verdict) ∷ [] = second ∙ ap (λ (es : Earlier). es ++ (Q2, tight b.verdict) ∷ []) first in
@@ -188,8 +174,8 @@ all_written net (a ∷ b ∷ xs) h =
     let p = pairs_then net a b h.0 h.1.0 in (
       same_rows (shapes_of start) (shapes_with pairs) a.proof (sees_first net [] a.verdict a.proof h.0),
       (
-        same_rows (shapes_of (after_answer Q1 start a)) (shapes_with pairs) b.proof (sees_second net ((Q1, tight a.verdict) ∷ []) b.verdict b.proof h.1.0),
-        written_after pairs (Q3 ∷ Q4 ∷ Q5 ∷ Q6 ∷ Q7 ∷ Q8 ∷ Q9 ∷ Q10 ∷ Q11 ∷ Q12 ∷ Q13 ∷ Q14 ∷ Q15 ∷ []) (after_answer Q2 (after_answer Q1 start a) b) xs p.0 p.1,
+        same_rows (shapes_of (known_after Q1 start a)) (shapes_with pairs) b.proof (sees_second net ((Q1, tight a.verdict) ∷ []) b.verdict b.proof h.1.0),
+        written_after pairs (Q3 ∷ Q4 ∷ Q5 ∷ Q6 ∷ Q7 ∷ Q8 ∷ Q9 ∷ Q10 ∷ Q11 ∷ Q12 ∷ Q13 ∷ Q14 ∷ Q15 ∷ []) (known_after Q2 (known_after Q1 start a) b) xs p.0 p.1,
       ),
     )
 
@@ -198,16 +184,16 @@ unfolding all_records
 flat_blocks pairs [] known xs h = refl
 flat_blocks pairs (q ∷ qs) known [] h = refl
 flat_blocks pairs (q ∷ qs) known (a ∷ xs) h =
-    ap (λ (t : List Record). t ++ flat_map (λ (rs : List Record). rs) (all_records meaning qs (after_answer q known a) xs)) (same_records q (shapes_of known) (shapes_with pairs) a h.0)
-    ∙ ap (λ (t : List Record). records q (shapes_with pairs) a ++ t) (flat_blocks pairs qs (after_answer q known a) xs h.1)
+    ap (λ (t : List Record). t ++ flat_map (λ (rs : List Record). rs) (all_records meaning qs (known_after q known a) xs)) (same_records q (shapes_of known) (shapes_with pairs) a h.0)
+    ∙ ap (λ (t : List Record). records q (shapes_with pairs) a ++ t) (flat_blocks pairs qs (known_after q known a) xs h.1)
 
 headed_blocks : (pairs : List ℕ) (qs : List Question) (known : Known) (xs : List Answer) → AreWritten pairs qs known xs → in_sections qs (all_records meaning qs known xs) ≡ blocks true pairs qs xs
 unfolding all_records
 headed_blocks pairs [] known xs h = refl
 headed_blocks pairs (q ∷ qs) known [] h = refl
 headed_blocks pairs (q ∷ qs) known (a ∷ xs) h =
-    ap (λ (t : List Record). (map section (opens q) ++ t) ++ in_sections qs (all_records meaning qs (after_answer q known a) xs)) (same_records q (shapes_of known) (shapes_with pairs) a h.0)
-    ∙ ap (λ (t : List Record). (map section (opens q) ++ records q (shapes_with pairs) a) ++ t) (headed_blocks pairs qs (after_answer q known a) xs h.1)
+    ap (λ (t : List Record). (map section (opens q) ++ t) ++ in_sections qs (all_records meaning qs (known_after q known a) xs)) (same_records q (shapes_of known) (shapes_with pairs) a h.0)
+    ∙ ap (λ (t : List Record). (map section (opens q) ++ records q (shapes_with pairs) a) ++ t) (headed_blocks pairs qs (known_after q known a) xs h.1)
 
 -- the records of a document in version 1 are those of the blocks
 pub records_are : (net : Net) (xs : List Answer) → AreFormed net [] built xs → flat_map (λ (rs : List Record). rs) (records_of net xs) ≡ blocks false (pairs_in net xs) built xs
@@ -241,10 +227,6 @@ document2_lines net xs pairs share h e =
 
 -- ---- cut leaves
 
--- the lists of the cut leaves of records are those of the trees' cuts
-cuts_append : (xs ys : List Record) → cut_lists (xs ++ ys) ≡ cut_lists xs ++ cut_lists ys
-cuts_append xs ys = ap (λ (t : List Record). map (λ (r : Record). r.numbers) t) (filter-append is_cut_leaf xs ys) ∙ map-append (λ (r : Record). r.numbers) (filter is_cut_leaf xs) (filter is_cut_leaf ys)
-
 skip_by : (b : Bool) (r : Record) (ts : List Record) → b ≡ false → cond b (r ∷ ts) ts ≡ ts
 skip_by true r ts e = absurd cc
 skip_by false r ts e = refl
@@ -262,9 +244,7 @@ tree_cuts (Three zeros pluses minuses) =
     cuts_append (nodes zeros ++ nodes pluses) (nodes minuses) ∙ ap (λ (t : List (List ℤ)). t ++ cut_lists (nodes minuses)) (cuts_append (nodes zeros) (nodes pluses))
     ∙ ap (λ (t : List (List ℤ)). (t ++ cut_lists (nodes pluses)) ++ cut_lists (nodes minuses)) (tree_cuts zeros) ∙ ap (λ (t : List (List ℤ)). (cuts_of zeros ++ t) ++ cut_lists (nodes minuses)) (tree_cuts pluses)
     ∙ ap (λ (t : List (List ℤ)). (cuts_of zeros ++ cuts_of pluses) ++ t) (tree_cuts minuses)
-tree_cuts (RulesA u) = refl
-tree_cuts (RulesB u) = refl
-tree_cuts Level = refl
+tree_cuts tree = refl
 
 proof_cuts : (p : Proof) → cut_lists (proof_nodes p) ≡ cuts_in p
 proof_cuts (proof.One tree) = tree_cuts tree
@@ -316,9 +296,8 @@ named_at (t ∷ ts) (suc (suc k)) u = named_at ts (suc k) u
 
 all_named : (ts : List (List ℤ)) (ks : List ℕ) (us : List (List ℤ)) → AllZip (HasAt ts) ks us ↔ AllZip (documents.IsNamed ts) ks us
 all_named ts [] [] = ((λ h. h), (λ h. h))
-all_named ts [] (u ∷ us) = ((λ h. h), (λ h. h))
-all_named ts (k ∷ ks) [] = ((λ h. h), (λ h. h))
 all_named ts (k ∷ ks) (u ∷ us) = let a = named_at ts k u in let b = all_named ts ks us in ((λ h. (a.0 h.0, b.0 h.1)), (λ h. (a.1 h.0, b.1 h.1)))
+all_named ts ks us = ((λ h. h), (λ h. h))
 
 all_narrow : (xs : List ℤ) → AllByRecursion ranges.IsNarrow xs ↔ AllByRecursion IsNarrow xs
 all_narrow [] = ((λ h. h), (λ h. h))

@@ -1,7 +1,7 @@
 -- The records of answers, block by block: which of them are no cut leaves, and how they are written one after another.
-use Rattle.crn_ctext.proofs.Prelude.{slice_get, take_all, ◌≡◌, ℕ, zero, suc, ◌+◌, ◌-◌, ◌<◌, Bool, true, false, List, [], ◌∷◌, ◌++◌, length, map, take, get_or, refl, sym, ap, ◌∙◌, append_assoc, add-one, arith, AllByRecursion, flat_map, append-nil, Question, Q1, Q2, Q3, Q4, Q5, Q6, Q7, Q8, Q9, Q10, Q11, Q12, Q13, Q14, Q15, number, built, numbered, Verdict, Unknown, RankProof, Proof, Answer, Record, Shapes, head_of, head_with, verdict_records, later_records, rank_records, side_records, proof_records, proof_nodes, records_below, records, small_record, record_lines, written, one_word, shapes_with, leaves_after, headings, block, blocks, question_at, head_words, head_numbers, before_one}
+use Rattle.crn_ctext.proofs.Prelude.{slice_get, take_all, ◌≡◌, ℕ, zero, suc, ◌+◌, ◌-◌, ◌<◌, Bool, true, false, List, [], ◌∷◌, ◌++◌, length, map, take, get_or, refl, sym, ap, ◌∙◌, append_assoc, add-one, arith, AllByRecursion, flat_map, append-nil, Question, Q1, number, built, numbered, Verdict, RankProof, Proof, Answer, Record, Shapes, head_of, head_with, verdict_records, later_records, rank_records, side_records, proof_records, proof_nodes, records_below, records, small_record, record_lines, written, one_word, shapes_with, leaves_after, headings, block, blocks, question_at, head_words, head_numbers, before_one, all_append}
 use Rattle.std.proofs.Common.{Some, ℤ, codes}
-use Rattle.crn_cert.specs.declared.answer.Verdict.TheVariants.{Classes, Strong, Rank, Deficiency, Yes, YesWeak, YesVec, YesSignal, No, NoReaction, NoVec, NoNumber, NoTerminal, NoClass, NoSum, NoDependence, NoCycle, NoPair, NotRegular, OnlyZero, Plane, NotApplicable}
+use Rattle.crn_cert.specs.declared.answer.Verdict.TheVariants.{Classes, Strong, Rank, YesVec, YesSignal, NoVec, NoCycle, NoPair, Plane}
 use Rattle.crn_cert.specs.declared.answer.Proof.TheVariants as proof
 use Rattle.crn_ctext.proofs.WrittenLines.{head_is, lines_append, element_at}
 use Rattle.crn_ctext.proofs.WrittenLeaves.{IsPlain, leaves_append, written_lines, plain_written, plain_leaves}
@@ -30,21 +30,17 @@ plain_later : (v : Verdict) → AllByRecursion IsPlain (later_records v)
 plain_later (Strong count terminal label exit) = (refl, tt)
 plain_later v = tt
 
-all_both : (xs ys : List Record) → AllByRecursion IsPlain xs → AllByRecursion IsPlain ys → AllByRecursion IsPlain (xs ++ ys)
-all_both [] ys h k = k
-all_both (x ∷ xs) ys h k = (h.0, all_both xs ys h.1 k)
-
 plain_rows : (w : List ℕ) → ((zs : List ℤ) → IsPlain (one_word w zs)) → (rows : List (List ℤ)) → AllByRecursion IsPlain (map (one_word w) rows)
 plain_rows w h [] = tt
 plain_rows w h (row ∷ rows) = (h row, plain_rows w h rows)
 
 plain_rank : (p : RankProof) → AllByRecursion IsPlain (rank_records p)
 plain_rank p =
-    all_both (small_record (codes "base") p.base.list ∷ map (one_word (codes "dual")) p.duals) (map (one_word (codes "comb")) p.combs) (refl, plain_rows (codes "dual") (λ zs. refl) p.duals) (plain_rows (codes "comb") (λ zs. refl) p.combs)
+    all_append IsPlain (small_record (codes "base") p.base.list ∷ map (one_word (codes "dual")) p.duals) (map (one_word (codes "comb")) p.combs) (refl, plain_rows (codes "dual") (λ zs. refl) p.duals) (plain_rows (codes "comb") (λ zs. refl) p.combs)
 
 plain_ranks : (ps : List RankProof) → AllByRecursion IsPlain (flat_map rank_records ps)
 plain_ranks [] = tt
-plain_ranks (p ∷ ps) = all_both (rank_records p) (flat_map rank_records ps) (plain_rank p) (plain_ranks ps)
+plain_ranks (p ∷ ps) = all_append IsPlain (rank_records p) (flat_map rank_records ps) (plain_rank p) (plain_ranks ps)
 
 plain_sides : (pairs : List ℕ) (rows : List (List ℤ)) → AllByRecursion IsPlain (side_records pairs rows)
 plain_sides [] [] = tt
@@ -53,7 +49,6 @@ plain_sides [] (row ∷ rows) = (refl, plain_sides [] rows)
 plain_sides (r ∷ pairs) (row ∷ rows) = (refl, plain_sides pairs rows)
 
 plain_proof : (s : Shapes) (p : Proof) → AllByRecursion IsPlain (proof_records s p)
-plain_proof s proof.Nothing = tt
 plain_proof s (proof.Forest up depth) = (refl, (refl, tt))
 plain_proof s (proof.Strong from from_depth to to_depth level) = (refl, (refl, (refl, (refl, (refl, tt)))))
 plain_proof s (proof.Back back) = (refl, tt)
@@ -61,18 +56,12 @@ plain_proof s (proof.Rank p) = plain_rank p
 plain_proof s (proof.Ranks ps) = plain_ranks ps
 plain_proof s (proof.Sides rows) = plain_sides s.pair_reactions rows
 plain_proof s (proof.Ties rows) = plain_rows (codes "tie") (λ zs. refl) rows
-plain_proof s (proof.One tree) = tt
-plain_proof s (proof.Two tree other) = tt
+plain_proof s p = tt
 
 plain_headings : (sections : Bool) (q : Question) → AllByRecursion IsPlain (headings sections q)
-plain_headings false q = tt
 plain_headings true Q1 = (refl, tt)
-plain_headings true Q5 = (refl, tt)
-plain_headings true Q7 = (refl, tt)
-plain_headings true Q9 = (refl, tt)
-plain_headings true Q11 = (refl, tt)
-plain_headings true Q14 = (refl, tt)
-plain_headings true q = tt
+plain_headings true q = assumption
+plain_headings false q = tt
 
 -- ---- one answer
 
@@ -95,7 +84,7 @@ prefix_lines h vs ps ls =
 -- a head and what is below it are no cut leaves
 pub prefix_plain : (q : Question) (s : Shapes) (a : Answer) → AllByRecursion IsPlain (head_of q a.verdict ∷ records_below s a)
 prefix_plain q s a =
-    (plain_head q a.verdict, all_both (verdict_records a.verdict ++ proof_records s a.proof) (later_records a.verdict) (all_both (verdict_records a.verdict) (proof_records s a.proof) (plain_verdict a.verdict) (plain_proof s a.proof)) (plain_later a.verdict))
+    (plain_head q a.verdict, all_append IsPlain (verdict_records a.verdict ++ proof_records s a.proof) (later_records a.verdict) (all_append IsPlain (verdict_records a.verdict) (proof_records s a.proof) (plain_verdict a.verdict) (plain_proof s a.proof)) (plain_later a.verdict))
 
 -- the lines of an answer: its head, what is below it, and its trees
 pub answer_lines : (leaf : List ℕ) (q : Question) (s : Shapes) (a : Answer) → record_lines (written leaf (records q s a))
@@ -162,9 +151,8 @@ blocks_lines leaf sections pairs qs xs k q a lt lt' =
 -- further questions have no answers
 pub blocks_short : (sections : Bool) (pairs : List ℕ) (qs : List Question) (xs : List Answer) → blocks sections pairs (take (length xs) qs) xs ≡ blocks sections pairs qs xs
 blocks_short sections pairs [] [] = refl
-blocks_short sections pairs [] (a ∷ xs) = refl
-blocks_short sections pairs (q ∷ qs) [] = refl
 blocks_short sections pairs (q ∷ qs) (a ∷ xs) = ap (λ (t : List Record). block sections pairs q a ++ t) (blocks_short sections pairs qs xs)
+blocks_short sections pairs qs xs = refl
 
 -- ---- one round of the loop over answers
 
