@@ -1,5 +1,5 @@
 -- Facts on the built questions before one hold the verdicts that its checks look at, and none on a later question.
-use Rattle.crn_check.proofs.Prelude.{◌≡◌, ◌<◌, inl, inr, ℕ, zero, suc, List, [], ◌∷◌, map, take, length, get_or, refl, sym, ap, subst, arith, AllByRecursion, IsIn, Verdict, built, Earlier, Question, Q1, Q2, Q4, Q5, Q6, Q7, Q11, Q12, number, HoldsOn, HoldsNoneFrom, HoldsNeeds}
+use Rattle.crn_check.proofs.Prelude.{◌≡◌, ◌<◌, inl, inr, ℕ, zero, suc, List, [], ◌∷◌, map, take, length, get_or, refl, sym, ap, subst, arith, AllByRecursion, IsIn, Verdict, built, Earlier, Question, Q1, number, HoldsOn, HoldsNoneFrom, HoldsNeeds, IsBuilt, needs, asked}
 
 -- the questions of verdicts
 abbrev asks : Earlier → List Question
@@ -18,67 +18,49 @@ below : (es : Earlier) (n : ℕ) → AllByRecursion (λ q. number q < n) (asks e
 below [] n h = tt
 below (e ∷ es) n h = (h.0, below es n h.1)
 
+-- the questions at whose verdicts the tests of a question look come before it
+needs_before : (k : ℕ) → k < length built → AllByRecursion (λ q. IsIn q (take k built)) (needs (asked (built_at k)))
+needs_before (suc (suc (suc zero))) lt = (inr (inl refl), tt)
+needs_before (suc (suc (suc (suc (suc zero))))) lt = (inl refl, (inr (inr (inr (inr (inl refl)))), tt))
+needs_before (suc (suc (suc (suc (suc (suc (suc (suc zero)))))))) lt = (inl refl, (inr (inr (inr (inl refl))), (inr (inr (inr (inr (inl refl)))), tt)))
+needs_before (suc (suc (suc (suc (suc (suc (suc (suc (suc zero))))))))) lt = (inl refl, (inr (inl refl), (inr (inr (inr (inr (inr (inl refl))))), tt)))
+needs_before (suc (suc (suc (suc (suc (suc (suc (suc (suc (suc zero)))))))))) lt = (inl refl, (inr (inl refl), (inr (inr (inr (inr (inr (inr (inl refl)))))), tt)))
+needs_before (suc (suc (suc (suc (suc (suc (suc (suc (suc (suc (suc zero))))))))))) lt = (inl refl, (inr (inl refl), (inr (inr (inr (inl refl))), (inr (inr (inr (inr (inr (inr (inr (inr (inr (inr (inl refl)))))))))), tt))))
+needs_before (suc (suc (suc (suc (suc (suc (suc (suc (suc (suc (suc (suc zero)))))))))))) lt = (inr (inl refl), (inr (inr (inr (inl refl))), (inr (inr (inr (inr (inr (inr (inr (inr (inr (inr (inr (inl refl))))))))))), tt)))
+needs_before (suc (suc (suc (suc (suc (suc (suc (suc (suc (suc (suc (suc (suc (suc (suc k))))))))))))))) lt = let few : suc (suc (suc (suc (suc (suc (suc (suc (suc (suc (suc (suc (suc (suc (suc k)))))))))))))) < 15 = lt in absurd (omega (arith, few))
+needs_before k lt = tt
+
+all_held : (es : Earlier) (k : ℕ) (qs : List Question) → asks es ≡ take k built → AllByRecursion (λ q. IsIn q (take k built)) qs → AllByRecursion (λ q. HoldsOn es (number q)) qs
+all_held es k [] before all = tt
+all_held es k (q ∷ qs) before all = (held es q (subst (IsIn q) (sym before) all.0), all_held es k qs before all.1)
+
 pub needs_held : (es : Earlier) (k : ℕ) → k < length built → asks es ≡ take k built → HoldsNeeds es (built_at k)
-needs_held es zero lt before = tt
-needs_held es (suc zero) lt before = tt
-needs_held es (suc (suc zero)) lt before = tt
-needs_held es (suc (suc (suc zero))) lt before =
-    let second : IsIn Q2 (asks es) = rw before (inr (inl refl)) in
-    (held es Q2 second, tt)
-needs_held es (suc (suc (suc (suc zero)))) lt before = tt
-needs_held es (suc (suc (suc (suc (suc zero))))) lt before =
-    let first : IsIn Q1 (asks es) = rw before (inl refl) in
-    let fifth : IsIn Q5 (asks es) = rw before (inr (inr (inr (inr (inl refl))))) in
-    (held es Q1 first, (held es Q5 fifth, tt))
-needs_held es (suc (suc (suc (suc (suc (suc zero)))))) lt before = tt
-needs_held es (suc (suc (suc (suc (suc (suc (suc zero))))))) lt before = tt
-needs_held es (suc (suc (suc (suc (suc (suc (suc (suc zero)))))))) lt before =
-    let first : IsIn Q1 (asks es) = rw before (inl refl) in
-    let fourth : IsIn Q4 (asks es) = rw before (inr (inr (inr (inl refl)))) in
-    let fifth : IsIn Q5 (asks es) = rw before (inr (inr (inr (inr (inl refl))))) in
-    (held es Q1 first, (held es Q4 fourth, (held es Q5 fifth, tt)))
-needs_held es (suc (suc (suc (suc (suc (suc (suc (suc (suc zero))))))))) lt before =
-    let first : IsIn Q1 (asks es) = rw before (inl refl) in
-    let second : IsIn Q2 (asks es) = rw before (inr (inl refl)) in
-    let sixth : IsIn Q6 (asks es) = rw before (inr (inr (inr (inr (inr (inl refl)))))) in
-    (held es Q1 first, (held es Q2 second, (held es Q6 sixth, tt)))
-needs_held es (suc (suc (suc (suc (suc (suc (suc (suc (suc (suc zero)))))))))) lt before =
-    let first : IsIn Q1 (asks es) = rw before (inl refl) in
-    let second : IsIn Q2 (asks es) = rw before (inr (inl refl)) in
-    let seventh : IsIn Q7 (asks es) = rw before (inr (inr (inr (inr (inr (inr (inl refl))))))) in
-    (held es Q1 first, (held es Q2 second, (held es Q7 seventh, tt)))
-needs_held es (suc (suc (suc (suc (suc (suc (suc (suc (suc (suc (suc zero))))))))))) lt before =
-    let first : IsIn Q1 (asks es) = rw before (inl refl) in
-    let second : IsIn Q2 (asks es) = rw before (inr (inl refl)) in
-    let fourth : IsIn Q4 (asks es) = rw before (inr (inr (inr (inl refl)))) in
-    let eleventh : IsIn Q11 (asks es) = rw before (inr (inr (inr (inr (inr (inr (inr (inr (inr (inr (inl refl))))))))))) in
-    (held es Q1 first, (held es Q2 second, (held es Q4 fourth, (held es Q11 eleventh, tt))))
-needs_held es (suc (suc (suc (suc (suc (suc (suc (suc (suc (suc (suc (suc zero)))))))))))) lt before =
-    let second : IsIn Q2 (asks es) = rw before (inr (inl refl)) in
-    let fourth : IsIn Q4 (asks es) = rw before (inr (inr (inr (inl refl)))) in
-    let twelfth : IsIn Q12 (asks es) = rw before (inr (inr (inr (inr (inr (inr (inr (inr (inr (inr (inr (inl refl)))))))))))) in
-    (held es Q2 second, (held es Q4 fourth, (held es Q12 twelfth, tt)))
-needs_held es (suc (suc (suc (suc (suc (suc (suc (suc (suc (suc (suc (suc (suc zero))))))))))))) lt before = tt
-needs_held es (suc (suc (suc (suc (suc (suc (suc (suc (suc (suc (suc (suc (suc (suc zero)))))))))))))) lt before = tt
-needs_held es (suc (suc (suc (suc (suc (suc (suc (suc (suc (suc (suc (suc (suc (suc (suc k))))))))))))))) lt before = let few : suc (suc (suc (suc (suc (suc (suc (suc (suc (suc (suc (suc (suc (suc (suc k)))))))))))))) < 15 = lt in absurd (omega (arith, few))
+needs_held es k lt before = all_held es k (needs (asked (built_at k))) before (needs_before k lt)
 
 pub none_from : (es : Earlier) (k : ℕ) → k < length built → asks es ≡ take k built → HoldsNoneFrom (built_at k) es
 none_from es k lt before = below es (built_at k) (subst (AllByRecursion (λ q. number q < built_at k)) (sym before) (go k lt))
   where
     go : (k : ℕ) → k < length built → AllByRecursion (λ q. number q < built_at k) (take k built)
-    go zero lt = let h : AllByRecursion (λ q. number q < 1) (take 0 built) = tt in h
-    go (suc zero) lt = let h : AllByRecursion (λ q. number q < 2) (take 1 built) = (omega arith, tt) in h
-    go (suc (suc zero)) lt = let h : AllByRecursion (λ q. number q < 3) (take 2 built) = (omega arith, (omega arith, tt)) in h
-    go (suc (suc (suc zero))) lt = let h : AllByRecursion (λ q. number q < 4) (take 3 built) = (omega arith, (omega arith, (omega arith, tt))) in h
-    go (suc (suc (suc (suc zero)))) lt = let h : AllByRecursion (λ q. number q < 5) (take 4 built) = (omega arith, (omega arith, (omega arith, (omega arith, tt)))) in h
-    go (suc (suc (suc (suc (suc zero))))) lt = let h : AllByRecursion (λ q. number q < 6) (take 5 built) = (omega arith, (omega arith, (omega arith, (omega arith, (omega arith, tt))))) in h
-    go (suc (suc (suc (suc (suc (suc zero)))))) lt = let h : AllByRecursion (λ q. number q < 7) (take 6 built) = (omega arith, (omega arith, (omega arith, (omega arith, (omega arith, (omega arith, tt)))))) in h
-    go (suc (suc (suc (suc (suc (suc (suc zero))))))) lt = let h : AllByRecursion (λ q. number q < 8) (take 7 built) = (omega arith, (omega arith, (omega arith, (omega arith, (omega arith, (omega arith, (omega arith, tt))))))) in h
-    go (suc (suc (suc (suc (suc (suc (suc (suc zero)))))))) lt = let h : AllByRecursion (λ q. number q < 9) (take 8 built) = (omega arith, (omega arith, (omega arith, (omega arith, (omega arith, (omega arith, (omega arith, (omega arith, tt)))))))) in h
-    go (suc (suc (suc (suc (suc (suc (suc (suc (suc zero))))))))) lt = let h : AllByRecursion (λ q. number q < 10) (take 9 built) = (omega arith, (omega arith, (omega arith, (omega arith, (omega arith, (omega arith, (omega arith, (omega arith, (omega arith, tt))))))))) in h
-    go (suc (suc (suc (suc (suc (suc (suc (suc (suc (suc zero)))))))))) lt = let h : AllByRecursion (λ q. number q < 11) (take 10 built) = (omega arith, (omega arith, (omega arith, (omega arith, (omega arith, (omega arith, (omega arith, (omega arith, (omega arith, (omega arith, tt)))))))))) in h
-    go (suc (suc (suc (suc (suc (suc (suc (suc (suc (suc (suc zero))))))))))) lt = let h : AllByRecursion (λ q. number q < 12) (take 11 built) = (omega arith, (omega arith, (omega arith, (omega arith, (omega arith, (omega arith, (omega arith, (omega arith, (omega arith, (omega arith, (omega arith, tt))))))))))) in h
-    go (suc (suc (suc (suc (suc (suc (suc (suc (suc (suc (suc (suc zero)))))))))))) lt = let h : AllByRecursion (λ q. number q < 13) (take 12 built) = (omega arith, (omega arith, (omega arith, (omega arith, (omega arith, (omega arith, (omega arith, (omega arith, (omega arith, (omega arith, (omega arith, (omega arith, tt)))))))))))) in h
-    go (suc (suc (suc (suc (suc (suc (suc (suc (suc (suc (suc (suc (suc zero))))))))))))) lt = let h : AllByRecursion (λ q. number q < 14) (take 13 built) = (omega arith, (omega arith, (omega arith, (omega arith, (omega arith, (omega arith, (omega arith, (omega arith, (omega arith, (omega arith, (omega arith, (omega arith, (omega arith, tt))))))))))))) in h
-    go (suc (suc (suc (suc (suc (suc (suc (suc (suc (suc (suc (suc (suc (suc zero)))))))))))))) lt = let h : AllByRecursion (λ q. number q < 15) (take 14 built) = (omega arith, (omega arith, (omega arith, (omega arith, (omega arith, (omega arith, (omega arith, (omega arith, (omega arith, (omega arith, (omega arith, (omega arith, (omega arith, (omega arith, tt)))))))))))))) in h
     go (suc (suc (suc (suc (suc (suc (suc (suc (suc (suc (suc (suc (suc (suc (suc k))))))))))))))) lt = let few : suc (suc (suc (suc (suc (suc (suc (suc (suc (suc (suc (suc (suc (suc (suc k)))))))))))))) < 15 = lt in absurd (omega (arith, few))
+    go k lt = omega arith
+
+-- ---- a built question by its number
+
+asked_back : (q : Question) → asked (number q) ≡ q
+asked_back Q1 = refl
+asked_back q = refl
+
+among : (n : ℕ) (qs : List Question) → IsIn n (map number qs) → number (asked n) ≡ n
+among n [] i = absurd i
+among n (q ∷ qs) (inl e) = subst (λ (m : ℕ). number (asked m) ≡ m) (sym e) (ap number (asked_back q))
+among n (q ∷ qs) (inr i) = among n qs i
+
+pub asked_number : (n : ℕ) → IsBuilt n → number (asked n) ≡ n
+asked_number n i = among n built i
+
+-- what holds of it holds of the number of its question
+pub by_number : (P : ℕ → Type 0) (n : ℕ) → IsBuilt n → P n → P (number (asked n))
+by_number P n i p = subst P (sym (asked_number n i)) p
+
+pub by_question : (P : ℕ → Type 0) → ((q : Question) → P (number q)) → (n : ℕ) → IsBuilt n → P n
+by_question P each n i = subst P (asked_number n i) (each (asked n))

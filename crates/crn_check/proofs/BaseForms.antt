@@ -1,5 +1,5 @@
 -- What the form of a proof of a rank gives for its tests.
-use Rattle.crn_check.proofs.Prelude.{◌≡◌, true, ℕ, ◌+◌, ◌≤◌, List, [], ◌∷◌, length, refl, ap, arith, filter, range_with_len, length-range_with_len, MAX_REACTIONS, IsIn, IsAscending, Net, IsNetwork, all_from, filter_few, filter_from, filter_has, filter_ascending, in_range, RankProof, IsFrom, IsRankProof, outside, range_ascending, range_bounds, Members, All, IsBase, is_member, members_of}
+use Rattle.crn_check.proofs.Prelude.{◌≡◌, ℕ, ◌+◌, ◌≤◌, List, [], ◌∷◌, length, refl, ap, arith, filter, range_with_len, length-range_with_len, MAX_REACTIONS, IsAscending, Net, IsNetwork, all_from, filter_few, filter_from, filter_ascending, RankProof, IsFrom, IsRankProof, outside, range_ascending, range_bounds, Members, All, IsBase, is_member, members_of}
 use Rattle.crn_check.proofs.Outside.{outside_long}
 
 members_few : (net : Net) (m : Members) → length (members_of net m) ≤ length net.reactions
@@ -40,6 +40,3 @@ all_members net = go (range_with_len 1 (length net.reactions))
     go (r ∷ rs) = ap (λ (l : List ℕ). r ∷ l) (go rs)
 
 -- ---- members by their numbers
-
-pub member_in : (net : Net) (m : Members) (r : ℕ) → 1 ≤ r → r ≤ length net.reactions → is_member net m r ≡ true → IsIn r (members_of net m)
-member_in net m r one most hit = filter_has (is_member net m) (range_with_len 1 (length net.reactions)) r (in_range r 1 (length net.reactions) one (omega (arith, most))) hit

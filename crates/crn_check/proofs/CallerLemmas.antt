@@ -1,6 +1,6 @@
 -- What other crates may cite of this crate's proofs.
 -- Facts on the built questions before one hold what its checks look at, and no verdict on a later one.
-pub use Rattle.crn_check.proofs.Asked.{built_at, needs_held, none_from}
+pub use Rattle.crn_check.proofs.Asked.{built_at, needs_held, none_from, asked_number, by_question}
 -- Formed answers whose verdict is not the one that trees show hold no tree.
 pub use Rattle.crn_check.proofs.NoTrees.{answer_treeless}
 -- Tests in two parts, and the verdict that facts hold on a question.
@@ -10,7 +10,7 @@ pub use Rattle.crn_check.proofs.Forms.{formed_on, strong_labelled, shown_formed,
 pub use Rattle.crn_check.proofs.Truths.{sound_on, linkage_true, strong_true, weak_true}
 -- The sides of a valid yes to question 11.
 pub use Rattle.crn_check.proofs.SidesAccepted.{sides_accepted, sides_of_answer}
--- For the shape of the network and of the vector of question 12: what the facts hold on the strong classes and on the vector.
-pub use Rattle.crn_check.proofs.VectorKnown.{IsVectorOf, classes_known, vector_known, of_vector}
+-- What the facts hold on the strong classes.
+pub use Rattle.crn_check.proofs.VectorKnown.{classes_known}
 -- No more strong classes are terminal than there are complexes.
 pub use Rattle.crn_check.proofs.Forms.{terminal_few}

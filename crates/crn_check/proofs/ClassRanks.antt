@@ -1,5 +1,5 @@
 -- The tests of the ranks of the linkage classes, one after another.
-use Rattle.crn_check.proofs.Prelude.{◌≡◌, ℕ, zero, suc, ◌+◌, ◌*◌, ◌≤◌, List, [], ◌∷◌, ◌++◌, length, drop, Result, Ok, Err, refl, sym, ap, subst, ◌∙◌, arith, slice_get, Some, drop_more, get_or_from_slice_get, slice_get_within, MAX_REACTIONS, Net, RankProof, Earlier, AllHold, FailsFirst, rank_tests, IsRankProof, AreClassProofs, class_places, class_rank_tests, CheckFault, Judges, AreRankProofs}
+use Rattle.crn_check.proofs.Prelude.{◌≡◌, ℕ, suc, ◌+◌, ◌*◌, ◌≤◌, List, [], ◌∷◌, ◌++◌, length, drop, Result, Err, refl, sym, ap, subst, ◌∙◌, arith, slice_get, Some, drop_more, get_or_from_slice_get, slice_get_within, MAX_REACTIONS, Net, RankProof, Earlier, AllHold, FailsFirst, rank_tests, IsRankProof, AreClassProofs, class_places, class_rank_tests, CheckFault, Judges, AreRankProofs}
 use Rattle.crn_check.proofs.Judging.{judges_go, judges_stop}
 
 -- if the ranks of the classes from place k on, which counts from 0, are judged so, all are; the base of the first of
@@ -8,9 +8,6 @@ pub record AreRanks (net : Net) (earlier : Earlier) (list : List RankProof) (par
   pub few : part ≤ 1 + k * 481
   pub formed : AreRankProofs net earlier (k + 1) (drop k list)
   pub judged : (said : Result Unit CheckFault) → Judges (class_rank_tests net earlier part (k + 1) (drop k list)) said → Judges (class_rank_tests net earlier 1 1 list) said
-
-pub ranks_none : (net : Net) (earlier : Earlier) (list : List RankProof) → AreRankProofs net earlier 1 list → AreRanks net earlier list 1 0
-ranks_none net earlier list h = record { few = omega arith; formed = h; judged = λ said j. j }
 
 -- the proof at place k and the proofs after it
 proofs_from : (list : List RankProof) (k : ℕ) (p : RankProof) → slice_get list k ≡ Some p → drop k list ≡ p ∷ drop (k + 1) list
@@ -46,23 +43,13 @@ ranks_next net earlier list part k next p h is duals combs e hold = record {
       ranks_here net earlier list part k p h is said (judges_go (rank_tests net (class_places net earlier (k + 1)) part p.base.list p.duals p.combs) (class_rank_tests net earlier (part + 1 + length p.duals + length p.combs) (suc (k + 1)) (drop (k + 1) list)) said hold here);
 }
 
-pub ranks_all : (net : Net) (earlier : Earlier) (list : List RankProof) (part k : ℕ) → AreRanks net earlier list part k → k ≡ length list → Judges (class_rank_tests net earlier 1 1 list) (Ok tt)
-ranks_all net earlier list part k h e = h.judged (Ok tt) (subst (λ (ps : List RankProof). Judges (class_rank_tests net earlier part (k + 1) ps) (Ok tt)) (sym (none list k e)) tt)
-  where
-    none : (ps : List RankProof) (k : ℕ) → k ≡ length ps → drop k ps ≡ []
-    none [] zero e = refl
-    none [] (suc k) e = absurd (omega arith)
-    none (p ∷ ps) zero e = absurd (omega arith)
-    none (p ∷ ps) (suc k) e = none ps k (omega (arith, e))
-
 -- ---- the form of the proofs
 
 -- the proofs of classes are proofs of ranks, and there are as many as deficiencies
 pub proofs_formed : (net : Net) (earlier : Earlier) (k : ℕ) (ds : List ℕ) (ps : List RankProof) → AreClassProofs net earlier k ds ps → AreRankProofs net earlier k ps × (length ps ≡ length ds)
 proofs_formed net earlier k [] [] h = (tt, refl)
-proofs_formed net earlier k [] (p ∷ ps) h = absurd h
-proofs_formed net earlier k (d ∷ ds) [] h = absurd h
 proofs_formed net earlier k (d ∷ ds) (p ∷ ps) h =
     let f = proofs_formed net earlier (suc k) ds ps h.1 in
     let one = h.0 in
     ((subst (λ (n : ℕ). IsRankProof net (class_places net earlier k) n p) (sym one.long) one, f.0), omega (arith, f.1))
+proofs_formed net earlier k ds ps h = absurd h

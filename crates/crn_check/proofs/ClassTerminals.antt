@@ -6,8 +6,6 @@ use Rattle.crn_check.proofs.Forms.{formed_on}
 exits_long : (net : Net) (e : Earlier) (v : Verdict) → IsFormedVerdict net e Q2 v → length (exits_of v) ≡ count_of v
 exits_long net e (Strong count terminal label exit) h = h.1.1.long
 exits_long net e (Unknown (Wide system class index basis)) h = absurd h.0
-exits_long net e (Unknown (Budget nodes)) h = absurd h.0
-exits_long net e (Unknown (Rests question)) h = absurd h.0
 exits_long net e v h = absurd h.0
 
 pub exits_counted : (net : Net) (facts : KeptFacts) → AreFactsOf net facts → HoldsOn facts.earlier 2 → length (exits_of (on facts.earlier Q2)) ≡ count_of (on facts.earlier Q2)

@@ -92,8 +92,6 @@ formed_on net before (e ∷ es) q h held = elim (cases_eq (number e.0) (number q
 strong_long : (net : Net) (e : Earlier) (v : Verdict) → IsFormedVerdict net e Q2 v → length (labels_of v) ≡ length net.complexes
 strong_long net e (Strong count terminal label exit) h = h.1.0.long
 strong_long net e (Unknown (Wide system class index basis)) h = absurd h.0
-strong_long net e (Unknown (Budget nodes)) h = absurd h.0
-strong_long net e (Unknown (Rests question)) h = absurd h.0
 strong_long net e v h = absurd h.0
 
 pub strong_labelled : (net : Net) (facts : KeptFacts) → AreFactsOf net facts → HoldsOn facts.earlier 2 → length (strong facts.earlier) ≡ length net.complexes
@@ -103,8 +101,6 @@ strong_labelled net facts h held = let f = formed_on net [] facts.earlier Q2 h.f
 strong_counted : (net : Net) (e : Earlier) (v : Verdict) → IsFormedVerdict net e Q2 v → count_of v ≤ length net.complexes
 strong_counted net e (Strong count terminal label exit) h = h.0.0.0.1
 strong_counted net e (Unknown (Wide system class index basis)) h = absurd h.0
-strong_counted net e (Unknown (Budget nodes)) h = absurd h.0
-strong_counted net e (Unknown (Rests question)) h = absurd h.0
 strong_counted net e v h = absurd h.0
 
 pub strong_classes : (net : Net) (facts : KeptFacts) → AreFactsOf net facts → HoldsOn facts.earlier 2 → count_of (on facts.earlier Q2) ≤ length net.complexes
@@ -114,8 +110,6 @@ strong_classes net facts h held = let f = formed_on net [] facts.earlier Q2 h.fo
 pub terminal_few : (net : Net) (e : Earlier) (v : Verdict) → IsFormedVerdict net e Q2 v → terminal_of v ≤ length net.complexes
 terminal_few net e (Strong count terminal label exit) h = omega (arith, h.0.0.0.1, h.0.0.1.1)
 terminal_few net e (Unknown (Wide system class index basis)) h = absurd h.0
-terminal_few net e (Unknown (Budget nodes)) h = absurd h.0
-terminal_few net e (Unknown (Rests question)) h = absurd h.0
 terminal_few net e v h = absurd h.0
 
 pub strong_few : (net : Net) (facts : KeptFacts) → AreFactsOf net facts → HoldsOn facts.earlier 2 → terminal_of (on facts.earlier Q2) ≤ length net.complexes
@@ -125,8 +119,6 @@ strong_few net facts h held = let f = formed_on net [] facts.earlier Q2 h.formed
 linkage_long : (net : Net) (e : Earlier) (v : Verdict) → IsFormedVerdict net e Q1 v → (length (labels_of v) ≡ length net.complexes) × (count_of v ≤ length net.complexes)
 linkage_long net e (Classes count label) h = (h.1.long, h.0.0.1)
 linkage_long net e (Unknown (Wide system class index basis)) h = absurd h.0
-linkage_long net e (Unknown (Budget nodes)) h = absurd h.0
-linkage_long net e (Unknown (Rests question)) h = absurd h.0
 linkage_long net e v h = absurd h.0
 
 pub linkage_labelled : (net : Net) (facts : KeptFacts) → AreFactsOf net facts → HoldsOn facts.earlier 1 → (length (linkage facts.earlier) ≡ length net.complexes) × (linkage_count facts.earlier ≤ length net.complexes)
@@ -136,8 +128,6 @@ linkage_labelled net facts h held = let f = formed_on net [] facts.earlier Q1 h.
 linkage_ranged : (net : Net) (e : Earlier) (v : Verdict) → IsFormedVerdict net e Q1 v → AreFrom (length net.complexes) 1 (count_of v) (labels_of v)
 linkage_ranged net e (Classes count label) h = h.1
 linkage_ranged net e (Unknown (Wide system class index basis)) h = absurd h.0
-linkage_ranged net e (Unknown (Budget nodes)) h = absurd h.0
-linkage_ranged net e (Unknown (Rests question)) h = absurd h.0
 linkage_ranged net e v h = absurd h.0
 
 pub linkage_from : (net : Net) (facts : KeptFacts) → AreFactsOf net facts → HoldsOn facts.earlier 1 → AreFrom (length net.complexes) 1 (linkage_count facts.earlier) (linkage facts.earlier)
@@ -146,8 +136,6 @@ linkage_from net facts h held = let f = formed_on net [] facts.earlier Q1 h.form
 strong_ranged : (net : Net) (e : Earlier) (v : Verdict) → IsFormedVerdict net e Q2 v → AreFrom (length net.complexes) 1 (length (exits_of v)) (labels_of v)
 strong_ranged net e (Strong count terminal label exit) h = subst (λ (n : ℕ). AreFrom (length net.complexes) 1 n label.list) (sym h.1.1.long) h.1.0
 strong_ranged net e (Unknown (Wide system class index basis)) h = absurd h.0
-strong_ranged net e (Unknown (Budget nodes)) h = absurd h.0
-strong_ranged net e (Unknown (Rests question)) h = absurd h.0
 strong_ranged net e v h = absurd h.0
 
 pub strong_from : (net : Net) (facts : KeptFacts) → AreFactsOf net facts → HoldsOn facts.earlier 2 → AreFrom (length net.complexes) 1 (length (exits facts.earlier)) (strong facts.earlier)

@@ -1,5 +1,5 @@
 -- The verdicts that facts hold, by their questions.
-use Rattle.crn_check.proofs.Prelude.{◌≡◌, ◌≢◌, inl, inr, ◌==◌, true, false, ℕ, zero, suc, ◌+◌, ◌-◌, ◌<◌, ◌≤◌, List, [], ◌∷◌, ◌++◌, length, map, get_or, drop, refl, sym, ap, subst, ◌∙◌, arith, eq-eqb, ne_eqb, append-nil, drop_more, length-map, Verdict, Earlier, Question, Q15, questions, number, on, some_number, few_numbers, Fact, asked, HoldsOn, HoldsNoneFrom, AreInOrder}
+use Rattle.crn_check.proofs.Prelude.{◌≡◌, ◌≢◌, inl, inr, ◌==◌, true, false, ℕ, suc, ◌+◌, ◌-◌, ◌<◌, ◌≤◌, List, [], ◌∷◌, ◌++◌, length, map, get_or, drop, refl, sym, ap, subst, ◌∙◌, arith, eq-eqb, ne_eqb, append-nil, drop_more, length-map, Verdict, Earlier, Question, Q15, questions, number, on, some_number, few_numbers, Fact, asked, HoldsOn, HoldsNoneFrom, AreInOrder}
 
 number_at : (k : ℕ) → k < 15 → number (get_or questions k Q15) ≡ k + 1
 number_at (suc (suc (suc (suc (suc (suc (suc (suc (suc (suc (suc (suc (suc (suc (suc k))))))))))))))) lt = absurd (omega arith)
@@ -92,10 +92,6 @@ pub ahead_later : (facts : List Fact) (i : ℕ) (f : Fact) (earlier : Earlier) (
 ahead_later facts i f earlier n h lt is = later f (drop (i + 1) facts) earlier n (subst (λ (fs : List Fact). IsAhead fs earlier n) (drop_more facts i f lt ∙ ap (λ (g : Fact). g ∷ drop (i + 1) facts) (sym is)) h)
 
 -- ---- a verdict on a later question
-
-pub earlier_push : (items : List Fact) (f : Fact) → earlier_of (items ++ f ∷ []) ≡ earlier_of items ++ (asked f.question, f.verdict) ∷ []
-earlier_push [] f = refl
-earlier_push (g ∷ gs) f = ap (λ (es : Earlier). (asked g.question, g.verdict) ∷ es) (earlier_push gs f)
 
 -- the first of facts in order has a question below n, if all have
 below : (g : Fact) (gs : List Fact) (k n : ℕ) → AreInOrder k (numbers_of (g ∷ gs)) → HoldsNoneFrom n (earlier_of (g ∷ gs)) → g.question < n

@@ -1,30 +1,23 @@
 -- The first number of a list that is not zero, and the greatest common divisor of a list.
-use Rattle.crn_check.proofs.Prelude.{◌≡◌, ◌≢◌, inl, inr, ℕ, zero, suc, ◌<◌, ◌≤◌, List, [], ◌∷◌, length, refl, sym, ap, subst, ◌∙◌, arith, ℤ, pos, negsuc, ◌≤ℤ◌, ◌∣◌, ints, eq-one_of_dvd-one, entry, IsPrimitive, IsNonzero, LeadsPositive, lt_or, past_end, least_from, IsDivisor}
+use Rattle.crn_check.proofs.Prelude.{◌≡◌, ◌≢◌, inl, inr, ℕ, zero, suc, ◌<◌, ◌≤◌, List, [], ◌∷◌, length, refl, sym, ap, subst, ◌∙◌, arith, ℤ, pos, ◌≤ℤ◌, ◌∣◌, ints, eq-one_of_dvd-one, entry, IsPrimitive, IsNonzero, LeadsPositive, lt_or, past_end, least_from, IsDivisor}
 
 least_on : (k : ℕ) (g : List ℤ) → least_from (suc k) g ≡ suc (least_from k g)
-least_on k [] = refl
 least_on k (pos zero ∷ g) = least_on (suc k) g
-least_on k (pos (suc n) ∷ g) = refl
-least_on k (negsuc n ∷ g) = refl
+least_on k g = refl
 
 pub least_before : (g : List ℤ) (j : ℕ) → j < least_from 0 g → entry g j ≡ pos 0
-least_before [] j lt = absurd (omega (arith, lt))
 least_before (pos zero ∷ g) zero lt = refl
 least_before (pos zero ∷ g) (suc j) lt = least_before g j (omega (arith, lt, least_on 0 g))
-least_before (pos (suc n) ∷ g) j lt = absurd (omega (arith, lt))
-least_before (negsuc n ∷ g) j lt = absurd (omega (arith, lt))
+least_before g j lt = absurd (omega (arith, lt))
 
 pub least_some : (g : List ℤ) → least_from 0 g < length g → entry g (least_from 0 g) ≢ pos 0
 least_some [] lt e = omega (arith, lt)
 least_some (pos zero ∷ g) lt e = least_some g (omega (arith, lt, least_on 0 g)) (ap (entry (pos zero ∷ g)) (sym (least_on 0 g)) ∙ e)
-least_some (pos (suc n) ∷ g) lt e = omega (arith, ints, e)
-least_some (negsuc n ∷ g) lt e = omega (arith, ints, e)
+least_some g lt e = omega (arith, ints, e)
 
 pub least_few : (g : List ℤ) → least_from 0 g ≤ length g
-least_few [] = omega arith
 least_few (pos zero ∷ g) = omega (arith, least_few g, least_on 0 g)
-least_few (pos (suc n) ∷ g) = omega arith
-least_few (negsuc n ∷ g) = omega arith
+least_few g = omega arith
 
 -- the first place of a number that is not zero
 pub least_is : (g : List ℤ) (k : ℕ) → entry g k ≢ pos 0 → ((j : ℕ) → j < k → entry g j ≡ pos 0) → least_from 0 g ≡ k

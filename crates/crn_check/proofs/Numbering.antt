@@ -8,14 +8,6 @@ pub record IsNumberedTo (labels : List ℕ) (i most : ℕ) : Type 0 where
   pub numbered : (y k : ℕ) → y < i → 1 ≤ k → k < get_or labels y 0 → (x : ℕ) × (x < y) × (get_or labels x 0 ≡ k)
   pub each : (k : ℕ) → 1 ≤ k → k ≤ most → (y : ℕ) × (y < i) × (get_or labels y 0 ≡ k)
 
-pub none_numbered : (labels : List ℕ) → IsNumberedTo labels 0 0
-none_numbered labels = record {
-  some = λ y lt. absurd (omega arith);
-  within = λ y lt. absurd (omega arith);
-  numbered = λ y k lt one less. absurd (omega arith);
-  each = λ k one most. absurd (omega arith);
-}
-
 -- a label that has appeared
 pub numbered_old : (labels : List ℕ) (i most : ℕ) → IsNumberedTo labels i most → 1 ≤ get_or labels i 0 → get_or labels i 0 ≤ most → IsNumberedTo labels (i + 1) most
 numbered_old labels i most h one le = record {

@@ -14,7 +14,7 @@ pub use Rattle.crn_cert.specs.Ranges.{AreBits, AreFree, AreFrom, IsFrom, IsNarro
 pub use Rattle.crn_cert.specs.RankTests.{IsComb, IsDual, comb_tests, dual_tests, outside, rank_tests, vector_of, vectors_of}
 pub use Rattle.crn_cert.specs.Says.{HasNoReverse, IsTrueOf, WalkLeads, by_turn, from_zero}
 pub use Rattle.crn_cert.specs.Tests.{AllHold, FailsFirst, Test, test}
-pub use Rattle.crn_cert.specs.Valid.{AreClassNumbers, HaveOneBefore, IsNormal, OfVector, class_places, class_rank_tests, exits, head_tests, is_in_both, linkage, linkage_count, pair_places, row_tests, side_tests, strong, terminals_in, terminals_of, tests_of}
+pub use Rattle.crn_cert.specs.Valid.{AreClassNumbers, HaveOneBefore, IsNormal, class_places, class_rank_tests, exits, head_tests, is_in_both, linkage, linkage_count, pair_places, row_tests, side_tests, strong, terminals_in, terminals_of, tests_of}
 pub use Rattle.crn_cert.specs.Verdicts.{all_tight, tight}
 pub use Rattle.crn_cert.specs.declared.answer.Answer.{Answer}
 pub use Rattle.crn_cert.specs.declared.answer.Gap.TheVariants.{Budget, Rests, Wide}
@@ -22,12 +22,12 @@ pub use Rattle.crn_cert.specs.declared.answer.Proof.{Proof}
 pub use Rattle.crn_cert.specs.declared.answer.Proof.TheVariants.{One, Sides, Two}
 pub use Rattle.crn_cert.specs.declared.answer.RankProof.{RankProof}
 pub use Rattle.crn_cert.specs.declared.answer.Verdict.{Verdict}
-pub use Rattle.crn_cert.specs.declared.answer.Verdict.TheVariants.{Classes, Deficiency, No, NoClass, NoCycle, NoDependence, NoNumber, NoPair, NoReaction, NoSum, NoTerminal, NoVec, NotApplicable, NotRegular, OnlyZero, Plane, Rank, Strong, Unknown, Yes, YesSignal, YesVec, YesWeak}
-pub use Rattle.crn_check.specs.Check.{AsksForTree, HoldsNeeds, HoldsNoTree, IsBuilt, IsShapeFor, Judges, shown_by_tree}
+pub use Rattle.crn_cert.specs.declared.answer.Verdict.TheVariants.{Classes, Deficiency, No, NoCycle, NoPair, NoVec, Plane, Rank, Strong, Unknown, Yes, YesSignal, YesVec}
+pub use Rattle.crn_check.specs.Check.{AsksForTree, HoldsNeeds, HoldsNoTree, IsBuilt, IsShapeFor, Judges, needs, shown_by_tree}
 pub use Rattle.crn_check.specs.Facts.{AreFactsOf, AreInOrder, HoldsNoneFrom, HoldsOn, IsRoom, KeptFacts, asked}
 pub use Rattle.crn_check.specs.Inner.Bases.{AreRankProofs, IsBase, is_member, members_of}
 pub use Rattle.crn_check.specs.Inner.Facts.{DoesFit}
-pub use Rattle.crn_check.specs.Inner.Ordered.{AreEqualBut, AreZeroOutside, IsSpared, is_tied, ordered_tests, tied}
+pub use Rattle.crn_check.specs.Inner.Ordered.{IsSpared, is_tied, ordered_tests, tied}
 pub use Rattle.crn_check.specs.Inner.Spaces.{IsBalanced, IsDivisor}
 pub use Rattle.crn_check.specs.Inner.Tests.{AreSmallTo, DoExitsLeave, DoFinalsHold, DoListsFit, Falls, exit_tests, link_tests, shape_tests, strong_trees, vector_tests}
 pub use Rattle.crn_check.specs.Inner.Trees.{IsInTree}
@@ -39,7 +39,7 @@ pub use Rattle.crn_check.specs.declared.members.Members.TheVariants.{All}
 pub use Rattle.crn_shape.proofs.CallerLemmas.{dot_within, narrow_within, tested_sides}
 pub use Rattle.crn_shape.specs.Pairs.{is_pair, pairs_to}
 pub use Rattle.crn_shape.specs.Sides.{AreClassesBy, AreSides}
-pub use Rattle.crn_vec.proofs.CallerLemmas.{above_ascending, above_in, above_lower, all_at, all_from, all_given, all_in, amounts_within, and_no, and_true, any_has, any_is, at_in, column_past, dot_none, dot_split, dot_step, dot_zero, entry-column, entry_of_zeros, eq_or, filter_ascending, filter_few, filter_from, filter_has, held, in_at, in_left, in_range, label_mark, length-column, length-label_marks, lt_or, negative_space, next_sum, nought_adds, past_end, range_more, reaction_long, refused, signals_are_of_shape, sum_within, vector_at, vector_long, vectors_count, vector_width as width_at, within_at, within_drop, within_more, within_set, within_take, zero_adds, zeros_within}
+pub use Rattle.crn_vec.proofs.CallerLemmas.{above_ascending, above_in, above_lower, all_at, all_from, all_given, all_in, amounts_within, and_no, and_true, any_has, any_is, at_in, column_past, dot_none, dot_split, dot_step, dot_zero, entry-column, entry_of_zeros, eq_or, filter_ascending, filter_few, filter_from, held, in_at, in_left, in_range, label_mark, length-column, length-label_marks, lt_or, negative_space, next_sum, nought_adds, past_end, range_more, reaction_long, refused, signals_are_of_shape, sum_within, vector_at, vector_long, vectors_count, vector_width as width_at, within_at, within_drop, within_more, within_set, within_take, zero_adds, zeros_within}
 pub use Rattle.crn_vec.specs.Concordance.{sign}
 pub use Rattle.crn_vec.specs.Confluence.{InConfluenceSpace, IsNonzero, IsRegular, LeadsPositive}
 pub use Rattle.crn_vec.specs.CutPairs.{IsBetween, IsFreeStep}

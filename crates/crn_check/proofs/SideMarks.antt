@@ -1,33 +1,5 @@
 -- The marks of the side of a pair, by its reaction, and the tests of sides and ties in order.
-use Rattle.crn_check.proofs.Prelude.{◌≡◌, ℕ, suc, ◌+◌, ◌-◌, List, [], ◌∷◌, length, get_or, refl, sym, ap, subst, ◌∙◌, arith, ℤ, pos, Net, entry, IsReaction, Earlier, Test, test, AreSideMarks, IsTie, tie_tests, linkage, side_tests, AreEqualBut, AreZeroOutside, ordered_tests, BadVector}
-
-pub side_marks : (net : Net) (labels : List ℕ) (r y z : ℕ) (marks : List ℤ) → length labels ≡ length net.complexes → IsReaction net.reactions r y z → entry marks y ≡ pos 0 → entry marks z ≡ pos 1 → AreZeroOutside labels (get_or labels y 0) marks → AreEqualBut net y z marks → AreSideMarks net labels (r + 1) marks
-side_marks net labels r y z marks long goes from to outside equal =
-    let same : r ≡ r + 1 - 1 = omega arith in
-    record {
-      y = y;
-      z = z;
-      goes = (omega arith, subst (λ (q : ℕ). IsReaction net.reactions q y z) same goes);
-      from = from;
-      to = to;
-      outside = λ c lt ne. outside c (omega (arith, lt, long)) ne;
-      equal = equal;
-    }
-
--- what marks of the side of a pair have
-pub record HasSide (net : Net) (labels : List ℕ) (y z : ℕ) (marks : List ℤ) : Type 0 where
-  pub from : entry marks y ≡ pos 0
-  pub to : entry marks z ≡ pos 1
-  pub outside : AreZeroOutside labels (get_or labels y 0) marks
-  pub equal : AreEqualBut net y z marks
-
-pub marks_side : (net : Net) (labels : List ℕ) (r y z : ℕ) (marks : List ℤ) → length labels ≡ length net.complexes → IsReaction net.reactions r y z → AreSideMarks net labels (r + 1) marks → HasSide net labels y z marks
-marks_side net labels r y z marks long goes h =
-    let side : HasSide net labels h.y h.z marks = record { from = h.from; to = h.to; outside = λ c lt ne. h.outside c (omega (arith, lt, long)) ne; equal = h.equal } in
-    let back : r + 1 - 1 ≡ r = omega arith in
-    let at = subst (λ (q : ℕ). IsReaction net.reactions q h.y h.z) back h.goes.1 in
-    let same : (h.y, h.z) ≡ (y, z) = sym at.1 ∙ goes.1 in
-    subst (λ (p : ℕ × ℕ). HasSide net labels p.0 p.1 marks) same side
+use Rattle.crn_check.proofs.Prelude.{◌≡◌, ℕ, suc, ◌+◌, ◌-◌, List, [], ◌∷◌, refl, ap, ◌∙◌, ℤ, Net, Earlier, Test, test, AreSideMarks, IsTie, tie_tests, linkage, side_tests, ordered_tests, BadVector}
 
 -- ---- tests in order
 

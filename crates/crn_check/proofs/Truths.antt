@@ -1,7 +1,8 @@
 -- The verdict of a valid answer is true or open, if the facts are.
-use Rattle.crn_check.proofs.Prelude.{◌≡◌, ◌==◌, true, false, inl, inr, ℕ, [], ◌∷◌, Ok, sym, subst, AllByRecursion, cases_eq, eq-eqb, ne_eqb, Net, IsNetwork, Answer, Wide, Budget, Rests, Verdict, Unknown, Earlier, Question, Q1, Q2, Q4, Q5, Q6, Q7, Q11, Q12, number, on, IsTrueOf, IsFormed, IsFormedVerdict, head_tests, row_tests, tests_of, AllHold, IsTrueOrOpen, AreTrue, AreTrueOrOpen, known_for, rests_for, valid_answers_are_true, same_question, IsBuilt, HoldsNeeds, KeptFacts, AreFactsOf, asked, HoldsOn}
+use Rattle.crn_check.proofs.Prelude.{◌≡◌, ◌==◌, true, false, inl, inr, ℕ, [], ◌∷◌, Ok, sym, subst, AllByRecursion, cases_eq, eq-eqb, ne_eqb, Net, IsNetwork, Answer, Wide, Budget, Rests, Verdict, Unknown, Earlier, Question, Q1, Q2, Q4, Q5, Q6, Q7, Q11, Q12, number, on, IsTrueOf, IsFormed, IsFormedVerdict, head_tests, row_tests, tests_of, AllHold, IsTrueOrOpen, AreTrue, AreTrueOrOpen, known_for, rests_for, valid_answers_are_true, same_question, IsBuilt, HoldsNeeds, KeptFacts, AreFactsOf, asked, HoldsOn, Q9, Q10, Q13}
 use Rattle.crn_check.proofs.Judging.{judges_go}
 use Rattle.crn_check.proofs.Forms.{formed_on}
+use Rattle.crn_check.proofs.Asked.{by_number}
 
 -- a verdict that is held is true of its question or open
 pub sound_on : (net : Net) (es : Earlier) (q : Question) → AllByRecursion (λ (e : Question × Verdict). IsTrueOrOpen net e.0 e.1) es → HoldsOn es (number q) → IsTrueOrOpen net q (on es q)
@@ -54,71 +55,30 @@ weak_true net facts h held =
     weak_decided net f.0 (on facts.earlier Q4) f.1 (sound_on net facts.earlier Q4 h.sound held)
 
 -- the facts give what the law of a question requires
-knows : (net : Net) (facts : KeptFacts) (n : ℕ) → IsBuilt n → AreFactsOf net facts → HoldsNeeds facts.earlier n → AreTrue net (known_for (asked n)) facts.earlier
-knows net facts n (inl is) h needs = rw is tt
-knows net facts n (inr (inl is)) h needs = rw is tt
-knows net facts n (inr (inr (inl is))) h needs = rw is tt
-knows net facts n (inr (inr (inr (inl is)))) h needs =
-    let held : HoldsNeeds facts.earlier 4 = subst (HoldsNeeds facts.earlier) is needs in
-    rw is (strong_true net facts h held.0, tt)
-knows net facts n (inr (inr (inr (inr (inl is))))) h needs = rw is tt
-knows net facts n (inr (inr (inr (inr (inr (inl is)))))) h needs =
-    let held : HoldsNeeds facts.earlier 6 = subst (HoldsNeeds facts.earlier) is needs in
-    rw is (linkage_true net facts h held.0, tt)
-knows net facts n (inr (inr (inr (inr (inr (inr (inl is))))))) h needs = rw is tt
-knows net facts n (inr (inr (inr (inr (inr (inr (inr (inl is)))))))) h needs = rw is tt
-knows net facts n (inr (inr (inr (inr (inr (inr (inr (inr (inl is))))))))) h needs =
-    let held : HoldsNeeds facts.earlier 9 = subst (HoldsNeeds facts.earlier) is needs in
-    rw is (linkage_true net facts h held.0, (weak_true net facts h held.1.0, tt))
-knows net facts n (inr (inr (inr (inr (inr (inr (inr (inr (inr (inl is)))))))))) h needs =
-    let held : HoldsNeeds facts.earlier 10 = subst (HoldsNeeds facts.earlier) is needs in
-    rw is (linkage_true net facts h held.0, (strong_true net facts h held.1.0, tt))
-knows net facts n (inr (inr (inr (inr (inr (inr (inr (inr (inr (inr (inl is))))))))))) h needs =
-    let held : HoldsNeeds facts.earlier 11 = subst (HoldsNeeds facts.earlier) is needs in
-    rw is (linkage_true net facts h held.0, (strong_true net facts h held.1.0, tt))
-knows net facts n (inr (inr (inr (inr (inr (inr (inr (inr (inr (inr (inr (inl is)))))))))))) h needs =
-    let held : HoldsNeeds facts.earlier 12 = subst (HoldsNeeds facts.earlier) is needs in
-    rw is (linkage_true net facts h held.0, (strong_true net facts h held.1.0, (weak_true net facts h held.1.1.0, tt)))
-knows net facts n (inr (inr (inr (inr (inr (inr (inr (inr (inr (inr (inr (inr (inl is))))))))))))) h needs =
-    let held : HoldsNeeds facts.earlier 13 = subst (HoldsNeeds facts.earlier) is needs in
-    rw is (weak_true net facts h held.1.0, tt)
-knows net facts n (inr (inr (inr (inr (inr (inr (inr (inr (inr (inr (inr (inr (inr (inl is)))))))))))))) h needs = rw is tt
-knows net facts n (inr (inr (inr (inr (inr (inr (inr (inr (inr (inr (inr (inr (inr (inr (inl is))))))))))))))) h needs = rw is tt
-knows net facts n (inr (inr (inr (inr (inr (inr (inr (inr (inr (inr (inr (inr (inr (inr (inr none))))))))))))))) h needs = absurd none
+knows : (net : Net) (facts : KeptFacts) (q : Question) → AreFactsOf net facts → HoldsNeeds facts.earlier (number q) → AreTrue net (known_for q) facts.earlier
+knows net facts Q4 h needs = (strong_true net facts h needs.0, tt)
+knows net facts Q6 h needs = (linkage_true net facts h needs.0, tt)
+knows net facts Q9 h needs = (linkage_true net facts h needs.0, (weak_true net facts h needs.1.0, tt))
+knows net facts Q10 h needs = (linkage_true net facts h needs.0, (strong_true net facts h needs.1.0, tt))
+knows net facts Q11 h needs = (linkage_true net facts h needs.0, (strong_true net facts h needs.1.0, tt))
+knows net facts Q12 h needs = (linkage_true net facts h needs.0, (strong_true net facts h needs.1.0, (weak_true net facts h needs.1.1.0, tt)))
+knows net facts Q13 h needs = (weak_true net facts h needs.1.0, tt)
+knows net facts q h needs = tt
 
 -- the facts give what an open question rests on
-rests : (net : Net) (facts : KeptFacts) (n : ℕ) → IsBuilt n → AreFactsOf net facts → HoldsNeeds facts.earlier n → AreTrueOrOpen net (rests_for (asked n)) facts.earlier
-rests net facts n (inl is) h needs = rw is tt
-rests net facts n (inr (inl is)) h needs = rw is tt
-rests net facts n (inr (inr (inl is))) h needs = rw is tt
-rests net facts n (inr (inr (inr (inl is)))) h needs = rw is tt
-rests net facts n (inr (inr (inr (inr (inl is))))) h needs = rw is tt
-rests net facts n (inr (inr (inr (inr (inr (inl is)))))) h needs =
-    let held : HoldsNeeds facts.earlier 6 = subst (HoldsNeeds facts.earlier) is needs in
-    rw is (sound_on net facts.earlier Q5 h.sound held.1.0, tt)
-rests net facts n (inr (inr (inr (inr (inr (inr (inl is))))))) h needs = rw is tt
-rests net facts n (inr (inr (inr (inr (inr (inr (inr (inl is)))))))) h needs = rw is tt
-rests net facts n (inr (inr (inr (inr (inr (inr (inr (inr (inl is))))))))) h needs =
-    let held : HoldsNeeds facts.earlier 9 = subst (HoldsNeeds facts.earlier) is needs in
-    rw is (sound_on net facts.earlier Q5 h.sound held.1.1.0, tt)
-rests net facts n (inr (inr (inr (inr (inr (inr (inr (inr (inr (inl is)))))))))) h needs =
-    let held : HoldsNeeds facts.earlier 10 = subst (HoldsNeeds facts.earlier) is needs in
-    rw is (sound_on net facts.earlier Q6 h.sound held.1.1.0, tt)
-rests net facts n (inr (inr (inr (inr (inr (inr (inr (inr (inr (inr (inl is))))))))))) h needs =
-    let held : HoldsNeeds facts.earlier 11 = subst (HoldsNeeds facts.earlier) is needs in
-    rw is (sound_on net facts.earlier Q7 h.sound held.1.1.0, tt)
-rests net facts n (inr (inr (inr (inr (inr (inr (inr (inr (inr (inr (inr (inl is)))))))))))) h needs =
-    let held : HoldsNeeds facts.earlier 12 = subst (HoldsNeeds facts.earlier) is needs in
-    rw is (sound_on net facts.earlier Q11 h.sound held.1.1.1.0, tt)
-rests net facts n (inr (inr (inr (inr (inr (inr (inr (inr (inr (inr (inr (inr (inl is))))))))))))) h needs =
-    let held : HoldsNeeds facts.earlier 13 = subst (HoldsNeeds facts.earlier) is needs in
-    rw is (sound_on net facts.earlier Q12 h.sound held.1.1.0, tt)
-rests net facts n (inr (inr (inr (inr (inr (inr (inr (inr (inr (inr (inr (inr (inr (inl is)))))))))))))) h needs = rw is tt
-rests net facts n (inr (inr (inr (inr (inr (inr (inr (inr (inr (inr (inr (inr (inr (inr (inl is))))))))))))))) h needs = rw is tt
-rests net facts n (inr (inr (inr (inr (inr (inr (inr (inr (inr (inr (inr (inr (inr (inr (inr none))))))))))))))) h needs = absurd none
+rests : (net : Net) (facts : KeptFacts) (q : Question) → AreFactsOf net facts → HoldsNeeds facts.earlier (number q) → AreTrueOrOpen net (rests_for q) facts.earlier
+rests net facts Q6 h needs = (sound_on net facts.earlier Q5 h.sound needs.1.0, tt)
+rests net facts Q9 h needs = (sound_on net facts.earlier Q5 h.sound needs.1.1.0, tt)
+rests net facts Q10 h needs = (sound_on net facts.earlier Q6 h.sound needs.1.1.0, tt)
+rests net facts Q11 h needs = (sound_on net facts.earlier Q7 h.sound needs.1.1.0, tt)
+rests net facts Q12 h needs = (sound_on net facts.earlier Q11 h.sound needs.1.1.1.0, tt)
+rests net facts Q13 h needs = (sound_on net facts.earlier Q12 h.sound needs.1.1.0, tt)
+rests net facts q h needs = tt
 
 pub answer_valid : (net : Net) (facts : KeptFacts) (n : ℕ) (a : Answer) → IsNetwork net → IsBuilt n → AreFactsOf net facts → HoldsNeeds facts.earlier n → IsFormed net facts.earlier (asked n) a → AllHold (tests_of net facts.earlier (asked n) a) → IsTrueOrOpen net (asked n) a.verdict
-answer_valid net facts n a network is h needs f valid = valid_answers_are_true (asked n) net facts.earlier a network (knows net facts n is h needs) (rests net facts n is h needs) f valid
+answer_valid net facts n a network is h needs f valid =
+    let held = by_number (HoldsNeeds facts.earlier) n is needs in
+    valid_answers_are_true (asked n) net facts.earlier a network (knows net facts (asked n) h held) (rests net facts (asked n) h held) f valid
 
 pub answer_true : (net : Net) (facts : KeptFacts) (n : ℕ) (a : Answer) → IsNetwork net → IsBuilt n → AreFactsOf net facts → HoldsNeeds facts.earlier n → IsFormed net facts.earlier (asked n) a → AllHold (head_tests net facts.earlier (asked n) a.verdict) → AllHold (row_tests net facts.earlier (asked n) a.verdict a.proof) → IsTrueOrOpen net (asked n) a.verdict
 answer_true net facts n a network is h needs f head rows = answer_valid net facts n a network is h needs f (judges_go _ _ (Ok tt) head rows)
