@@ -75,3 +75,7 @@ Gathered-step first sofar here e f p = Gathered-add here f (ap (λ (t : List ℕ
 pub Gathered-fails : (first sofar here rest : List ℕ) {next held : List ℕ} {old middle new : SinkSeen} → next ≡ (sofar ++ here) ++ rest → Gathered (first ++ sofar) held old middle → WrotePrefix held middle new → WrotePrefix (first ++ next) old new
 Gathered-fails first sofar here rest e p q =
     rw (ap (λ (t : List ℕ). first ++ t) (e ∙ append_assoc sofar here rest) ∙ sym (append_assoc first sofar (here ++ rest))) (Gathered-stops (here ++ rest) p q)
+
+-- the same, of a text that ends with what is still to be gathered
+pub Gathered-halts : (first sofar rest : List ℕ) {next held : List ℕ} {old middle new : SinkSeen} → next ≡ sofar ++ rest → Gathered (first ++ sofar) held old middle → WrotePrefix held middle new → WrotePrefix (first ++ next) old new
+Gathered-halts first sofar rest e p q = rw (ap (λ (t : List ℕ). first ++ t) e ∙ sym (append_assoc first sofar rest)) (Gathered-stops rest p q)

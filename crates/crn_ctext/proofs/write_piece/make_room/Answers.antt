@@ -2,8 +2,8 @@ use Rattle.crn_ctext.proofs.Prelude.{err_from_is_err_and}
 use Rattle.crn_ctext.proofs.Pieces.{Gathered-none, Gathered-whole, Gathers-prefix}
 use Rattle.crn_ctext.proofs.write_piece.make_room.Goals as goal
 
-pub returns-then-remaining_capacity-ge-LONGEST-clause-gathers : goal.returns-then-remaining_capacity-ge-LONGEST-clause-gathers
-returns-then-remaining_capacity-ge-LONGEST-clause-gathers g c = record { all = Gathered-none _ _; prefix = tt }
+pub returns-then-remaining_capacity-bytes-clause-gathers : goal.returns-then-remaining_capacity-bytes-clause-gathers
+returns-then-remaining_capacity-bytes-clause-gathers g c = record { all = Gathered-none _ _; prefix = tt }
 
 pub returns-in_err-put_all-clause-gathers : goal.returns-in_err-put_all-clause-gathers
 returns-in_err-put_all-clause-gathers g c =
