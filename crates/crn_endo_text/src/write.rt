@@ -22,10 +22,10 @@ fn put_node<K: Sink>(sink: &mut K, node: &TreeNode) -> Result<(), WriteFault>
         (K.seen sink.old) (K.seen sink.new) result }
 {
     match node {
-        TreeNode::SplitTwo | TreeNode::SplitThree => put_free(sink, b"split", &[]),
+        TreeNode::SplitTwo | TreeNode::SplitThree => put_all(sink, b"split\n"),
         TreeNode::CutA(list) => put_free(sink, b"cuta", list.as_slice()),
         TreeNode::CutB(list) => put_free(sink, b"cutb", list.as_slice()),
-        TreeNode::Flat => put_free(sink, b"flat", &[]),
+        TreeNode::Flat => put_all(sink, b"flat\n"),
     }
 }
 
