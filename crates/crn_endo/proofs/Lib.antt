@@ -7,4 +7,5 @@ mod Answered
 mod WeakWords
 mod SpanLaws
 mod Steps
+mod FirstOption
 mod Prelude

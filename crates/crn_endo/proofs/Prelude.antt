@@ -21,13 +21,13 @@ pub use Rattle.crn_endo_check.specs.declared.endo.Endo.{Endo}
 pub use Rattle.crn_endo_check.specs.declared.endo.Endo.TheVariants.{Large, No, Spent, Wide, Yes}
 pub use Rattle.crn_farkas.specs.Decision.{IsSmallSolution}
 pub use Rattle.crn_sign.proofs.CallerLemmas.{put_here, put_other, row_kept}
-pub use Rattle.crn_sign.specs.Options.{AskKindsBy, IsPut, asked_kind, bit_of, kind_in, weakened, word_count, word_of}
+pub use Rattle.crn_sign.specs.Options.{AskKindsBy, IsPut, asked_kind, bit_of, kind_in, kind_of_bits, none, weakened, word_at, word_count, word_of}
 pub use Rattle.crn_sign.specs.Search.{IsSearchEnd, IsSearchStop}
 pub use Rattle.crn_sign.specs.declared.bits.Bits.{Bits}
 pub use Rattle.crn_sign.specs.declared.end.SearchEnd.TheVariants.{Found, Spent as SearchSpent}
 pub use Rattle.crn_sign.specs.declared.problem.Asked.{Asked}
 pub use Rattle.crn_vec.proofs.CallerLemmas.{above_ascending, above_in, all_at, all_push, any_default, are_one, at_in, below_or, cuts_exclude_solutions, eq_or, filter_ascending, filter_from, held, longer_by, lt_or, map_more, range_ascending, range_bounds, row_chosen, written}
-pub use Rattle.crn_vec.specs.Concordance.{is_plus, kind_of_sign, row_kinds}
+pub use Rattle.crn_vec.specs.Concordance.{is_minus, is_plus, kind_of_sign, row_kinds}
 pub use Rattle.crn_vec.specs.Elementary.{IsPrimitive, IsWide, NamesWide, width}
 pub use Rattle.crn_vec.specs.Kept.{KeptInts}
 pub use Rattle.crn_vec.specs.Lists.{IsAscending, IsIn}
@@ -41,7 +41,7 @@ pub use Rattle.crn_vec.specs.declared.signs.Kind.{Kind}
 pub use Rattle.crn_vec.specs.declared.signs.Kind.TheVariants.{Free, Neg, NonNeg, Pos}
 pub use Rattle.crn_vec.specs.declared.signs.Sign.{Sign}
 pub use Rattle.crn_vec.specs.declared.signs.Sign.TheVariants.{Minus, Plus, Zero}
-pub use Rattle.std.proofs.Common.{Bool, List, [], add-one, ap, ap₂, arith, cond, drop, false, filter, get_or, inl, inr, length, lit<, lit≤, map, of_z, refl, replicate, set, subst, suc, sym, take, to_z, true, zero, ℕ, ◌%◌, ◌++◌, ◌+◌, ◌-◌, ◌/◌, ◌<◌, ◌∙◌, ◌∷◌, ◌≡◌, ◌≢◌, ◌≤◌, ◌⊎◌}
+pub use Rattle.std.proofs.Common.{Bool, List, [], add-one, ap, ap₂, arith, cond, drop, false, filter, get_or, inl, inr, length, lit<, lit≤, map, of_z, refl, replicate, set, subst, suc, sym, take, to_z, true, zero, ℕ, ◌%◌, ◌&&◌, ◌++◌, ◌+◌, ◌-◌, ◌/◌, ◌<◌, ◌∙◌, ◌∷◌, ◌≡◌, ◌≢◌, ◌≤◌, ◌⊎◌}
 pub use Rattle.std.proofs.lemmas.Bool.{eq-eqb, false≢true, ne_eqb}
 pub use Rattle.std.proofs.lemmas.Int.{fits_signed_from_abs, ints}
 pub use Rattle.std.proofs.lemmas.List.{get_or-append_right, get_or-replicate, get_or-set_other, get_or-set_same, get_or_append_left, length-append, length-map, length-replicate, length-set, map-append}

@@ -7,7 +7,7 @@ last_option : (p : List Sign) (o : Sign) → get_or (p ++ o ∷ []) (length p) Z
 last_option [] o = refl
 last_option (a ∷ p) o = last_option p o
 
-option_none : (os : List ℕ) (c : ℕ) → option_of os [] c ≡ Zero
+pub option_none : (os : List ℕ) (c : ℕ) → option_of os [] c ≡ Zero
 option_none [] c = refl
 option_none (o ∷ os) c = refl
 
@@ -41,7 +41,7 @@ goes_apart net r q c i lt e y = ne_eqb q r (λ same.
 
 -- ---- kinds
 
-firm_sign : (s : Sign) → firm_kind (kind_of_sign s) ≡ kind_of_sign s
+pub firm_sign : (s : Sign) → firm_kind (kind_of_sign s) ≡ kind_of_sign s
 firm_sign Zero = refl
 firm_sign Plus = refl
 firm_sign Minus = refl
@@ -67,7 +67,7 @@ from_rises net r p = map (rise_kind net r p) (range_with_len 0 (length net.react
 abbrev from_falls : Net → ℕ → List Sign → List Kind
 from_falls net r p = map (fall_kind net r p) (range_with_len 0 (length net.reactions)) ++ row_kinds (length (others net r)) (later p)
 
-free_before : (net : Net) (r : ℕ) (p : List Sign) (k : ℕ) → k < length net.names → kind_at (slope_kinds net r p) k ≡ Free
+pub free_before : (net : Net) (r : ℕ) (p : List Sign) (k : ℕ) → k < length net.names → kind_at (slope_kinds net r p) k ≡ Free
 free_before net r p k lt =
     get_or_append_left (replicate (length net.names) Free) (from_rises net r p) Free k (omega (arith, lt, length-replicate (length net.names) Free))
     ∙ get_or-replicate (length net.names) k Free Free lt
@@ -84,21 +84,21 @@ past_rises net r p k row e =
     ∙ get_or-append_right (map (rise_kind net r p) (range_with_len 0 n)) (from_falls net r p) n (n + row) Free (length-map-range_with_len (rise_kind net r p) 0 n) (omega arith)
     ∙ ap (kind_at (from_falls net r p)) (let d : n + row - n ≡ row = omega arith in d)
 
-rise_at : (net : Net) (r : ℕ) (p : List Sign) (k q : ℕ) → k ≡ length net.names + q → q < length net.reactions → kind_at (slope_kinds net r p) k ≡ rise_kind net r p q
+pub rise_at : (net : Net) (r : ℕ) (p : List Sign) (k q : ℕ) → k ≡ length net.names + q → q < length net.reactions → kind_at (slope_kinds net r p) k ≡ rise_kind net r p q
 rise_at net r p k q e lt =
     let n = length net.reactions in
     past_names net r p k q e
     ∙ get_or_append_left (map (rise_kind net r p) (range_with_len 0 n)) (from_falls net r p) Free q (omega (arith, lt, length-map-range_with_len (rise_kind net r p) 0 n))
     ∙ get_or-map-range_with_len (rise_kind net r p) 0 n q q Free lt (omega arith)
 
-fall_at : (net : Net) (r : ℕ) (p : List Sign) (k q : ℕ) → k ≡ length net.names + length net.reactions + q → q < length net.reactions → kind_at (slope_kinds net r p) k ≡ fall_kind net r p q
+pub fall_at : (net : Net) (r : ℕ) (p : List Sign) (k q : ℕ) → k ≡ length net.names + length net.reactions + q → q < length net.reactions → kind_at (slope_kinds net r p) k ≡ fall_kind net r p q
 fall_at net r p k q e lt =
     let n = length net.reactions in
     past_rises net r p k q e
     ∙ get_or_append_left (map (fall_kind net r p) (range_with_len 0 n)) (row_kinds (length (others net r)) (later p)) Free q (omega (arith, lt, length-map-range_with_len (fall_kind net r p) 0 n))
     ∙ get_or-map-range_with_len (fall_kind net r p) 0 n q q Free lt (omega arith)
 
-height_at : (net : Net) (r : ℕ) (p : List Sign) (k j : ℕ) → k ≡ length net.names + length net.reactions + length net.reactions + j → kind_at (slope_kinds net r p) k ≡ kind_at (row_kinds (length (others net r)) (later p)) j
+pub height_at : (net : Net) (r : ℕ) (p : List Sign) (k j : ℕ) → k ≡ length net.names + length net.reactions + length net.reactions + j → kind_at (slope_kinds net r p) k ≡ kind_at (row_kinds (length (others net r)) (later p)) j
 height_at net r p k j e =
     let n = length net.reactions in
     past_rises net r p k (n + j) (omega (arith, e))

@@ -14,8 +14,8 @@ use crn_endo_check::Slopes;
 use crn_farkas::Solver;
 use crn_net::Network;
 use crn_sign::{
-    Asked, Bits, FREE, SearchEnd, SearchStop, SignProblem, asked_of_sign, put_asked, put_weak,
-    search, word_count,
+    Asked, Bits, FREE, NONE, SearchEnd, SearchStop, SignProblem, asked_of_sign, put_asked,
+    put_weak, search, word_count,
 };
 use crn_vec::{Kind, Matrix, NoMemory, Sign};
 use std::alloc::Global;
@@ -26,12 +26,15 @@ use std::alloc::Global;
 pub(crate) struct SlopeProblem<'a> {
     pub given: &'a Slopes<'a>,
     pub net: &'a Network,
+    pub reaction: usize,
     pub further: Vec<usize>,
     pub spans: Vec<Span>,
     pub matrix: Matrix,
     pub nothing: Matrix,
     pub weak: Vec<u64>,
     ghost net_is: { given.now.net ≡ net.now },
+    ghost reaction_is: { given.now.reaction ≡ reaction },
+    ghost inside: { reaction < length net.now.reactions },
     ghost further_is: { further.items ≡ others net.now given.now.reaction },
     ghost spans_are: { AreSpans net.now (length net.now.reactions) spans.items },
     ghost matrix_is: { matrix ≡ slope_matrix given.now.net given.now.reaction },
@@ -117,6 +120,19 @@ impl SlopeProblem<'_> {
         }
     }
 
+    // Requires what the first option does, if nothing was required: a sign of the rise along the reaction itself.
+    fn put_first(&self, option: Sign, words: &mut [Bits])
+        requires { let s = self.now.given.now in AskFirmly s.net s.reaction [] words.old }
+        ensures { let s = self.now.given.now in
+            AskFirmly s.net s.reaction (option ∷ []) words.new }
+    {
+        put_asked(
+            words,
+            self.net.species() + self.reaction,
+            asked_of_sign(option),
+        );
+    }
+
     // Requires what the option of a further complex adds, if the first option is plus.
     fn put_option(&self, i: usize, option: Sign, words: &mut [Bits])
         requires inside { i < length (others self.now.given.now.net self.now.given.now.reaction) }
@@ -154,7 +170,8 @@ impl SlopeProblem<'_> {
     {
         let last = prefix.len() - 1;
         if last == 0 {
-            self.ask(prefix, sums);
+            sums.copy_from_slice(above);
+            self.put_first(prefix[0], sums);
             return;
         }
         match prefix[0] {
@@ -193,8 +210,8 @@ impl SignProblem for SlopeProblem<'_> {
     }
 
     fn begin_a(&self, sums: &mut [Bits], asked: &mut [Bits]) {
-        self.ask(&[], sums);
-        asked.copy_from_slice(sums);
+        sums.fill(NONE);
+        asked.fill(NONE);
     }
 
     fn settle_a(&self, prefix: &[Sign], above: &[Bits], sums: &mut [Bits], asked: &mut [Bits]) {
@@ -242,6 +259,7 @@ pub(crate) fn search_slopes(
     let problem = SlopeProblem {
         given,
         net,
+        reaction,
         further,
         spans,
         matrix,

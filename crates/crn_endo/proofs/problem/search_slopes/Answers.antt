@@ -9,3 +9,6 @@ invariant_of-problem-clause-further_is c =
     c.in_ok-further.ensures
     ∙ ap₂ (λ (own : ℕ) (complexes : List ℕ). filter (λ c. not (c == own)) complexes) c.reactant.ensures.value c.requires.complexes
     ∙ ap (others c.args.net.now) (sym (ap (λ (k : KeptSlopes). k.reaction) c.requires.given))
+
+pub invariant_of-problem-clause-reaction_is : goal.invariant_of-problem-clause-reaction_is
+invariant_of-problem-clause-reaction_is c = ap (λ (k : KeptSlopes). k.reaction) c.requires.given
