@@ -5,7 +5,7 @@ mod Alone
 mod NodeCounts
 mod Answered
 mod WeakWords
-mod SpanLaws
+mod ChainLaws
 mod Steps
 mod FirstOption
 mod Prelude

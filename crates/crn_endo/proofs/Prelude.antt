@@ -7,10 +7,9 @@ pub use Rattle.crn_cert.specs.declared.tree_node.TreeNode.{TreeNode}
 pub use Rattle.crn_endo.specs.Answer.{AreRefuted, AreRefutedWithin, FindWithin, IsEndoAnswer, PassTogether, PassingVisitsAreSpent, all_nodes}
 pub use Rattle.crn_endo.specs.Inner.Alone.{bare, slopes_alone}
 pub use Rattle.crn_endo.specs.Inner.Asked.{AreRaised, AskFirmly, IsAskable, ShowsWeak, firm_kind}
+pub use Rattle.crn_endo.specs.Inner.Chains.{AreChains, IsNext}
 pub use Rattle.crn_endo.specs.Inner.Decided.{AreDone, EndsAnswer, IsDecidedAt}
-pub use Rattle.crn_endo.specs.Inner.Spans.{AreSpans, IsSpan}
 pub use Rattle.crn_endo.specs.declared.answer.Decided.TheVariants.{Ended, Refuted, Refuted as RefutedBy}
-pub use Rattle.crn_endo.specs.declared.spans.Span.{Span}
 pub use Rattle.crn_endo_check.proofs.CallerLemmas.{free_solution, slope_basis, slope_width, slopes_are_lawful, slopes_feasible, solution_long, trees_formed}
 pub use Rattle.crn_endo_check.specs.Endo.{AreValidTrees, NamesReaction}
 pub use Rattle.crn_endo_check.specs.Endotactic.{IsAgainst, reaction_at}

@@ -2,4 +2,4 @@
 pub mod Decided
 pub mod Asked
 pub mod Alone
-pub mod Spans
+pub mod Chains

@@ -7,9 +7,9 @@ ghost use Rattle.crn_sign.specs.Search.{IsSearchEnd, IsSearchStop};
 ghost use Rattle.crn_endo_check.specs.Slopes.{IsSmallEnough, others, reactants, slope_matrix};
 ghost use Rattle.crn_endo.specs.Inner.Alone.{bare, slopes_alone};
 ghost use Rattle.crn_endo.specs.Inner.Asked.{AreRaised, AskFirmly, ShowsWeak, firm_kind};
-ghost use Rattle.crn_endo.specs.Inner.Spans.{AreSpans, IsSpan};
+ghost use Rattle.crn_endo.specs.Inner.Chains.{AreChains};
 
-use crate::spans::{Span, spans_of};
+use crate::chains::{Chains, chains_of};
 use crn_endo_check::Slopes;
 use crn_farkas::Solver;
 use crn_net::Network;
@@ -20,7 +20,7 @@ use crn_sign::{
 use crn_vec::{Kind, Matrix, NoMemory, Sign};
 use std::alloc::Global;
 
-/// The sign problem of a reaction, with its further reactant complexes, the spans of all complexes, its matrices and the
+/// The sign problem of a reaction, with its further reactant complexes, the chains of the reactions, its matrices and the
 /// coordinates that are at least 0 at some prefix. Part B requires nothing, and its matrix is as small as one can be.
 #[derive(Drop)]
 pub(crate) struct SlopeProblem<'a> {
@@ -28,7 +28,7 @@ pub(crate) struct SlopeProblem<'a> {
     pub net: &'a Network,
     pub reaction: usize,
     pub further: Vec<usize>,
-    pub spans: Vec<Span>,
+    pub chains: Chains,
     pub matrix: Matrix,
     pub nothing: Matrix,
     pub weak: Vec<u64>,
@@ -36,7 +36,7 @@ pub(crate) struct SlopeProblem<'a> {
     ghost reaction_is: { given.now.reaction ≡ reaction },
     ghost inside: { reaction < length net.now.reactions },
     ghost further_is: { further.items ≡ others net.now given.now.reaction },
-    ghost spans_are: { AreSpans net.now (length net.now.reactions) spans.items },
+    ghost chains_are: { AreChains net.now 0 chains.first.items chains.next.items },
     ghost matrix_is: { matrix ≡ slope_matrix given.now.net given.now.reaction },
     ghost nothing_is: { nothing ≡ bare },
     ghost weak_is: { ShowsWeak given.now.net given.now.reaction weak.items },
@@ -92,18 +92,19 @@ fn further_of(alloc: Global, complexes: &[usize], own: usize) -> Result<Vec<usiz
     Ok(made)
 }
 
-// Requires a positive number, or one at least 0, of the rises along the reactions from a complex with this span.
-fn put_rises(net: &Network, words: &mut [Bits], c: usize, span: &Span)
+// Requires a positive number, or one at least 0, of the rises along the reactions from a complex.
+fn put_rises(net: &Network, words: &mut [Bits], c: usize, chains: &Chains)
     requires room { length net.now.names + length net.now.reactions ≤ length words.old * 64 }
-    requires span { IsSpan net.now c (length net.now.reactions) span.now }
+    requires complex { c < length net.now.complexes }
+    requires chains { AreChains net.now 0 chains.now.first.items chains.now.next.items }
     ensures { AreRaised net.now c (length net.now.reactions) words.old words.new }
 {
     let species = net.species();
-    for q in span.first..span.end {
-        let from = net.reactant(q);
-        if from == c {
-            put_asked(words, species + q, asked_of_sign(Sign::Plus));
-        }
+    let reactions = net.reactions();
+    let mut q = chains.first[c];
+    while q < reactions {
+        put_asked(words, species + q, asked_of_sign(Sign::Plus));
+        q = chains.next[q];
     }
 }
 
@@ -150,7 +151,7 @@ impl SlopeProblem<'_> {
             asked_of_sign(option),
         );
         match option {
-            Sign::Plus => put_rises(self.net, words, c, &self.spans[c]),
+            Sign::Plus => put_rises(self.net, words, c, &self.chains),
             Sign::Zero => {}
             Sign::Minus => {}
         }
@@ -253,7 +254,7 @@ pub(crate) fn search_slopes(
     let matrix = given.matrix(alloc)?;
     let weak = weak_words(alloc, given, &matrix)?;
     let further = further_of(alloc, complexes, net.reactant(reaction))?;
-    let spans = spans_of(alloc, net)?;
+    let chains = chains_of(alloc, net)?;
     let nothing = Matrix::new(alloc, 0, 1, &[])?;
     let solver = Solver::new(alloc, &nothing)?;
     let problem = SlopeProblem {
@@ -261,7 +262,7 @@ pub(crate) fn search_slopes(
         net,
         reaction,
         further,
-        spans,
+        chains,
         matrix,
         nothing,
         weak,

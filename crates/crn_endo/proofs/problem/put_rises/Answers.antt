@@ -1,31 +1,58 @@
-use Rattle.crn_endo.proofs.Prelude.{◌≤◌, ℕ, ◌+◌, length, sym, ap, ◌∙◌, arith}
-use Rattle.crn_endo.proofs.Steps.{raised_more, raised_past}
-use Rattle.crn_endo.proofs.SpanLaws.{raised_all, raised_none}
+use Rattle.crn_endo.proofs.Prelude.{◌≡◌, ◌<◌, ◌≤◌, ℕ, ◌+◌, length, get_or, sym, ap, subst, ◌∙◌, arith, any_default, reaction_at, AreRaised, IsNext}
+use Rattle.crn_endo.proofs.Steps.{raised_more}
+use Rattle.crn_endo.proofs.ChainLaws.{raised_none, raised_to}
 use Rattle.crn_endo.proofs.problem.put_rises.Goals as goal
-use Rattle.crn_endo.proofs.problem.put_rises.Goals.{then-from-c, else-from-c}
+
+pub index-q-requires : goal.index-q-requires
+index-q-requires c = omega (arith, c.requires.complex, c.requires.chains.complexes)
 
 pub loop-q-init : goal.loop-q-init
-loop-q-init c = (c.requires.span.first, raised_none c.args.net.now c.args.c c.args.span.now c.args.words.now c.requires.span)
+loop-q-init c =
+    let net = c.args.net.now in
+    let first = c.args.chains.now.first.items in
+    let q = c.index-q.result.now in
+    let lt : c.args.c < length first = omega (arith, c.requires.complex, c.requires.chains.complexes) in
+    let begin = subst (IsNext net c.args.c 0) (sym (c.index-q.ensures ∙ any_default q 0 first c.args.c lt)) (c.requires.chains.begin c.args.c lt) in
+    record {
+      raised = raised_to net c.args.c 0 q c.args.words.now c.args.words.now begin (raised_none net c.args.c c.args.words.now);
+      most = begin.most;
+      from = begin.from;
+    }
 
 pub put_asked-requires : goal.put_asked-requires
-put_asked-requires c = omega (arith, c.requires.room, c.requires.span.end, c.loop-q.invariant.1.count, c.loop-q-test.true, c.species-species.ensures.count)
+put_asked-requires c = omega (arith, c.requires.room, c.loop-q.invariant.raised.count, c.loop-q-test.true, c.species-species.ensures.count, c.reactions-reactions.ensures.count)
 
 pub loop-q-preserved : goal.loop-q-preserved
 loop-q-preserved c =
     let net = c.args.net.now in
+    let nexts = c.args.chains.now.next.items in
     let q = c.loop-q.q in
-    let old = c.args.words.now in
-    let mid = c.loop-q.words in
-    let h = c.loop-q.invariant.1 in
-    let few : q + 1 ≤ length net.reactions = omega (arith, c.loop-q-test.true, c.requires.span.end) in
-    elim c.if-from-c.branch [
-      | then-from-c w ↦ rw w.words-is (
-        few,
-        raised_more net c.args.c q (c.species-species.result + q) w.asked_of_sign.result old mid w.put_asked.new.words (ap (λ (s : ℕ). s + q) c.species-species.ensures.count) h
-            (sym c.reactant-from.ensures.value ∙ w.if-from-c.true) w.asked_of_sign.ensures w.put_asked.ensures,
-      )
-      | else-from-c w ↦ rw w.words-is (few, raised_past net c.args.c q old mid h (λ e. w.if-from-c.false (c.reactant-from.ensures.value ∙ e)))
-    ]
+    let n = c.index-q-in-loop-q.result.now in
+    let inside : q < length net.reactions = omega (arith, c.loop-q-test.true, c.reactions-reactions.ensures.count) in
+    let lt : q < length nexts = omega (arith, inside, c.requires.chains.reactions) in
+    let from = c.loop-q.invariant.from inside in
+    let after = subst (λ (d : ℕ). IsNext net d (q + 1) (get_or nexts q 0)) from (c.requires.chains.after q (omega arith) lt) in
+    let next = subst (IsNext net c.args.c (q + 1)) (sym (c.index-q-in-loop-q.ensures ∙ any_default n 0 nexts q lt)) after in
+    record {
+      raised = raised_to net c.args.c (q + 1) n c.args.words.now c.put_asked.new.words next
+          (raised_more net c.args.c q (c.species-species.result + q) c.asked_of_sign.result c.args.words.now c.loop-q.words c.put_asked.new.words (ap (λ (s : ℕ). s + q) c.species-species.ensures.count) c.loop-q.invariant.raised from c.asked_of_sign.ensures c.put_asked.ensures);
+      most = next.most;
+      from = next.from;
+    }
+
+pub loop-q-smaller : goal.loop-q-smaller
+loop-q-smaller c =
+    let net = c.args.net.now in
+    let nexts = c.args.chains.now.next.items in
+    let q = c.loop-q.q in
+    let n = c.index-q-in-loop-q.result.now in
+    let inside : q < length net.reactions = omega (arith, c.loop-q-test.true, c.reactions-reactions.ensures.count) in
+    let lt : q < length nexts = omega (arith, inside, c.requires.chains.reactions) in
+    let is : n ≡ get_or nexts q 0 = c.index-q-in-loop-q.ensures ∙ any_default n 0 nexts q lt in
+    omega (arith, inside, is, (c.requires.chains.after q (omega arith) lt).least)
 
 pub returns : goal.returns
-returns c = raised_all c.args.net.now c.args.c c.loop-q.q c.args.span.now c.args.words.now c.loop-q.words c.requires.span c.loop-q.invariant.0 (omega (arith, c.loop-q-test.false)) c.loop-q.invariant.1
+returns c =
+    let net = c.args.net.now in
+    let all : c.loop-q.q ≡ length net.reactions = omega (arith, c.loop-q-test.false, c.reactions-reactions.ensures.count, c.loop-q.invariant.most) in
+    subst (λ (k : ℕ). AreRaised net c.args.c k c.args.words.now c.loop-q.words) all c.loop-q.invariant.raised

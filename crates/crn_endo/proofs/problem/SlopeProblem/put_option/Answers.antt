@@ -1,5 +1,5 @@
-use Rattle.crn_endo.proofs.Prelude.{◌≡◌, ◌<◌, ◌+◌, ℕ, List, ◌∷◌, ◌++◌, [], length, get_or, sym, ap, subst, ◌∙◌, arith, Sign, Plus, is_plus, kind_of_sign, Net, Bits, word_count, at_least_zero_if, others, slope_width, AskFirmly, IsSpan, firm_kind}
-use Rattle.crn_endo.proofs.SpanLaws.{other_inside}
+use Rattle.crn_endo.proofs.Prelude.{◌≡◌, ◌<◌, ◌+◌, ℕ, List, ◌∷◌, ◌++◌, [], length, get_or, sym, ap, subst, ◌∙◌, arith, Sign, Plus, is_plus, kind_of_sign, Net, Bits, word_count, at_least_zero_if, others, slope_width, AskFirmly, firm_kind}
+use Rattle.crn_endo.proofs.ChainLaws.{other_inside}
 use Rattle.crn_endo.proofs.Steps.{option_plus, option_still}
 use Rattle.crn_endo.proofs.problem.SlopeProblem.put_option.Goals as goal
 
@@ -18,8 +18,8 @@ put_asked-requires c =
     let t = s.given.now in
     omega (arith, c.requires.inside, c.requires.count, ap word_count s.matrix_is, slope_width t.net t.reaction, c.species-species.ensures.count, c.reactions-reactions.ensures.count, ap (λ (n : Net). length n.names) s.net_is, ap (λ (n : Net). length n.reactions) s.net_is)
 
-pub index-requires : goal.index-requires
-index-requires c =
+pub put_rises-requires-clause-complex : goal.put_rises-requires-clause-complex
+put_rises-requires-clause-complex c =
     let s = c.args.self.now in
     let r = s.given.now.reaction in
     let net = s.net.now in
@@ -27,20 +27,7 @@ index-requires c =
     let complex = c.index-c.result.now in
     let inside : i < length (others net r) = subst (λ (n : Net). i < length (others n r)) s.net_is c.requires.inside in
     let is : complex ≡ get_or (others net r) i complex = c.index-c.ensures ∙ ap (λ (l : List ℕ). get_or l i complex) s.further_is in
-    omega (arith, is, other_inside net r i complex inside, s.spans_are.count)
-
-pub put_rises-requires-clause-span : goal.put_rises-requires-clause-span
-put_rises-requires-clause-span c =
-    let s = c.args.self.now in
-    let r = s.given.now.reaction in
-    let net = s.net.now in
-    let i = c.args.i in
-    let complex = c.index-c.result.now in
-    let span = c.index.result.now in
-    let inside : i < length (others net r) = subst (λ (n : Net). i < length (others n r)) s.net_is c.requires.inside in
-    let is : complex ≡ get_or (others net r) i complex = c.index-c.ensures ∙ ap (λ (l : List ℕ). get_or l i complex) s.further_is in
-    let lt : complex < length s.spans.items = omega (arith, is, other_inside net r i complex inside, s.spans_are.count) in
-    subst (IsSpan net complex (length net.reactions)) (sym c.index.ensures) (s.spans_are.each complex lt span)
+    omega (arith, is, other_inside net r i complex inside)
 
 pub returns-in-Plus : goal.returns-in-Plus
 returns-in-Plus c =
