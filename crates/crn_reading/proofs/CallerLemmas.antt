@@ -10,7 +10,7 @@ pub use Rattle.crn_reading.proofs.Records.{reads_one}
 pub use Rattle.crn_reading.proofs.Endings.{step_then_ends, end_exits, read_to_the_end}
 pub use Rattle.crn_reading.proofs.LastSteps.{last_all, last_exits, last_is, last_then}
 -- What reading a whole text by a course answers.
-pub use Rattle.crn_reading.proofs.Whole.{text_read, nothing_read, text_answered}
+pub use Rattle.crn_reading.proofs.Whole.{text_read, text_answered}
 -- The lines of a part, and a whole document of it.
 pub use Rattle.crn_reading.proofs.PartLines.{words_named, forms_named, IsGiven, have_places, place_is, placed, own_holds, own_fails}
 unfoldable pub use Rattle.crn_reading.proofs.PartLines.{find}

@@ -49,28 +49,25 @@ IsNoEnd answer = Unit {0}
 
 -- what an answer says of what is left is said of the bytes that follow
 shown : (answer : Next) (taken : ℕ) (bytes : List ℕ) (after : Option (List ℕ)) (new : KeptLines) (rest : List ℕ) → IsNoEnd answer → IsRest after rest → NextIs answer taken bytes after new → NextIs answer taken bytes (Some rest) new
-shown End taken bytes after new rest none r q = absurd none
-shown Failed taken bytes after new rest none r q = absurd none
 shown Line taken bytes after new rest none r q = q
 shown LineTooLong taken bytes after new rest none r q = q
 shown DocumentTooLong taken bytes after new rest none r q = q
 shown Last taken bytes after new rest none r q = (q.0, q.1, q.2, q.3, q.4, none_rest after rest q.5 r)
+shown answer taken bytes after new rest none r q = absurd none
 
 breaks : (answer : Next) (at : Place) → IsNoEnd answer → EndIs answer at → BreaksLine at 28 (HasMore at) (code_of 28 answer)
-breaks End at none d = absurd none
-breaks Failed at none d = absurd none
 breaks Line at none d = d
 breaks Last at none d = d
 breaks LineTooLong at none d = d
 breaks DocumentTooLong at none d = d
+breaks answer at none d = absurd none
 
 same_count : (answer : Next) (old new : KeptLines) (before now : SourceSeen) → IsNoEnd answer → NextGives answer old new before now → now.faults ≡ before.faults
-same_count End old new before now none g = absurd none
-same_count Failed old new before now none g = absurd none
 same_count Line old new before now none g = g.3
 same_count Last old new before now none g = g.3
 same_count LineTooLong old new before now none g = g.3
 same_count DocumentTooLong old new before now none g = g.3
+same_count answer old new before now none g = absurd none
 
 fails_end : (n : ℕ) (old : KeptLines) (bytes : List ℕ) (code : ℕ) → BreaksLine (place n old bytes) 28 (HasMore (place n old bytes)) code → FailsFirst ends (place n old bytes) n code
 unfolding FailsFirst

@@ -4,12 +4,11 @@ use Rattle.crn_reading.specs.declared.fault.CheckStop.TheVariants as stop
 
 -- the count of faults is as before at an answer that is no line and no fault
 pub no_line_keeps_count : (answer : Next) (old new : KeptLines) (before now : SourceSeen) → IsNoLine answer → NextGives answer old new before now → now.faults ≡ before.faults
-no_line_keeps_count Line old new before now none g = absurd none
-no_line_keeps_count Failed old new before now none g = absurd none
 no_line_keeps_count Last old new before now none g = g.3
 no_line_keeps_count End old new before now none g = g.3
 no_line_keeps_count LineTooLong old new before now none g = g.3
 no_line_keeps_count DocumentTooLong old new before now none g = g.3
+no_line_keeps_count answer old new before now none g = absurd none
 
 pub no_line : (answer : Next) (node : Bool) (n code : ℕ) (old new : KeptLines) (before now : SourceSeen) → IsNoLine answer → old.taken < MAX_DOCUMENT → NextGives answer old new before now → code ≡ code_of (early node) answer
     → StepFails (due node) n old before.left now.left n code × (now.faults ≡ before.faults)

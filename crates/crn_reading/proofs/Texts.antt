@@ -15,21 +15,19 @@ gives_all (End next) k f at after y p = (p.0, gives_all next k f at after y p.1)
 pub fails_all : {A B C : Type 0} (m : Course A) (k : A → Course B) (f : B → Course C) (at : Place) (n code : ℕ) → FailsFirst ((m >>= k) >>= f) at n code → FailsFirst (m >>= (λ x. k x >>= f)) at n code
 unfolding FailsFirst
 fails_all (Give x) k f at n code p = p
-fails_all (Line node next) k f at n code (inl p) = inl p
 fails_all (Line node next) k f at n code (inr p) = inr (p.0, p.1, p.2, fails_all (next p.0) k f p.1 n code p.3)
 fails_all (Test m c X P next) k f at n code (inl p) = inl p
 fails_all (Test m c X P next) k f at n code (inr p) = inr (p.0, p.1, fails_all (next p.0) k f at n code p.2)
-fails_all (End next) k f at n code (inl p) = inl p
 fails_all (End next) k f at n code (inr p) = inr (p.0, fails_all next k f at n code p.1)
+fails_all m k f at n code (inl p) = inl p
 
 pub awaits_all : {A B C : Type 0} (m : Course A) (k : A → Course B) (f : B → Course C) (at : Place) → Awaits ((m >>= k) >>= f) at → Awaits (m >>= (λ x. k x >>= f)) at
 unfolding Awaits
 awaits_all (Give x) k f at p = p
-awaits_all (Line node next) k f at (inl p) = inl p
 awaits_all (Line node next) k f at (inr p) = inr (p.0, p.1, p.2, awaits_all (next p.0) k f p.1 p.3)
 awaits_all (Test m c X P next) k f at p = (p.0, p.1, awaits_all (next p.0) k f at p.2)
-awaits_all (End next) k f at (inl p) = inl p
 awaits_all (End next) k f at (inr p) = inr (p.0, awaits_all next k f at p.1)
+awaits_all m k f at (inl p) = inl p
 
 pub stops_all : {A B C : Type 0} (m : Course A) (k : A → Course B) (f : B → Course C) (e : CheckStop) (old : Reading) (before now : SourceSeen)
     → StopIs ((m >>= k) >>= f) e old before now → StopIs (m >>= (λ x. k x >>= f)) e old before now

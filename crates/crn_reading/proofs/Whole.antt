@@ -1,5 +1,5 @@
 -- A whole text, from its first line to its end, and what the answer says of it.
-use Rattle.crn_reading.proofs.Prelude.{◌≡◌, ◌∙◌, ◌⊎◌, ℕ, List, [], refl, subst, ap, inl, inr, arith, Option, Some, None, Result, Ok, Err, SourceSeen, Rose, Place, beginning, Consumes-none, Course, Gives, FailsFirst, IsSettled, Awaits, StepFails, StepAwaits, StepEnds, first_is_one, gives_one, gives_or_fails, Reading, CheckStop, IsNew, LastIs, IsTextOf, ReadingGives, AnswersWith, IsAnsweredBy}
+use Rattle.crn_reading.proofs.Prelude.{◌≡◌, ◌∙◌, ◌⊎◌, ℕ, List, [], refl, subst, ap, inl, inr, Option, Some, None, Result, Ok, Err, SourceSeen, Rose, Place, beginning, Course, Gives, FailsFirst, IsSettled, Awaits, StepFails, StepAwaits, StepEnds, first_is_one, gives_one, gives_or_fails, Reading, CheckStop, IsNew, LastIs, IsTextOf, ReadingGives, AnswersWith, IsAnsweredBy}
 use Rattle.crn_reading.specs.declared.fault.CheckStop.TheVariants as stop
 use Rattle.crn_reading.proofs.Texts.{text_awaits, text_fails, text_gives, text_stops}
 
@@ -22,10 +22,6 @@ text_read c Says (Err stop.Failed) at before now new first p =
     let t = text_awaits c at.lines before now new.ahead new.taken step in
     (t.0, t.1, p.1, p.2)
 text_read c Says (Err stop.NoMemory) at before now new first p = (text_stops at.lines before now new.ahead new.taken p.0, p.1)
-
--- if memory runs out before the first line
-pub nothing_read : {A T : Type 0} (c : Course A) (Says : T → A → Type 0) (seen : SourceSeen) → ReadingGives c Says (Err stop.NoMemory) seen seen
-nothing_read c Says seen = (([], omega arith, Consumes-none seen.left), refl)
 
 -- the text is the one that the source shows
 same_text : (left : Option (List ℕ)) (pulled text other : List ℕ) → left ≡ Some text → IsTextOf left pulled other → other ≡ text
