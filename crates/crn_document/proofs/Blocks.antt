@@ -1,5 +1,5 @@
 -- The tests of a block, in the words of a document's course, and what is known after it.
-use Rattle.crn_document.proofs.Prelude.{◌≡◌, ◌≤◌, ◌+◌, ◌-◌, ◌++◌, ◌∙◌, ℕ, zero, suc, Bool, true, false, ◌==◌, ◌&&◌, List, [], ◌∷◌, length, map, replicate, refl, sym, subst, ap, ap₂, inl, inr, arith, Result, ℤ, if◌then◌else◌, slice_index_or, AllByRecursion, AllZip, flat_map, eqb-true, length-map, map-append, Place, Net, MAX_COMPLEXES, Verdict, No, Yes, Rests, Proof, Answer, Earlier, Question, Q2, Q13, Q14, Q15, on, terminal_of, Test, AllHold, FailsFirst, HasVector, exits, head_tests, linkage, linkage_count, row_tests, strong, tests_of, pairs_to, IsFormed, IsFormedOf, hold_parts, Record, Form, Fits, decided, kind_at, later_numbers, open_kinds, Course, Give, ◌>>=◌, Gives, AfterBlocks, Problem, asks_all, asks_trees, below, claims, has_tree, StepGives, SourceSeen, and_first, zip_long, records_formed, Reading, CheckStop, StepIs, step_map, step_then_is, Known, lists, problems_by, sizes_of, shapes_of, verdict_by, verdict_of, proof_by, proof_of, meaning, KeptFacts, asked, AsksForTree, IsBuilt, shown_by_tree, tree_place, tight, Part, verdict_of_head, FitAnswer, part_proofs, proof_of_head, IsKnownFor, parts_below, AreRows, MayBeRow, fixed_rows, many_rows, part_rows, row_form, rows_below, Row, Comb, Dual, M, Mu, Shelves, Side, Tie, Weights, IsHead, known_of, class_count, HeadHolds, IsAfter, IsBlock, Learns, after_at, after_by, end_course, forms_below, head_course, many_after, parts_after, rows_course, tests_course, Block, Checked, IsRead, AreSmall, HoldsNoTree, answer_treeless}
+use Rattle.crn_document.proofs.Prelude.{◌≡◌, ◌≤◌, ◌+◌, ◌-◌, ◌++◌, ◌∙◌, ℕ, zero, suc, Bool, true, false, ◌==◌, ◌&&◌, List, [], ◌∷◌, length, map, replicate, refl, sym, subst, ap, ap₂, inl, inr, arith, Result, ℤ, if◌then◌else◌, slice_index_or, AllByRecursion, AllZip, flat_map, eqb-true, length-map, map-append, Place, Net, MAX_COMPLEXES, Verdict, No, Yes, Rests, Proof, Answer, Earlier, Question, Q2, Q13, Q14, Q15, on, terminal_of, Test, AllHold, FailsFirst, HasVector, exits, head_tests, linkage, linkage_count, row_tests, strong, tests_of, pairs_to, IsFormed, IsFormedOf, hold_parts, Record, Form, Fits, decided, kind_at, later_numbers, open_kinds, Course, Give, ◌>>=◌, Gives, AfterBlocks, Problem, asks_all, asks_trees, below, claims, has_tree, StepGives, SourceSeen, and_first, zip_long, records_formed, Reading, CheckStop, StepIs, step_map, step_then_is, Known, lists, problems_by, sizes_of, shapes_of, verdict_by, verdict_of, proof_by, proof_of, meaning, KeptFacts, asked, AsksForTree, IsBuilt, shown_by_tree, tree_place, tight, Part, verdict_of_head, FitAnswer, part_proofs, proof_of_head, IsKnownFor, parts_below, AreRows, MayBeRow, fixed_rows, many_rows, part_rows, row_form, rows_below, Row, Comb, Dual, M, Mu, Shelves, Side, Tie, Weights, IsHead, known_of, class_count, HeadHolds, IsAfter, IsBlock, Learns, after_at, after_by, end_course, forms_below, head_course, many_after, parts_after, rows_course, tests_course, Block, Checked, IsRead, AreSmall, HoldsNoTree, answer_treeless, all_same, all_append}
 use Rattle.crn_document.specs.Inner.Answer.{kind_of}
 use Rattle.crn_ctext.specs.Course as course
 use Rattle.crn_ctext.specs.Meaning as said
@@ -50,17 +50,9 @@ block_fits {net} {checked} {line} {block} read =
 
 -- each record below a head has at most as many numbers as a line
 
-times_may : (row : Row) (k : ℕ) → MayBeRow row → AllByRecursion MayBeRow (replicate k row)
-times_may row zero m = tt
-times_may row (suc k) m = (m, times_may row k m)
-
-join_may : (xs ys : List Row) → AllByRecursion MayBeRow xs → AllByRecursion MayBeRow ys → AllByRecursion MayBeRow (xs ++ ys)
-join_may [] ys a b = b
-join_may (x ∷ xs) ys a b = (a.0, join_may xs ys a.1 b)
-
 parts_may : (parts : List Part) → AreRanks parts → AllByRecursion MayBeRow (flat_map part_rows parts)
 parts_may [] a = tt
-parts_may (p ∷ ps) a = (a.0, join_may (replicate p.rank Dual ++ replicate (p.count - p.rank) (Comb p.rank)) (flat_map part_rows ps) (join_may (replicate p.rank Dual) (replicate (p.count - p.rank) (Comb p.rank)) (times_may Dual p.rank tt) (times_may (Comb p.rank) (p.count - p.rank) a.0)) (parts_may ps a.1))
+parts_may (p ∷ ps) a = (a.0, all_append MayBeRow (replicate p.rank Dual ++ replicate (p.count - p.rank) (Comb p.rank)) (flat_map part_rows ps) (all_append MayBeRow (replicate p.rank Dual) (replicate (p.count - p.rank) (Comb p.rank)) (all_same MayBeRow p.rank Dual tt) (all_same MayBeRow (p.count - p.rank) (Comb p.rank) a.0)) (parts_may ps a.1))
 
 if_may : (b : Bool) (xs ys : List Row) → AllByRecursion MayBeRow xs → AllByRecursion MayBeRow ys → AllByRecursion MayBeRow (if b then xs else ys)
 if_may true xs ys a c = a
@@ -81,12 +73,12 @@ signal_may false terminal few = tt
 many_may : (net : Net) (labels exits : List ℕ) (terminal classes n place : ℕ) → (n ≡ 13 → terminal ≤ MAX_COMPLEXES) → classes ≤ MAX_COMPLEXES → AllByRecursion MayBeRow (many_rows net labels exits terminal classes n place)
 many_may net labels exits terminal classes n place most few =
     if_may (n == 11 && place == 1) _ _ (sides_may (pairs_to net labels exits (length net.reactions)))
-    (if_may (n == 12 && place == 1) _ _ (times_may (Tie classes) (length net.complexes - 1) few) (if_may (n == 12 && place == 3) _ _ (times_may (Tie classes) (length net.complexes) few) (signal_may (n == 13 && place == 1) terminal (λ e. most (eqb-true n 13 (and_first (n == 13) (place == 1) e))))))
+    (if_may (n == 12 && place == 1) _ _ (all_same MayBeRow (length net.complexes - 1) (Tie classes) few) (if_may (n == 12 && place == 3) _ _ (all_same MayBeRow (length net.complexes) (Tie classes) few) (signal_may (n == 13 && place == 1) terminal (λ e. most (eqb-true n 13 (and_first (n == 13) (place == 1) e))))))
 
 pub rows_may : (net : Net) (labels exits : List ℕ) (terminal classes n place : ℕ) (parts : List Part) → (n ≡ 13 → terminal ≤ MAX_COMPLEXES) → classes ≤ MAX_COMPLEXES → AreRanks parts → AllByRecursion MayBeRow (rows_below n place (many_rows net labels exits terminal classes n place) parts)
 rows_may net labels exits terminal classes n place parts most few a =
     let many = many_rows net labels exits terminal classes n place in
-    join_may (fixed_rows n place) (many ++ flat_map part_rows parts) (fixed_may n place) (join_may many (flat_map part_rows parts) (many_may net labels exits terminal classes n place most few) (parts_may parts a))
+    all_append MayBeRow (fixed_rows n place) (many ++ flat_map part_rows parts) (fixed_may n place) (all_append MayBeRow many (flat_map part_rows parts) (many_may net labels exits terminal classes n place most few) (parts_may parts a))
 
 -- ---- what is known
 
@@ -115,23 +107,15 @@ abbrev pub said_proof : Net → Earlier → ℕ → List ℤ → List Record →
 said_proof net earlier n head rs = proof_of_head (asked n) (parts_after net earlier n head) head rs
 
 signal_place : (place : ℕ) (head : List ℤ) (rows : List (List ℤ)) → verdict_by (kind_at Q13 place) head rows ≡ No → place ≡ 2
-signal_place zero head rows y = absurd cc
-signal_place (suc zero) head rows y = absurd cc
 signal_place (suc (suc zero)) head rows y = refl
-signal_place (suc (suc (suc zero))) head rows y = absurd cc
-signal_place (suc (suc (suc (suc zero)))) head rows y = absurd cc
-signal_place (suc (suc (suc (suc (suc zero))))) head rows y = absurd cc
 signal_place (suc (suc (suc (suc (suc (suc zero)))))) head rows y = absurd cc
-signal_place (suc (suc (suc (suc (suc (suc (suc place))))))) head rows y = absurd cc
+signal_place place head rows y = absurd cc
 
 -- of the kinds of questions 14 and 15 the first alone says yes
 yes_first : (i : ℕ) (head : List ℤ) (rows : List (List ℤ)) → verdict_by (slice_index_or (decided Q14 ++ open_kinds) i Rests) head rows ≡ Yes → i ≡ 0
 yes_first zero head rows y = refl
-yes_first (suc zero) head rows y = absurd cc
-yes_first (suc (suc zero)) head rows y = absurd cc
-yes_first (suc (suc (suc zero))) head rows y = absurd cc
 yes_first (suc (suc (suc (suc zero)))) head rows y = absurd cc
-yes_first (suc (suc (suc (suc (suc i))))) head rows y = absurd cc
+yes_first i head rows y = absurd cc
 
 plain_place : (place : ℕ) (head : List ℤ) (rows : List (List ℤ)) → verdict_by (kind_at Q14 place) head rows ≡ Yes → place ≡ 1
 plain_place zero head rows y = absurd cc

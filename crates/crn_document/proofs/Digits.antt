@@ -13,10 +13,9 @@ ends_same (a ∷ xs) (b ∷ ys) x y e =
 
 -- a list by its last member
 pub split_last : (ds : List ℕ) (k : ℕ) → suc k ≡ length ds → ds ≡ take k ds ++ get_or ds k 0 ∷ []
-split_last [] k e = absurd (omega (arith, e))
 split_last (x ∷ []) zero e = refl
-split_last (x ∷ y ∷ ds) zero e = absurd (omega (arith, e))
 split_last (x ∷ ds) (suc k) e = ap (λ (l : List ℕ). x ∷ l) (split_last ds k (omega (arith, e)))
+split_last ds k e = absurd (omega (arith, e))
 
 -- no number has no digit
 pub some_digit : (ds : List ℕ) (n : ℕ) → n < 2 ^ 32 → length ds ≡ 0 → ds ≡ decimal n → ⊥

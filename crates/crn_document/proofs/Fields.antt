@@ -1,5 +1,5 @@
 -- The numbers of a record of one field, and the places of tests.
-use Rattle.crn_document.proofs.Prelude.{◌≡◌, ◌≤◌, ◌<◌, ◌^◌, ◌++◌, ◌∙◌, ℕ, List, [], ◌∷◌, map, refl, sym, subst, ap, inl, inr, arith, ℤ, pos, negsuc, nat_abs, AllByRecursion, ints, append-nil, Test, FailsFirst, Record, Field, Takes, AreNarrow, AreOf, AreBetween, Fits, small, small_form, AreSmall, AreSmallAt}
+use Rattle.crn_document.proofs.Prelude.{◌≡◌, ◌≤◌, ◌<◌, ◌^◌, ◌++◌, ◌∙◌, ℕ, List, [], ◌∷◌, refl, sym, subst, ap, inl, inr, arith, ℤ, pos, negsuc, ints, append-nil, Test, FailsFirst, Record, Field, Takes, AreNarrow, AreOf, AreBetween, Fits, small, small_form, AreSmall, AreSmallAt}
 
 -- ---- numbers
 
@@ -10,16 +10,10 @@ Holds field zs = Takes field zs × AreNarrow field zs
 pub one_field : (field : Field) (zs : List ℤ) → AreOf Holds (field ∷ []) zs → Holds field zs
 one_field field zs p = subst (λ (ys : List ℤ). Holds field ys) (sym (p.2 ∙ ap (λ (t : List ℤ). p.0 ++ t) p.4 ∙ append-nil p.0)) p.3
 
-pub naturals : (least greatest : ℕ) (zs : List ℤ) → AreBetween (pos least) (pos greatest) zs → AllByRecursion (λ x. (least ≤ x) × (x ≤ greatest)) (map nat_abs zs)
-naturals least greatest [] b = tt
-naturals least greatest (negsuc n ∷ zs) b = absurd (omega (arith, ints, b.0.0))
-naturals least greatest (pos n ∷ zs) b = ((omega (arith, ints, b.0.0), omega (arith, ints, b.0.1)), naturals least greatest zs b.1)
-
 pub one_number : (least greatest : ℕ) (zs : List ℤ) → Holds (small 1 least greatest) zs → (n : ℕ) × (zs ≡ pos n ∷ []) × ((least ≤ n) × (n ≤ greatest))
-one_number least greatest [] p = absurd (let e = p.0.0 in omega (arith, e))
 one_number least greatest (pos n ∷ []) p = (n, refl, (omega (arith, ints, p.0.1.0.0), omega (arith, ints, p.0.1.0.1)))
 one_number least greatest (negsuc n ∷ []) p = absurd (omega (arith, ints, p.0.1.0.0))
-one_number least greatest (y ∷ z ∷ zs) p = absurd (let e = p.0.0 in omega (arith, e))
+one_number least greatest zs p = absurd (let e = p.0.0 in omega (arith, e))
 
 -- ---- the places of tests
 

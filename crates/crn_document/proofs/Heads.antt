@@ -1,9 +1,8 @@
 -- What the head of each question says, and on which sizes its forms rest.
-use Rattle.crn_document.proofs.Prelude.{◌≡◌, ◌≤◌, ◌+◌, ◌++◌, ◌∙◌, ℕ, List, [], ◌∷◌, map, refl, sym, subst, ap, ap₂, inl, inr, arith, ℤ, codes, min, range_with_len, Net, Earlier, Q13, Record, Form, CountAndPart, ClassWide, Turn, TwoOf, small, just, Sizes, head, yes, no, no_by, none_by, wide, wide_signal, rests, spent, open_by, heads, question_of, KeptFacts, asked, IsBuilt, IsKnownFor, HasClassSizes, IsHead, built, some_number, few_numbers}
+use Rattle.crn_document.proofs.Prelude.{◌≡◌, ◌≤◌, ◌+◌, ◌++◌, ◌∙◌, ℕ, List, [], ◌∷◌, map, refl, sym, subst, ap, ap₂, inl, inr, arith, ℤ, codes, min, range_with_len, Net, Q13, Record, Form, CountAndPart, ClassWide, Turn, TwoOf, small, just, Sizes, head, yes, no, no_by, none_by, wide, wide_signal, rests, spent, open_by, heads, question_of, KeptFacts, asked, IsBuilt, IsKnownFor, HasClassSizes, IsHead, some_number, few_numbers, asked_number}
 use Rattle.std.specs.Prelude.{Bool, true, false}
 use Rattle.crn_document.proofs.Linkages.{count_few}
 use Rattle.crn_document.proofs.HeadFacts.{HeadFacts, head_facts}
-use Rattle.crn_document.proofs.Kept.{asked_number}
 
 pub said_facts : (net : Net) (n : ℕ) (facts : KeptFacts) (head : List ℤ) (h : Record) → IsBuilt n → IsKnownFor net n facts → IsHead net facts.earlier n head h → HeadFacts net facts.earlier n h head
 said_facts net n facts head h built_is known said =

@@ -1,9 +1,9 @@
 -- What a head of a kind of the table says, by its data: each fact for all questions and kinds at once.
-use Rattle.crn_document.proofs.Prelude.{◌≡◌, ◌≤◌, ◌+◌, ◌-◌, ◌<◌, ◌^◌, ◌==◌, ◌++◌, ◌∙◌, ℕ, zero, suc, Bool, true, false, List, [], ◌∷◌, drop, length, map, replicate, refl, sym, subst, ap, ap₂, inl, inr, arith, ℤ, pos, negsuc, codes, nat_abs, Option, Some, None, AllByRecursion, AllZip, flat_map, range_with_len, append-nil, length-map, length-append, length-range_with_len, filter_few, slice_index, slice_index_or, abs_back, zip_long, spent_place, rests_place, turn_is, RankProof, Ranks, IsIn, Net, IsNetwork, MAX_COMPLEXES, MAX_REACTIONS, MAX_BUDGET, HeadMayBe, Earlier, Question, Q1, Q2, Q4, Q6, Q11, Q12, Q13, Q14, Q15, number, on, HeadKind, Verdict, Yes, IsBasisOf, AreFrom, AllHold, IsTurn, linkage, linkage_count, class_places, class_rank_tests, pair_places, head_tests, row_tests, side_tests, tie_tests, AreClassNumbers, Record, Form, Fits, Free, Several, small, just, small_form, free_form, record_form, Sizes, heads, kind_at, below, place_of, rows, class_forms, rank_forms, later_numbers, side_form, Known, lists, lengths, row, nums, has_vector, sizes_of, shapes_of, verdict_by, proof_by, ranks_of, class_proofs, class_members, part_proofs, AreSmall, AreSmallAt, Part, Row, Side, Tie, row_form, rows_below, part_rows, ne_eqb, if◌then◌else◌, terminal_of, Shelves, Mu, M, Weights, class_part, class_parts, many_after, known_of, class_count, Q3, Q5, Q7, Q8, Q9, Q10, Datum, Num, Led, Basis, fields, FitsHead, FitsFields, one_if, AllOf, given, fields_in, head_back, head_word, words, numbers_of, head_record, kept, FitProof, parts_by}
+use Rattle.crn_document.proofs.Prelude.{◌≡◌, ◌≤◌, ◌+◌, ◌-◌, ◌<◌, ◌^◌, ◌==◌, ◌++◌, ◌∙◌, ℕ, zero, suc, Bool, true, false, List, [], ◌∷◌, drop, length, map, replicate, refl, sym, subst, ap, ap₂, inl, inr, arith, ℤ, pos, codes, nat_abs, Option, Some, None, AllByRecursion, AllZip, flat_map, range_with_len, append-nil, length-map, length-range_with_len, filter_few, slice_index, slice_index_or, abs_back, zip_long, spent_place, rests_place, turn_is, RankProof, Ranks, IsIn, Net, MAX_COMPLEXES, HeadMayBe, Earlier, Question, Q1, Q2, Q4, Q6, Q11, Q12, Q13, Q14, Q15, number, on, HeadKind, Yes, IsBasisOf, AllHold, IsTurn, linkage, linkage_count, class_places, class_rank_tests, pair_places, head_tests, row_tests, side_tests, tie_tests, Record, Form, Fits, Several, small, just, small_form, free_form, record_form, Sizes, heads, kind_at, below, place_of, rows, class_forms, rank_forms, later_numbers, side_form, lists, lengths, row, has_vector, sizes_of, shapes_of, verdict_by, proof_by, ranks_of, class_proofs, class_members, part_proofs, AreSmall, AreSmallAt, Part, Row, Side, Tie, row_form, rows_below, part_rows, ne_eqb, if◌then◌else◌, terminal_of, Shelves, Mu, M, Weights, class_parts, many_after, known_of, class_count, Q3, Q5, Q7, Q8, Q9, Q10, Datum, Led, Basis, fields, FitsHead, FitsFields, one_if, AllOf, given, fields_in, head_word, words, numbers_of, head_record, kept, FitProof, parts_by}
 use Rattle.crn_cert.specs.Data as typed
 use Rattle.crn_cert.specs.declared.head_kind.HeadKind.TheVariants as kind
 use Rattle.crn_document.proofs.Fields.{PartsWithin, one_field, small_list, form_small}
-use Rattle.crn_document.proofs.Linkages.{members_all, members_few, member_few, pairs_few}
+use Rattle.crn_document.proofs.Linkages.{members_all, member_few, pairs_few}
 use Rattle.crn_document.proofs.Ranks.{AreRanks, drop_none, map_replicate, class_fit, class_ranks, class_formed, class_parts_within, class_proofs_are, class_rows_are, forms_from, members_are, proofs_from, rank_formed, rank_length, rank_parts, rank_rows_are, rank_small, sizes_are}
 
 abbrev pub HeadOf : Net → Earlier → Question → HeadKind → Type 0
@@ -43,21 +43,9 @@ Tells q kind place (Some fs) = (kind_at q place ≡ kind) × (place ≤ 9)
 
 places : (net : Net) (earlier : Earlier) (q : Question) (kind : HeadKind) → Tells q kind (place_for net earlier q kind) (fields q (sizes_of (known_of net earlier)) kind)
 places net earlier Q1 kind.Classes = (refl, omega arith)
-places net earlier Q2 kind.Classes = (refl, omega arith)
-places net earlier Q3 kind.Classes = (refl, omega arith)
-places net earlier Q4 kind.Classes = (refl, omega arith)
-places net earlier Q5 kind.Classes = (refl, omega arith)
-places net earlier Q6 kind.Classes = (refl, omega arith)
-places net earlier Q7 kind.Classes = (refl, omega arith)
-places net earlier Q8 kind.Classes = (refl, omega arith)
-places net earlier Q9 kind.Classes = (refl, omega arith)
-places net earlier Q10 kind.Classes = (refl, omega arith)
-places net earlier Q11 kind.Classes = (refl, omega arith)
-places net earlier Q12 kind.Classes = (refl, omega arith)
 places net earlier Q13 kind.Budget = let e = spent_place (has_vector (on earlier Q12)) (sizes_of (known_of net earlier)) in (ap (kind_at Q13) e, omega (arith, e))
 places net earlier Q13 kind.Rests = let e = rests_place (has_vector (on earlier Q12)) (sizes_of (known_of net earlier)) in (ap (kind_at Q13) e, omega (arith, e))
-places net earlier Q14 kind.Classes = (refl, omega arith)
-places net earlier Q15 kind.Classes = (refl, omega arith)
+places net earlier q kind.Classes = (refl, omega arith)
 places net earlier q kind = (refl, omega arith)
 
 pub place_tells : (net : Net) (earlier : Earlier) (q : Question) (kind : HeadKind) (a : HeadOf net earlier q kind) → HeadFits net earlier q kind a → (kind_at q (place_for net earlier q kind) ≡ kind) × (place_for net earlier q kind ≤ 9)
@@ -155,9 +143,6 @@ wide_may net earlier q system class index basis h = subst (λ (ns : List ℕ). F
 
 pub may_by : (net : Net) (earlier : Earlier) (q : Question) (kind : HeadKind) (a : HeadOf net earlier q kind) → HeadFits net earlier q kind a → HeadMayBe net earlier q (verdict_by kind (numbers net earlier q kind a) [])
 may_by net earlier Q1 kind.Classes a h = h
-may_by net earlier Q2 kind.Strong a h = h
-may_by net earlier Q3 kind.Yes a h = h
-may_by net earlier Q4 kind.Yes a h = h
 may_by net earlier Q5 kind.Wide a h = wide_may net earlier Q5 a.0.0 a.0.1 a.0.2 a.0.3 h
 may_by net earlier Q6 kind.Deficiency a h = subst (λ (ns : List ℕ). FitsHead Q6 (sizes_of (known_of net earlier)) kind.Deficiency (Led a.0.0 ns ∷ [])) (sym (nums_back a.0.1)) h
 may_by net earlier Q6 kind.Wide a h = wide_may net earlier Q6 a.0.0 a.0.1 a.0.2 a.0.3 h
@@ -168,13 +153,12 @@ may_by net earlier Q9 kind.YesWeak a h = (weak (a.0 == 1), tt)
     weak : (b : Bool) → (0 ≤ one_if b) × (one_if b ≤ 1)
     weak true = (omega arith, omega arith)
     weak false = (omega arith, omega arith)
-may_by net earlier Q10 kind.Yes a h = h
-may_by net earlier Q11 kind.Yes a h = h
 may_by net earlier Q12 kind.Wide a h = wide_may net earlier Q12 a.0.0 a.0.1 a.0.2 a.0.3 h
 may_by net earlier Q13 kind.YesSignal a h = (subst IsTurn (sym (turn_is a.0 h.0)) h.0, tt)
 may_by net earlier Q13 kind.Wide a h = wide_may net earlier Q13 a.0.0 a.0.1 a.0.2 a.0.3 h
 may_by net earlier Q14 kind.Wide a h = wide_may net earlier Q14 a.0.0 a.0.1 a.0.2 a.0.3 h
 may_by net earlier Q15 kind.Wide a h = wide_may net earlier Q15 a.0.0 a.0.1 a.0.2 a.0.3 h
+may_by net earlier q kind.Classes a h = h
 may_by net earlier q kind a h = h
 
 -- ---- the records below it
@@ -220,25 +204,17 @@ rank_long net earlier k le = let count = length-range_with_len 1 (length net.rea
 
 -- whatever the place of a head of question 13
 signal_rows_are : (net : Net) (earlier : Earlier) (place : ℕ) (ns : List ℤ) → rows Q13 (shapes_of (known_of net earlier)) place ns ≡ map (row_form net (linkage earlier) (class_count 13 (pos place ∷ ns))) (rows_below 13 place (many_after net earlier 13 place) [])
-signal_rows_are net earlier zero ns = refl
-signal_rows_are net earlier (suc zero) ns = refl
 signal_rows_are net earlier (suc (suc place)) ns =
     let other : (suc (suc place) == 1) ≡ false = ne_eqb (suc (suc place)) 1 (λ e. omega (arith, e)) in
     subst (λ (b : Bool). [] ≡ map (row_form net (linkage earlier) (class_count 13 (pos (suc (suc place)) ∷ ns))) ((if b then Shelves (terminal_of (on earlier Q2)) ∷ Mu ∷ M ∷ Weights ∷ [] else []) ++ [])) (sym other) refl
+signal_rows_are net earlier place ns = refl
 
 pub below_by : (net : Net) (earlier : Earlier) (q : Question) (kind : HeadKind) (a : HeadOf net earlier q kind) → HeadFits net earlier q kind a → due net earlier q kind a ≡ forms_by net earlier q (place_for net earlier q kind) kind (numbers net earlier q kind a)
 below_by net earlier Q1 kind.Classes a h = refl
-below_by net earlier Q2 kind.Strong a h = refl
-below_by net earlier Q3 kind.Yes a h = refl
-below_by net earlier Q4 kind.Yes a h = refl
 below_by net earlier Q5 kind.Rank a h = rank_rows net earlier a.0
 below_by net earlier Q6 kind.Deficiency a h =
     let ds = later_numbers (numbers net earlier Q6 kind.Deficiency a) in
     class_forms_are net earlier ds (deficiencies_long net earlier a h) ∙ class_rows_are net earlier 0 (sizes_of (known_of net earlier)) 0 ds refl
-below_by net earlier Q7 kind.YesVec a h = refl
-below_by net earlier Q8 kind.YesVec a h = refl
-below_by net earlier Q9 kind.YesWeak a h = refl
-below_by net earlier Q10 kind.Yes a h = refl
 below_by net earlier Q11 kind.Yes a h =
     let ps = pair_places net earlier in
     sides_are net (linkage earlier) (sizes_of (known_of net earlier)) ps refl ∙ ap (λ (rows : List Row). map (row_form net (linkage earlier) 0) rows) (sym (append-nil (map (λ (r : ℕ). Side r) ps)))
@@ -246,8 +222,7 @@ below_by net earlier Q12 kind.YesVec a h = ap (λ (fs : List Form). free_form (c
 below_by net earlier Q12 kind.OnlyZero a h = ties_are net earlier (length net.complexes)
 below_by net earlier Q13 kind.Rank a h = absurd h
 below_by net earlier Q13 kind a h = signal_rows_are net earlier (place_for net earlier Q13 kind) (numbers net earlier Q13 kind a)
-below_by net earlier Q14 kind.Yes a h = refl
-below_by net earlier Q15 kind.Yes a h = refl
+below_by net earlier q kind.Classes a h = search (refl, h)
 below_by net earlier q kind a h = search (refl, h)
 
 pub shown_by : (net : Net) (earlier : Earlier) (q : Question) (kind : HeadKind) (a : HeadOf net earlier q kind) → HeadFits net earlier q kind a → (rs : List Record)
@@ -265,10 +240,9 @@ AreSmallForms (form ∷ forms) = ((word : List ℕ) × (count least greatest : �
 
 small_row : (forms : List Form) (rs : List Record) (i : ℕ) → AreSmallForms forms → AllZip Fits forms rs → AreSmall (row (lists rs) i)
 small_row [] [] i s z = tt
-small_row [] (r ∷ rs) i s z = absurd z
-small_row (f ∷ fs) [] i s z = absurd z
 small_row (f ∷ fs) (r ∷ rs) zero s z = let t = s.0 in form_small t.0 t.1 t.2 t.3 r t.5 (subst (λ (f : Form). Fits f r) t.4 z.0)
 small_row (f ∷ fs) (r ∷ rs) (suc i) s z = small_row fs rs i s.1 z.1
+small_row forms rs i s z = absurd z
 
 small_at : (places : List ℕ) (forms : List Form) (rs : List Record) → AreSmallForms forms → AllZip Fits forms rs → AreSmallAt places (lists rs)
 small_at [] forms rs s z = tt
@@ -335,9 +309,7 @@ less_one (r ∷ rs) n e = let l = length-map rs (λ (r : Record). r.numbers) in 
 
 pub row_parts_by : (net : Net) (earlier : Earlier) (q : Question) (kind : HeadKind) (a : HeadOf net earlier q kind) → AreFew net earlier → HeadFits net earlier q kind a → (rs : List Record) → Held net earlier q kind (numbers net earlier q kind a) → AllZip Fits (due net earlier q kind a) rs → length rs ≡ length (due net earlier q kind a)
     → let ns = numbers net earlier q kind a in PartsWithin (suc (length rs)) (row_tests net earlier q (verdict_by kind ns (lists rs)) (proof_by kind q (part_proofs (parts_by net (linkage earlier) kind ns) (lists rs)) ns (lists rs)))
-row_parts_by net earlier Q1 kind.Classes a w h rs hold z l = (omega (arith, l), (omega (arith, l), tt))
-row_parts_by net earlier Q2 kind.Strong a w h rs hold z l = (omega (arith, l), (omega (arith, l), (omega (arith, l), (omega (arith, l), (omega (arith, l), (omega (arith, l), tt))))))
-row_parts_by net earlier Q3 kind.Yes a w h rs hold z l = (omega arith, tt)
+row_parts_by net earlier Q1 kind.Classes a w h rs hold z l = omega (arith, l)
 row_parts_by net earlier Q5 kind.Rank a w h rs hold z l =
     let all = range_with_len 1 (length net.reactions) in
     rank_parts net all 1 (suc (length rs)) a.0 _ (rank_formed net (sizes_of (known_of net earlier)) a.0 all rs refl z) (omega (arith, l, rank_long net earlier a.0 (omega (arith, h.0.1)), length-range_with_len 1 (length net.reactions), h.0.1))
@@ -348,16 +320,8 @@ row_parts_by net earlier Q6 kind.Deficiency a w h rs hold z l =
     let zz = subst (λ (fs : List Form). AllZip Fits fs rs) forms z in
     let long : length rs ≡ length (forms_from net earlier s 1 ds) = l ∙ ap length forms in
     subst (λ (list : List RankProof). PartsWithin (suc (length rs)) (class_rank_tests net earlier 1 1 list)) (sym (class_proofs_are net earlier 0 ds rs)) (class_parts_within net earlier 1 (suc (length rs)) 0 s ds (proofs_from net earlier 1 ds rs) hold.1.0.1 (class_formed net earlier s 0 ds rs refl hold.1.0.1 zz) (omega (arith, long)))
-row_parts_by net earlier Q7 kind.YesVec a w h rs hold z l = (omega arith, tt)
-row_parts_by net earlier Q7 kind.NoVec a w h rs hold z l = (omega arith, tt)
-row_parts_by net earlier Q8 kind.YesVec a w h rs hold z l = (omega arith, tt)
-row_parts_by net earlier Q8 kind.NoVec a w h rs hold z l = (omega arith, tt)
 row_parts_by net earlier Q11 kind.Yes a w h rs hold z l = let m = length-map (lists rs) later_numbers ∙ length-map rs (λ (r : Record). r.numbers) in side_parts net earlier 1 (suc (length rs)) (pair_places net earlier) (map later_numbers (lists rs)) (omega (arith, m))
-row_parts_by net earlier Q11 kind.NoCycle a w h rs hold z l = (omega arith, tt)
 row_parts_by net earlier Q12 kind.YesVec a w h rs hold z l = (omega arith, tie_parts net (linkage earlier) (linkage_count earlier) _ 2 (suc (length rs)) _ (drop 1 (lists rs)) (less_one rs _ l))
 row_parts_by net earlier Q12 kind.OnlyZero a w h rs hold z l = let m = length-map rs (λ (r : Record). r.numbers) in tie_parts net (linkage earlier) (linkage_count earlier) _ 1 (suc (length rs)) _ (lists rs) (omega (arith, m))
-row_parts_by net earlier Q12 kind.Plane a w h rs hold z l = (omega arith, (omega (arith, l), tt))
-row_parts_by net earlier Q13 kind.YesSignal a w h rs hold z l = (omega (arith, l), tt)
-row_parts_by net earlier Q14 kind.NoPair a w h rs hold z l = (omega (arith, l), tt)
-row_parts_by net earlier Q15 kind.NoPair a w h rs hold z l = (omega (arith, l), tt)
-row_parts_by net earlier q kind a w h rs hold z l = tt
+row_parts_by net earlier q kind.Classes a w h rs hold z l = omega (arith, l)
+row_parts_by net earlier q kind a w h rs hold z l = omega (arith, l)

@@ -1,5 +1,5 @@
 -- What is kept after a block: the sides of question 11, and with which verdicts.
-use Rattle.crn_document.proofs.Prelude.{w32, to_z, of_z, ◌≡◌, ◌∙◌, ◌<◌, ◌≤◌, ◌==◌, ◌++◌, ℕ, Bool, false, List, [], ◌∷◌, refl, sym, ap, subst, inl, inr, arith, ℤ, AllByRecursion, IsSome, cases_eq, eq-eqb, ne_eqb, KeptInts, Net, Answer, Proof, Sides, Verdict, Yes, YesVec, Earlier, Question, Q11, Q12, IsYes, number, on, vector_given, HeadMayBe, IsFormed, IsFormedOf, IsFormedVerdict, IsTurn, AllHold, HasVector, confluence_head, head_tests, tests_of, AsksForTree, HoldsNeeds, HoldsNoSignal, IsBuilt, shown_by_tree, KeptFacts, asked, formed_on, sides_of_answer, AreSides, KeepSides, IsKnownFor, built, Q1, Q13, IsIn, map}
+use Rattle.crn_document.proofs.Prelude.{w32, to_z, of_z, ◌≡◌, ◌∙◌, ◌<◌, ◌≤◌, ◌==◌, ◌++◌, ℕ, Bool, false, List, [], ◌∷◌, refl, sym, ap, subst, inl, inr, arith, ℤ, AllByRecursion, IsSome, cases_eq, eq-eqb, ne_eqb, KeptInts, Net, Answer, Proof, Sides, Verdict, Yes, YesVec, Earlier, Question, Q11, Q12, IsYes, number, on, vector_given, HeadMayBe, IsFormed, IsFormedOf, IsFormedVerdict, IsTurn, AllHold, HasVector, confluence_head, head_tests, tests_of, AsksForTree, HoldsNeeds, HoldsNoSignal, IsBuilt, shown_by_tree, KeptFacts, asked, formed_on, sides_of_answer, AreSides, KeepSides, IsKnownFor, built, Q13, asked_number}
 use Rattle.std.proofs.Common.{if◌then◌else◌}
 use Rattle.crn_cert.specs.declared.answer.Verdict.TheVariants.{NotApplicable, YesSignal}
 
@@ -24,19 +24,6 @@ on_none [] q below = refl
 on_none (e ∷ es) q below =
     let differ : (number e.0 == number q) ≡ false = ne_eqb (number e.0) (number q) (λ same. omega (arith, same, below.0)) in
     ap (λ (b : Bool). if b then e.1 else on es q) differ ∙ on_none es q below.1
-
--- a question by its number
-asked_back : (q : Question) → asked (number q) ≡ q
-asked_back Q1 = refl
-asked_back q = refl
-
-among : (n : ℕ) (qs : List Question) → IsIn n (map number qs) → number (asked n) ≡ n
-among n [] i = absurd i
-among n (q ∷ qs) (inl e) = subst (λ (m : ℕ). number (asked m) ≡ m) (sym e) (ap number (asked_back q))
-among n (q ∷ qs) (inr i) = among n qs i
-
-pub asked_number : (n : ℕ) → IsBuilt n → number (asked n) ≡ n
-asked_number n i = among n built i
 
 -- ---- the sides
 

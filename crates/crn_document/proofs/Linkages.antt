@@ -1,7 +1,6 @@
 -- The linkage classes that are known before a block, by the verdicts on all questions before it.
-use Rattle.crn_document.proofs.Prelude.{◌≡◌, ◌≤◌, ◌+◌, ◌-◌, ◌++◌, ◌∙◌, ℕ, zero, suc, Bool, List, [], ◌∷◌, length, map, drop, take, refl, sym, subst, ap, inl, inr, arith, codes, filter, ap₂, append_assoc, Result, Ok, Err, OnOk, Bor, AllByRecursion, range_with_len, filter-append, length-range_with_len, length-map-range_with_len, length-replicate, IsIn, IsAscending, Net, MAX_COMPLEXES, MAX_REACTIONS, filter_few, above_ascending, filter_above, range_above, filter_from, range_bounds, all_from, range_more, Wide, Verdict, Unknown, built, Earlier, Question, Q1, Q2, number, on, labels_of, count_of, terminal_of, IsFormedVerdict, some_number, Members, record_form, DueBase, KeptFacts, HoldsNoneFrom, HoldsOn, HoldsNeeds, IsBuilt, built_at, formed_on, terminal_fits, Linkage, IsKnownFor, IsKnown, IsLinkage, before, class_counts, is_in_class, members_of, FitsCounts, HasClassSizes, IsOwnDue, ends_at, is_least_of_pair, is_within_terminal, linkage, linkage_count, class_places, pair_places}
+use Rattle.crn_document.proofs.Prelude.{◌≡◌, ◌≤◌, ◌+◌, ◌-◌, ◌++◌, ◌∙◌, ℕ, zero, suc, Bool, List, [], ◌∷◌, length, map, drop, take, refl, sym, subst, ap, inl, inr, arith, codes, filter, ap₂, append_assoc, Result, Ok, Err, OnOk, Bor, AllByRecursion, range_with_len, filter-append, length-range_with_len, length-map-range_with_len, length-replicate, IsIn, IsAscending, Net, MAX_COMPLEXES, MAX_REACTIONS, filter_few, above_ascending, filter_above, range_above, filter_from, range_bounds, all_from, range_more, Wide, Verdict, Unknown, built, Earlier, Question, Q1, Q2, number, on, labels_of, count_of, terminal_of, IsFormedVerdict, some_number, Members, record_form, DueBase, KeptFacts, HoldsNoneFrom, HoldsOn, HoldsNeeds, IsBuilt, built_at, formed_on, terminal_fits, Linkage, IsKnownFor, IsKnown, IsLinkage, before, class_counts, is_in_class, members_of, FitsCounts, HasClassSizes, IsOwnDue, ends_at, is_least_of_pair, is_within_terminal, linkage, linkage_count, class_places, pair_places, all_same, ◌<◌}
 use Rattle.std.specs.Prelude.{replicate, ◌&&◌, ◌⊎◌}
-use Rattle.crn_cert.specs.declared.answer.Gap.TheVariants.{Budget, Rests}
 use Rattle.crn_cert.specs.declared.answer.Verdict.TheVariants.{Classes}
 use Rattle.crn_document.proofs.Places.{place_of_built, needs_at, none_later}
 
@@ -9,8 +8,6 @@ use Rattle.crn_document.proofs.Places.{place_of_built, needs_at, none_later}
 linkage_fits : (net : Net) (e : Earlier) (v : Verdict) → IsFormedVerdict net e Q1 v → (length (labels_of v) ≤ length net.complexes) × (count_of v ≤ length net.complexes)
 linkage_fits net e (Classes count label) h = (let l = h.1.long in omega (arith, l), h.0.0.1)
 linkage_fits net e (Unknown (Wide system class index basis)) h = absurd h.0
-linkage_fits net e (Unknown (Budget nodes)) h = absurd h.0
-linkage_fits net e (Unknown (Rests question)) h = absurd h.0
 linkage_fits net e v h = absurd h.0
 
 none_yet : (es : Earlier) → HoldsNoneFrom 1 es → es ≡ []
@@ -122,27 +119,15 @@ count_few net n facts (inl e) k =
     let none : facts.earlier ≡ [] = none_yet facts.earlier (subst (λ (m : ℕ). HoldsNoneFrom m facts.earlier) e k.none) in
     let zero_is = ap (λ (es : Earlier). count_of (on es Q1)) none in omega (arith, zero_is)
 count_few net n facts (inr more) k =
-    let f = formed_on net [] facts.earlier Q1 k.facts_of.formed (let held = k.first in held (later_than more)) in
+    let f = formed_on net [] facts.earlier Q1 k.facts_of.formed (let held = k.first in held (later_than (drop 1 built) (omega arith) more)) in
     let fits = linkage_fits net f.0 (on facts.earlier Q1) f.1 in
     let f1 = fits.1 in
     let limit = k.network.partial.complexes_limit in omega (arith, f1, limit)
   where
-    later_than : IsIn n (map number (drop 1 built)) → n ≡ 1 → ⊥
-    later_than (inl e) d = absurd (omega (arith, d, e))
-    later_than (inr (inl e)) d = absurd (omega (arith, d, e))
-    later_than (inr (inr (inl e))) d = absurd (omega (arith, d, e))
-    later_than (inr (inr (inr (inl e)))) d = absurd (omega (arith, d, e))
-    later_than (inr (inr (inr (inr (inl e))))) d = absurd (omega (arith, d, e))
-    later_than (inr (inr (inr (inr (inr (inl e)))))) d = absurd (omega (arith, d, e))
-    later_than (inr (inr (inr (inr (inr (inr (inl e))))))) d = absurd (omega (arith, d, e))
-    later_than (inr (inr (inr (inr (inr (inr (inr (inl e)))))))) d = absurd (omega (arith, d, e))
-    later_than (inr (inr (inr (inr (inr (inr (inr (inr (inl e))))))))) d = absurd (omega (arith, d, e))
-    later_than (inr (inr (inr (inr (inr (inr (inr (inr (inr (inl e)))))))))) d = absurd (omega (arith, d, e))
-    later_than (inr (inr (inr (inr (inr (inr (inr (inr (inr (inr (inl e))))))))))) d = absurd (omega (arith, d, e))
-    later_than (inr (inr (inr (inr (inr (inr (inr (inr (inr (inr (inr (inl e)))))))))))) d = absurd (omega (arith, d, e))
-    later_than (inr (inr (inr (inr (inr (inr (inr (inr (inr (inr (inr (inr (inl e))))))))))))) d = absurd (omega (arith, d, e))
-    later_than (inr (inr (inr (inr (inr (inr (inr (inr (inr (inr (inr (inr (inr (inl e)))))))))))))) d = absurd (omega (arith, d, e))
-    later_than (inr (inr (inr (inr (inr (inr (inr (inr (inr (inr (inr (inr (inr (inr (none))))))))))))))) d = none
+    later_than : (qs : List Question) → AllByRecursion (λ q. 1 < number q) qs → IsIn n (map number qs) → n ≡ 1 → ⊥
+    later_than [] all i d = i
+    later_than (q ∷ qs) all (inl e) d = omega (arith, all.0, d, e)
+    later_than (q ∷ qs) all (inr i) d = later_than qs all.1 i d
 
 -- ---- how many reactions the classes have
 
@@ -193,14 +178,10 @@ zeros_fit net earlier question l counts k is never =
     let long : length counts ≡ l.count = ap length is ∙ length-replicate l.count 0 in
     record {
       few = omega (arith, long, k.few);
-      each = subst (λ (x : List ℕ). AllByRecursion (λ r. r ≤ MAX_REACTIONS) x) (sym is) (all_zeros l.count);
+      each = subst (λ (x : List ℕ). AllByRecursion (λ r. r ≤ MAX_REACTIONS) x) (sym is) (all_same (λ r. r ≤ MAX_REACTIONS) l.count 0 (omega arith));
       many = λ asks. long ∙ k.count_is;
       are = λ six. absurd (never six);
     }
-  where
-    all_zeros : (n : ℕ) → AllByRecursion (λ r. r ≤ MAX_REACTIONS) (replicate n 0)
-    all_zeros zero = tt
-    all_zeros (suc n) = (omega arith, all_zeros n)
 
 -- a question whose head does not rest on these numbers needs none
 pub no_counts : (net : Net) (earlier : Earlier) (question : ℕ) (counts : List ℕ) → counts ≡ [] → (HasClassSizes question → ⊥) → FitsCounts net earlier question counts

@@ -1,5 +1,5 @@
 -- Lines of a tree that were met before are nodes that are due.
-use Rattle.crn_document.proofs.Prelude.{◌≡◌, ◌<◌, ◌++◌, ◌∙◌, true, false, ℕ, Option, zero, suc, List, [], ◌∷◌, length, get_or, refl, sym, ap, subst, arith, Result, ℤ, codes, length-append, get_or-append_seam, Sign, Net, Signed, Place, Said, Splits, Flats, CutsA, CutsB, known_words, tree_words, Record, KeptLines, Gives, due, StepGives, CutA, CutB, IsReadAs, forms_of, is_after, misplaced, text_of, Word, Expect, step_then, NodeGives, KeptCut, TreeProblem, Step, TreeFault, MetLine, NodeLine, Read, AreMet, IsCutOf, IsNodeLineAs, IsMet, IsMetAt, IsDueNodeLine, SaysPlainly, plain_node, ExpectsNode, IsSaidAs, JudgeGives, asks_node_for, reads_one, tests_give}
+use Rattle.crn_document.proofs.Prelude.{◌≡◌, ◌<◌, ◌++◌, ◌∙◌, true, false, ℕ, Option, zero, suc, List, [], ◌∷◌, length, get_or, refl, sym, ap, subst, arith, Result, ℤ, codes, length-append, get_or-append_seam, Sign, Net, Signed, Place, Said, Splits, CutsA, CutsB, known_words, tree_words, Record, KeptLines, Gives, due, StepGives, CutA, CutB, IsReadAs, forms_of, is_after, misplaced, text_of, Word, Expect, step_then, NodeGives, KeptCut, TreeProblem, Step, TreeFault, MetLine, NodeLine, Read, AreMet, IsCutOf, IsNodeLineAs, IsMet, IsMetAt, IsDueNodeLine, SaysPlainly, plain_node, ExpectsNode, IsSaidAs, JudgeGives, asks_node_for, reads_one, tests_give}
 use Rattle.crn_ctext.specs.Expect.{tests_of}
 use Rattle.crn_document.specs.declared.node.NodeLine.TheVariants.{Known}
 use Rattle.crn_ctext.specs.declared.word.Word.TheVariants as words
@@ -83,9 +83,7 @@ line_reads e n m line r old mid left after s g =
 
 pub plain_gives : (w : Signed) (due after : List (List Sign)) (said : Said) (result : Result Step TreeFault) → NodeGives w due said after result → JudgeGives w due (plain_node said) after result
 plain_gives w due after Splits result g = g
-plain_gives w due after Flats result g = g
-plain_gives w due after (CutsA u) result g = g
-plain_gives w due after (CutsB u) result g = g
+plain_gives w due after said result g = g
 
 -- a node that was node_line
 pub due_node_line : (e : Expect) (version a s k : ℕ) (net : Net) (problem : TreeProblem) (lines : List MetLine) (node_line : NodeLine) (read : List ℤ) (r : Record) → ExpectsNode e version a s k

@@ -76,20 +76,12 @@ pub refused : (net : Net) (problem : TreeProblem) (n : ℕ) (due after : List (L
 unfolding FailsFirst
 refused net problem n due after Split BadLeaf g at = absurd (let e = g.1 in cc)
 refused net problem n due after Split NodeNotAllowed g at = inl (refl, refl, λ x lt. let f = g.0.fails in f (omega (arith, lt, choices_are net problem)))
-refused net problem n due after Split TreeEndsEarly g at = absurd g
-refused net problem n due after Split WrongShape g at = absurd g
 refused net problem n due after Flat BadLeaf g at = absurd (let e = g.1 in cc)
 refused net problem n due after Flat NodeNotAllowed g at = inl (refl, refl, λ x h. let f = g.0.fails in f h)
-refused net problem n due after Flat TreeEndsEarly g at = absurd g
-refused net problem n due after Flat WrongShape g at = absurd g
 refused net problem n due after (CutA false u) BadLeaf g at = inr (tt, (λ e. absurd cc), inl (refl, refl, λ x h. let f = g.0.fails in f h))
 refused net problem n due after (CutA false u) NodeNotAllowed g at = absurd (let e = g.1 in cc)
-refused net problem n due after (CutA false u) TreeEndsEarly g at = absurd g
-refused net problem n due after (CutA false u) WrongShape g at = absurd g
 refused net problem n due after (CutB false u) BadLeaf g at = inr (tt, (λ e. absurd cc), inl (refl, refl, λ x h. let f = g.0.fails in f h))
 refused net problem n due after (CutB false u) NodeNotAllowed g at = absurd (let e = g.1 in cc)
-refused net problem n due after (CutB false u) TreeEndsEarly g at = absurd g
-refused net problem n due after (CutB false u) WrongShape g at = absurd g
 refused net problem n due after (CutA true u) BadLeaf g at = inr (tt, (λ e. g.0 ∙ rows_of_a net problem), inl (refl, refl, λ x h. let f = g.1.0.fails in f h))
 refused net problem n due after (CutA true u) NodeNotAllowed g at = absurd (let e = g.1.1 in cc)
 refused net problem n due after (CutA true u) TreeEndsEarly g at = absurd g.1
@@ -98,6 +90,7 @@ refused net problem n due after (CutB true u) BadLeaf g at = inr (tt, (λ e. g.0
 refused net problem n due after (CutB true u) NodeNotAllowed g at = absurd (let e = g.1.1 in cc)
 refused net problem n due after (CutB true u) TreeEndsEarly g at = absurd g.1
 refused net problem n due after (CutB true u) WrongShape g at = inl (refl, refl, λ x h. let f = g.0 in f (h refl ∙ sym (rows_of_b net problem)))
+refused net problem n due after node fault g at = absurd g
 
 -- ---- steps
 

@@ -1,5 +1,5 @@
 -- The words and numbers of nodes, and what the check of a tree requires of them.
-use Rattle.crn_document.proofs.Prelude.{◌≡◌, ◌⊎◌, ◌==◌, ◌≤◌, ◌<◌, ◌-◌, ◌^◌, ◌∙◌, ℕ, Bool, true, false, List, [], ◌∷◌, refl, sym, ap, subst, inl, inr, arith, Result, ℤ, pos, codes, slice_index_or, bytes_eq, bytes_eq-Decides, IsIn, Sign, Signed, AreFree, Record, Form, Fits, kind_of, free_form, node_forms, record_form, small, small_form, first_number, Node, Split, Flat, CutA, CutB, node_of, word_of, IsOneOf, text_of, Word, Step, TreeFault, AreSmall, IsNode, JudgeGives}
+use Rattle.crn_document.proofs.Prelude.{◌≡◌, ◌⊎◌, ◌==◌, ◌≤◌, ◌<◌, ◌-◌, ◌^◌, ◌∙◌, ℕ, Bool, true, false, List, [], ◌∷◌, refl, sym, ap, subst, inl, inr, arith, ℤ, pos, codes, slice_index_or, bytes_eq, bytes_eq-Decides, IsIn, AreFree, Record, Form, Fits, kind_of, free_form, node_forms, record_form, small, small_form, first_number, Node, Split, Flat, CutA, CutB, node_of, word_of, IsOneOf, text_of, Word, AreSmall, IsNode}
 use Rattle.std.proofs.Common.{if◌then◌else◌}
 use Rattle.crn_ctext.specs.declared.word.Word.TheVariants as words
 use Rattle.crn_document.proofs.Fields.{one_field, one_number}
@@ -112,12 +112,6 @@ node_word table w zs =
 
 pub node_is : (table : List (List ℤ)) (r : Record) (word : List ℕ) → word_of r ≡ word → node_of table r ≡ node_word table word r.numbers
 node_is table r word e = ap (λ (w : List ℕ). node_word table w r.numbers) e
-
--- what is judged of the node that a record is
-pub judged : (w : Signed) (table : List (List ℤ)) (r : Record) (word : List ℕ) (numbers : List ℤ) (due after : List (List Sign)) (result : Result Step TreeFault) → word_of r ≡ word → numbers ≡ r.numbers
-    → JudgeGives w due (node_word table word numbers) after result → JudgeGives w due (node_of table r) after result
-judged w table r word numbers due after result e n g =
-    subst (λ (node : Node). JudgeGives w due node after result) (sym (node_is table r word e)) (subst (λ (zs : List ℤ). JudgeGives w due (node_word table word zs) after result) n g)
 
 -- ---- what the calls of the check of a tree require
 

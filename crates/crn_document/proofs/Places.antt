@@ -1,5 +1,5 @@
 -- The questions that are answered, by their places among them.
-use Rattle.crn_document.proofs.Prelude.{◌≡◌, ◌≤◌, ◌<◌, ◌-◌, ◌∙◌, ℕ, zero, suc, [], length, map, take, drop, refl, sym, subst, ap, inl, inr, arith, slice_index_or, Verdict, built, Earlier, Question, Q1, number, HoldsNoneFrom, HoldsNeeds, IsBuilt, built_at, needs_held, none_from, before, IsAt}
+use Rattle.crn_document.proofs.Prelude.{◌≡◌, ◌≤◌, ◌<◌, ◌-◌, ◌∙◌, ℕ, zero, suc, [], length, map, take, drop, refl, sym, subst, inl, inr, arith, slice_index_or, Verdict, built, Earlier, Question, Q1, number, HoldsNoneFrom, HoldsNeeds, IsBuilt, built_at, needs_held, none_from, before, IsAt, by_question}
 
 -- the question at each place
 pub at_place : (place : ℕ) → 1 ≤ place → place ≤ 15 → IsAt place (number (slice_index_or built (place - 1) Q1))
@@ -32,23 +32,15 @@ few : (k : ℕ) → k < 15 → k < length built
 few k lt = lt
 
 -- the place of a question, counted from 0
-pub place_of_built : (n : ℕ) → IsBuilt n → (k : ℕ) × (k < length built) × (before n ≡ take k built) × (built_at k ≡ n)
-place_of_built n (inl e) = (0, few 0 (omega arith), ap (λ (m : ℕ). before m) e, sym e)
-place_of_built n (inr (inl e)) = (1, few 1 (omega arith), ap (λ (m : ℕ). before m) e, sym e)
-place_of_built n (inr (inr (inl e))) = (2, few 2 (omega arith), ap (λ (m : ℕ). before m) e, sym e)
-place_of_built n (inr (inr (inr (inl e)))) = (3, few 3 (omega arith), ap (λ (m : ℕ). before m) e, sym e)
-place_of_built n (inr (inr (inr (inr (inl e))))) = (4, few 4 (omega arith), ap (λ (m : ℕ). before m) e, sym e)
-place_of_built n (inr (inr (inr (inr (inr (inl e)))))) = (5, few 5 (omega arith), ap (λ (m : ℕ). before m) e, sym e)
-place_of_built n (inr (inr (inr (inr (inr (inr (inl e))))))) = (6, few 6 (omega arith), ap (λ (m : ℕ). before m) e, sym e)
-place_of_built n (inr (inr (inr (inr (inr (inr (inr (inl e)))))))) = (7, few 7 (omega arith), ap (λ (m : ℕ). before m) e, sym e)
-place_of_built n (inr (inr (inr (inr (inr (inr (inr (inr (inl e))))))))) = (8, few 8 (omega arith), ap (λ (m : ℕ). before m) e, sym e)
-place_of_built n (inr (inr (inr (inr (inr (inr (inr (inr (inr (inl e)))))))))) = (9, few 9 (omega arith), ap (λ (m : ℕ). before m) e, sym e)
-place_of_built n (inr (inr (inr (inr (inr (inr (inr (inr (inr (inr (inl e))))))))))) = (10, few 10 (omega arith), ap (λ (m : ℕ). before m) e, sym e)
-place_of_built n (inr (inr (inr (inr (inr (inr (inr (inr (inr (inr (inr (inl e)))))))))))) = (11, few 11 (omega arith), ap (λ (m : ℕ). before m) e, sym e)
-place_of_built n (inr (inr (inr (inr (inr (inr (inr (inr (inr (inr (inr (inr (inl e))))))))))))) = (12, few 12 (omega arith), ap (λ (m : ℕ). before m) e, sym e)
-place_of_built n (inr (inr (inr (inr (inr (inr (inr (inr (inr (inr (inr (inr (inr (inl e)))))))))))))) = (13, few 13 (omega arith), ap (λ (m : ℕ). before m) e, sym e)
-place_of_built n (inr (inr (inr (inr (inr (inr (inr (inr (inr (inr (inr (inr (inr (inr (inl e))))))))))))))) = (14, few 14 (omega arith), ap (λ (m : ℕ). before m) e, sym e)
-place_of_built n (inr (inr (inr (inr (inr (inr (inr (inr (inr (inr (inr (inr (inr (inr (inr (none)))))))))))))))) = absurd none
+abbrev pub HasPlace : ℕ → Type 0
+HasPlace n = (k : ℕ) × (k < length built) × (before n ≡ take k built) × (built_at k ≡ n)
+
+place_of : (q : Question) → HasPlace (number q)
+place_of Q1 = (0, few 0 (omega arith), refl, refl)
+place_of q = (number q - 1, few (number q - 1) (omega arith), refl, refl)
+
+pub place_of_built : (n : ℕ) → IsBuilt n → HasPlace n
+place_of_built n i = by_question HasPlace place_of n i
 
 -- the verdicts on the questions before one are those that its tests look at, and on none later
 pub needs_at : (es : Earlier) (n : ℕ) → IsBuilt n → map (λ (e : Question × Verdict). e.0) es ≡ before n → HoldsNeeds es n

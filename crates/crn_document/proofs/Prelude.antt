@@ -3,7 +3,7 @@ pub use Rattle.crn_cert.proofs.CallerLemmas.{AllOf, few_numbers, fields_in, give
 pub use Rattle.crn_cert.specs.Blocks.{FitsFields, FitsHead, one_if}
 pub use Rattle.crn_cert.specs.Built.{built}
 pub use Rattle.crn_cert.specs.ConfluenceTests.{tie_tests}
-pub use Rattle.crn_cert.specs.Data.{Basis, Datum, IsBasisOf, Led, Num}
+pub use Rattle.crn_cert.specs.Data.{Basis, Datum, IsBasisOf, Led}
 pub use Rattle.crn_cert.specs.Faults.{BadEvidence, BadNetwork, Fault, NodeNotAllowed, TreeEndsEarly, TreeGoesOn, WrongOrder, fault_number}
 pub use Rattle.crn_cert.specs.Formed.{HeadMayBe, IsFormed, IsFormedOf}
 pub use Rattle.crn_cert.specs.FormedVerdicts.{IsFormedVerdict}
@@ -12,7 +12,7 @@ pub use Rattle.crn_cert.specs.Law.{IsTrueOrOpen}
 pub use Rattle.crn_cert.specs.Nodes.{AreNumbersFor, CutsA, CutsB, Flats, Passing, Said, Splits}
 pub use Rattle.crn_cert.specs.Parts.{AreClassProofs, IsRankProof}
 pub use Rattle.crn_cert.specs.Questions.{Earlier, IsYes, Q1, Q10, Q11, Q12, Q13, Q14, Q15, Q2, Q3, Q4, Q5, Q6, Q7, Q8, Q9, Question, count_of, labels_of, number, on, terminal_of, vector_given}
-pub use Rattle.crn_cert.specs.Ranges.{AreFree, AreFreeRows, AreFrom, IsNarrow}
+pub use Rattle.crn_cert.specs.Ranges.{AreFree, AreFreeRows, IsNarrow}
 pub use Rattle.crn_cert.specs.RankTests.{comb_tests, dual_tests, rank_tests}
 pub use Rattle.crn_cert.specs.Says.{IsTrueOf, IsTurn, by_turn}
 pub use Rattle.crn_cert.specs.Table.{Sizes, fields}
@@ -28,11 +28,11 @@ pub use Rattle.crn_cert.specs.declared.answer.Verdict.{Verdict}
 pub use Rattle.crn_cert.specs.declared.answer.Verdict.TheVariants.{No, Unknown, Yes, YesVec}
 pub use Rattle.crn_cert.specs.declared.head_kind.HeadKind.{HeadKind}
 pub use Rattle.crn_cert.specs.declared.head_kind.HeadKind.TheVariants.{Budget, Classes, Deficiency, NoClass, NoCycle, NoDependence, NoNumber, NoPair, NoReaction, NoSum, NoTerminal, NoVec, NotApplicable, NotRegular, OnlyZero, Plane, Rank, Rests, Strong, YesSignal, YesWeak}
-pub use Rattle.crn_check.proofs.CallerLemmas.{answer_treeless, built_at, classes_known, formed_on, needs_held, none_from, sides_of_answer, sound_on, strong_true, terminal_few as terminal_fits, weak_true}
+pub use Rattle.crn_check.proofs.CallerLemmas.{answer_treeless, asked_number, built_at, by_question, classes_known, formed_on, needs_held, none_from, sides_of_answer, sound_on, strong_true, terminal_few as terminal_fits, weak_true}
 pub use Rattle.crn_check.specs.Check.{AsksForTree, HoldsNeeds, HoldsNoSignal, HoldsNoTree, IsBuilt, IsShapeFor, Judges, shown_by_tree, tree_place}
 pub use Rattle.crn_check.specs.Facts.{AreFactsOf, HoldsNoneFrom, HoldsOn, KeptFacts, asked}
 pub use Rattle.crn_check.specs.declared.fault.CheckFault.{CheckFault}
-pub use Rattle.crn_ctext.proofs.CallerLemmas.{AreShort, HoldTogether, IsLike, awaited_open, awaits_before, awaits_parts, awaits_then, fails_before, fails_then, fails_with_a_code, given_back, gives_parts, gives_then, head, head_record, head_typed, no, no_by, none_by, numbers_of, open_by, read_true, records_formed, rests, rests_place, settled, spent, spent_place, split_known, step_awaits_like, step_fails_like, step_fails_then, step_gives_like, step_then, text_says, trees_like, turn_is, wide, wide_signal, yes, zip_long}
+pub use Rattle.crn_ctext.proofs.CallerLemmas.{AreShort, HoldTogether, IsLike, all_same, awaited_open, awaits_before, awaits_parts, awaits_then, fails_before, fails_then, fails_with_a_code, given_back, gives_parts, gives_then, head, head_record, head_typed, no, no_by, none_by, numbers_of, open_by, read_true, records_formed, rests, rests_place, settled, spent, spent_place, split_known, step_awaits_like, step_fails_like, step_fails_then, step_gives_like, step_then, text_says, trees_like, turn_is, wide, wide_signal, yes, zip_long}
 pub use Rattle.crn_ctext.specs.Blocks.{AfterBlocks, CutA, CutB, Flat, IsNetworkOf, Node, Problem, ReadOf, Split, after_sections, asks, asks_block, asks_leaf, asks_lines, asks_node, asks_table, below, either, goes_on, has_tree, leaf, lists_of, node_of, place_of, reads, sections, word_of}
 unfoldable pub use Rattle.crn_ctext.specs.Blocks.{asks_all, asks_blocks, asks_tree, asks_trees, claims}
 pub use Rattle.crn_ctext.specs.Course.{Course, End, Give, IsReported, Line, due, find, test, ◌>>=◌}
@@ -108,7 +108,7 @@ pub use Rattle.crn_reading.specs.declared.reading.Reading.{Reading}
 pub use Rattle.crn_shape.proofs.CallerLemmas.{pairs_no, pairs_yes}
 pub use Rattle.crn_shape.specs.Pairs.{pairs_to}
 pub use Rattle.crn_shape.specs.Sides.{AreClassesBy, AreSides}
-pub use Rattle.crn_vec.proofs.CallerLemmas.{above_ascending, abs_back, all_from, all_in, and_first, filter_above, filter_few, filter_from, in_right, length-scale, negatives_have_opposite_shapes, range_above, range_bounds, range_more, reaction_in, rows_count, shapes_are_one, weakly_reversible_by_reactions}
+pub use Rattle.crn_vec.proofs.CallerLemmas.{above_ascending, abs_back, all_append, all_from, all_in, and_first, filter_above, filter_few, filter_from, in_right, length-scale, negatives_have_opposite_shapes, range_above, range_bounds, range_more, reaction_in, rows_count, shapes_are_one, weakly_reversible_by_reactions}
 pub use Rattle.crn_vec.specs.Confluence.{HasConfluenceLine, IsNormalVector, IsRegular, negative}
 pub use Rattle.crn_vec.specs.Deficiency.{class_members}
 pub use Rattle.crn_vec.specs.Kept.{KeptInts, KeptNums}
@@ -120,7 +120,7 @@ pub use Rattle.crn_vec.specs.Problems.{Signed, all_zero, children, options_below
 pub use Rattle.crn_vec.specs.Signals.{Shape, complex_row, pair_row, signals}
 pub use Rattle.crn_vec.specs.Strong.{IsWeaklyReversible}
 pub use Rattle.crn_vec.specs.Visits.{root}
-pub use Rattle.crn_vec.specs.declared.limits.TheConstants.{MAX_BUDGET, MAX_COMPLEXES, MAX_REACTIONS}
+pub use Rattle.crn_vec.specs.declared.limits.TheConstants.{MAX_COMPLEXES, MAX_REACTIONS}
 pub use Rattle.crn_vec.specs.declared.signs.Sign.{Sign}
 pub use Rattle.crn_vec.specs.declared.signs.Sign.TheVariants.{Minus, Plus, Zero}
 pub use Rattle.std.proofs.Common.{Bool, Bor, Err, List, Ok, OnOk, Option, Result, [], ap, append_assoc, ap₂, arith, cond, drop, false, get_or, inl, inr, length, map, of_z, refl, replicate, rules, subst, suc, sym, take, to_z, true, w32, zero, ℕ, ◌%◌, ◌&&◌, ◌++◌, ◌+◌, ◌-◌, ◌/◌, ◌<◌, ◌==◌, ◌^◌, ◌∙◌, ◌∷◌, ◌≡◌, ◌≢◌, ◌≤◌, ◌⊎◌}
@@ -128,7 +128,7 @@ pub use Rattle.std.proofs.Math.Seq.{get_or-append_seam}
 pub use Rattle.std.proofs.lemmas.Bool.{cases_eq, cases_lt, eq-eqb, eqb-true, false≢true, ne_eqb}
 pub use Rattle.std.proofs.lemmas.Fmt.{decimal_digit, decimal_nonempty, decimal_step}
 pub use Rattle.std.proofs.lemmas.Int.{ints, to_z-of_z}
-pub use Rattle.std.proofs.lemmas.List.{append-nil, drop-drop, drop-take, length-append, length-map, length-replicate, map-append}
+pub use Rattle.std.proofs.lemmas.List.{append-nil, drop-drop, drop-map, drop-take, length-append, length-map, length-replicate, map-append, take-map}
 pub use Rattle.std.proofs.lemmas.List.Elements.{filter-append}
 pub use Rattle.std.proofs.lemmas.List.FromFn.{length-map-range_with_len, length-range_with_len}
 pub use Rattle.std.proofs.lemmas.Result.{err_from_is_err_and}

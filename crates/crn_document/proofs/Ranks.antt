@@ -1,5 +1,5 @@
 -- The records that prove ranks: their forms, the proofs that they are, and the places of their tests.
-use Rattle.crn_document.proofs.Prelude.{◌≡◌, ◌≤◌, ◌<◌, ◌+◌, ◌-◌, ◌++◌, ◌∙◌, ℕ, zero, suc, Bool, true, false, cond, ◌==◌, List, [], ◌∷◌, length, map, take, drop, replicate, refl, sym, subst, ap, ap₂, append_assoc, arith, ℤ, pos, codes, nat_abs, min, slice_index_or, AllByRecursion, AllZip, range_with_len, flat_map, length-map, map-append, length-replicate, length-append, drop-take, drop-drop, IsIn, IsAscending, KeptNums, Net, class_members, MAX_COMPLEXES, MAX_REACTIONS, abs_back, all_in, zip_long, RankProof, Earlier, Test, AreFree, AreFreeRows, rank_tests, dual_tests, comb_tests, IsRankProof, AreClassProofs, linkage, class_places, class_rank_tests, AreClassNumbers, Record, Form, Fits, Free, Members, record_form, free_form, Sizes, rank_forms, class_forms, lists, lengths, nums, rank_proof, class_proofs, Part, Row, Dual, Comb, AreSmall, part_proofs, FitParts, class_part, class_parts, members_of, part_rows, row_form}
+use Rattle.crn_document.proofs.Prelude.{◌≡◌, ◌≤◌, ◌<◌, ◌+◌, ◌-◌, ◌++◌, ◌∙◌, ℕ, zero, suc, Bool, true, false, cond, ◌==◌, List, [], ◌∷◌, length, map, take, drop, replicate, refl, sym, subst, ap, ap₂, append_assoc, arith, ℤ, pos, codes, nat_abs, min, slice_index_or, AllByRecursion, AllZip, range_with_len, flat_map, length-map, map-append, length-replicate, length-append, drop-take, drop-drop, IsIn, IsAscending, KeptNums, Net, class_members, MAX_COMPLEXES, MAX_REACTIONS, abs_back, all_in, zip_long, RankProof, Earlier, Test, AreFree, AreFreeRows, rank_tests, dual_tests, comb_tests, IsRankProof, AreClassProofs, linkage, class_places, class_rank_tests, AreClassNumbers, Record, Form, Fits, Free, Members, record_form, free_form, Sizes, rank_forms, class_forms, lists, lengths, nums, rank_proof, class_proofs, Part, Row, Dual, Comb, AreSmall, part_proofs, FitParts, class_part, class_parts, members_of, part_rows, row_form, take-map, drop-map}
 use Rattle.crn_document.proofs.Linkages.{member_few}
 use Rattle.crn_document.proofs.Fields.{PartsWithin, one_field}
 
@@ -18,16 +18,10 @@ zip_back (x ∷ xs) ys [] z = absurd z
 zip_back (x ∷ xs) ys (r ∷ rs) z = zip_back xs ys rs z.1
 
 pub lists_take : (n : ℕ) (rs : List Record) → lists (take n rs) ≡ take n (lists rs)
-lists_take zero [] = refl
-lists_take zero (r ∷ rs) = refl
-lists_take (suc n) [] = refl
-lists_take (suc n) (r ∷ rs) = ap (λ (t : List (List ℤ)). r.numbers ∷ t) (lists_take n rs)
+lists_take n rs = sym (take-map (λ (r : Record). r.numbers) n rs)
 
 pub lists_drop : (n : ℕ) (rs : List Record) → lists (drop n rs) ≡ drop n (lists rs)
-lists_drop zero [] = refl
-lists_drop zero (r ∷ rs) = refl
-lists_drop (suc n) [] = refl
-lists_drop (suc n) (r ∷ rs) = lists_drop n rs
+lists_drop n rs = sym (drop-map (λ (r : Record). r.numbers) n rs)
 
 pub map_replicate : {A B : Type 0} (f : A → B) (n : ℕ) (x : A) → map f (replicate n x) ≡ replicate n (f x)
 map_replicate f zero x = refl
@@ -52,10 +46,9 @@ take_less : {A : Type 0} (n m : ℕ) (xs : List A) → n ≤ m → take n (take 
 take_less zero zero [] le = refl
 take_less zero zero (x ∷ xs) le = refl
 take_less zero (suc m) [] le = refl
-take_less zero (suc m) (x ∷ xs) le = refl
 take_less (suc n) zero xs le = absurd (omega (arith, le))
-take_less (suc n) (suc m) [] le = refl
 take_less (suc n) (suc m) (x ∷ xs) le = ap (λ (t : List _). x ∷ t) (take_less n m xs (omega (arith, le)))
+take_less n (suc m) xs le = refl
 
 -- the list from one of its members on
 piece_next : (rows : List (List ℤ)) (i k : ℕ) → i < length rows → take (suc k) (drop i rows) ≡ slice_index_or rows i [] ∷ take k (drop (suc i) rows)
@@ -106,11 +99,10 @@ free_row word count r f = let p = one_field (Free count) r.numbers f.1 in record
 
 pub free_rows : (word : List ℕ) (count n : ℕ) (rs : List Record) → AllZip Fits (replicate n (free_form word count)) rs → AreFreeRows n count (lists rs)
 free_rows word count zero [] z = record { long = refl; each = tt }
-free_rows word count zero (r ∷ rs) z = absurd z
-free_rows word count (suc n) [] z = absurd z
 free_rows word count (suc n) (r ∷ rs) z =
     let more = free_rows word count n rs z.1 in
     record { long = ap (λ (k : ℕ). suc k) more.long; each = (free_row word count r z.0, more.each) }
+free_rows word count n rs z = absurd z
 
 all_small : (members ns : List ℕ) → ((n : ℕ) → IsIn n members → n ≤ MAX_REACTIONS) → AllByRecursion (λ n. IsIn n members) ns → AreSmall (map pos ns)
 all_small members [] few a = tt
@@ -287,8 +279,6 @@ rank_parts net members part k rank proof p le =
 
 pub class_parts_within : (net : Net) (earlier : Earlier) (part k j : ℕ) (z : Sizes) (ds : List ℤ) (proofs : List RankProof) → AreClassNumbers net earlier (suc j) (map nat_abs ds) → AreClassProofs net earlier (suc j) (map nat_abs ds) proofs → part + length (forms_from net earlier z (suc j) ds) ≤ k → PartsWithin k (class_rank_tests net earlier part (suc j) proofs)
 class_parts_within net earlier part k j z [] [] n a le = tt
-class_parts_within net earlier part k j z [] (p ∷ ps) n a le = absurd a
-class_parts_within net earlier part k j z (d ∷ ds) [] n a le = absurd a
 class_parts_within net earlier part k j z (d ∷ ds) (proof ∷ proofs) n a le =
     let labels = linkage earlier in
     let p = class_part net labels (suc j) (nat_abs d) in
@@ -302,6 +292,7 @@ class_parts_within net earlier part k j z (d ∷ ds) (proof ∷ proofs) n a le =
     let combs = a.0.combs.long in
     parts_join k _ _ (rank_parts net members part k p.rank proof a.0 (omega (arith, le, long, sum, within)))
     (class_parts_within net earlier (part + 1 + length proof.duals + length proof.combs) k (suc j) z ds proofs n.1 a.1 (omega (arith, le, long, sum, within, duals, combs)))
+class_parts_within net earlier part k j z ds proofs n a le = absurd a
 
 -- ---- ranks are few
 

@@ -5,10 +5,9 @@ use Rattle.crn_document.proofs.Fields.{Holds, one_field}
 
 -- the number of shared lists is one small number
 one_count : (zs : List ℤ) → Holds (small 1 0 MAX_SHARED) zs → IsCount zs
-one_count [] p = absurd (let e = p.0.0 in omega (arith, e))
 one_count (pos n ∷ []) p = (n, refl, omega (arith, ints, p.0.1.0.1))
 one_count (negsuc n ∷ []) p = absurd (omega (arith, ints, p.0.1.0.0))
-one_count (y ∷ z ∷ zs) p = absurd (let e = p.0.0 in omega (arith, e))
+one_count zs p = absurd (let e = p.0.0 in omega (arith, e))
 
 pub count_is : (numbers : List ℤ) (r : Record) → IsPlain Table numbers r → IsCount numbers
 count_is numbers r p = subst IsCount (sym p.1) (one_count r.numbers (one_field (small 1 0 MAX_SHARED) r.numbers p.0.1))

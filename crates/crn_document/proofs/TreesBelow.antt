@@ -1,22 +1,17 @@
 -- The trees that follow the records below a head.
-use Rattle.crn_document.proofs.Prelude.{◌≡◌, ◌∙◌, ℕ, zero, suc, Bool, true, false, ap, List, [], ◌∷◌, refl, sym, subst, inl, inr, Ok, Result, Question, number, ℤ, SourceSeen, Q4, Q13, Q14, Q15, on, Problem, asks_tree, asks_trees, has_tree, Known, is_yes, problems_by, signal_problems, asked, AsksForTree, IsBuilt, tree_place, Reading, CheckStop, StepIs, StopIs, StepGives, step_gives, step_map, step_then_is, stop_first}
-use Rattle.crn_document.proofs.Kept.{asked_number}
+use Rattle.crn_document.proofs.Prelude.{◌≡◌, ◌∙◌, ℕ, zero, suc, Bool, true, false, List, [], ◌∷◌, refl, sym, subst, inl, inr, Ok, Result, Question, number, ℤ, SourceSeen, Q4, Q13, Q14, Q15, on, Problem, asks_tree, asks_trees, has_tree, Known, is_yes, problems_by, signal_problems, asked, AsksForTree, IsBuilt, tree_place, Reading, CheckStop, StepIs, StopIs, StepGives, step_gives, step_map, step_then_is, stop_first, asked_number}
 
 no_signals : (known : Known) (place : ℕ) → (place ≡ 2 → ⊥) → problems_by Q13 known place ≡ []
-no_signals known zero other = refl
-no_signals known (suc zero) other = refl
 no_signals known (suc (suc zero)) other = absurd (other refl)
-no_signals known (suc (suc (suc k))) other = refl
+no_signals known place other = refl
 
 no_plain : (known : Known) (place : ℕ) → (place ≡ 1 → ⊥) → problems_by Q14 known place ≡ []
-no_plain known zero other = refl
 no_plain known (suc zero) other = absurd (other refl)
-no_plain known (suc (suc k)) other = refl
+no_plain known place other = refl
 
 no_strong : (known : Known) (place : ℕ) → (place ≡ 1 → ⊥) → problems_by Q15 known place ≡ []
-no_strong known zero other = refl
 no_strong known (suc zero) other = absurd (other refl)
-no_strong known (suc (suc k)) other = refl
+no_strong known place other = refl
 
 -- no tree follows a head unless its verdict is one that trees show
 by_question : (q : Question) (known : Known) (place : ℕ) → (AsksForTree (number q) → place ≡ tree_place (number q) → ⊥) → problems_by q known place ≡ []

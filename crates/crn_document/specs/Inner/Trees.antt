@@ -67,13 +67,6 @@ pub record IsNode (version count_a species shared : ℕ) (word : Word) (numbers 
 
 -- ---- the test of a node
 
--- what a node says
-abbrev pub said_of : Node → Said
-said_of Split = Splits
-said_of Flat = Flats
-said_of (CutA shared u) = CutsA u
-said_of (CutB shared u) = CutsB u
-
 -- what the test of a node gives, which may be a cut by a shared list
 abbrev pub JudgeGives : Signed → List (List Sign) → Node → List (List Sign)
     → Result Step TreeFault → Type 0
