@@ -1,19 +1,15 @@
 -- Sums of numbers by buckets of names.
-use Rattle.crn_net.proofs.Prelude.{◌≡◌, ℕ, ◌+◌, ◌*◌, ◌%◌, ◌^◌, ◌<◌, ◌≤◌, ◌==◌, true, cond, List, [], ◌∷◌, ◌++◌, length, get_or, take, refl, ap, ◌∙◌, inl, inr, arith, bytes_eq, cases_Bool, eq-eqb, take_more, sum_by-le-sum_by, bytes_eq-Decides, amount_in, MAX_AMOUNT, Term, name_at, side_of, mark_after, mark, in_bucket, AreBucketSums}
+use Rattle.crn_net.proofs.Prelude.{[], ◌∷◌, length, get_or, drop, refl, ◌≡◌, ℕ, ◌%◌, ◌<◌, ◌≤◌, ◌==◌, true, cond, List, ap, inl, inr, arith, bytes_eq, cases_Bool, eq-eqb, sum_by-le-sum_by, bytes_eq-Decides, amount_in, MAX_AMOUNT, Term, name_at, side_of, mark, in_bucket, AreBucketSums, word, joined, mark_after}
 use native.Mathlib.Nat.{mod-lt}
 use Rattle.crn_net.proofs.Members.{amount_is}
 
--- ---- marks
-
-mark_push : (m : ℕ) (bs : List ℕ) (b : ℕ) → mark_after m (bs ++ b ∷ []) ≡ (mark_after m bs * 11400714819323198485 % 2 ^ 64 + b) % 2 ^ 64
-mark_push m [] b = refl
-mark_push m (x ∷ bs) b = mark_push ((m * 11400714819323198485 % 2 ^ 64 + x) % 2 ^ 64) bs b
-
--- the mark of one more byte
-pub mark_more : (name : List ℕ) (i : ℕ) → i < length name → mark (take (i + 1) name) ≡ (mark (take i name) * 11400714819323198485 % 2 ^ 64 + get_or name i 0) % 2 ^ 64
-mark_more name i lt = ap mark (take_more name i 0 lt) ∙ mark_push 0 (take i name) (get_or name i 0)
-
--- ---- what the sums of buckets say
+-- the mark goes on with the first four bytes, and then with the rest
+pub mark_word : (m : ℕ) (bytes : List ℕ) → 4 ≤ length bytes → mark_after m bytes ≡ mark_after (joined m (word (get_or bytes 0 0) (get_or bytes 1 0) (get_or bytes 2 0) (get_or bytes 3 0))) (drop 4 bytes)
+mark_word m [] h = absurd (omega arith)
+mark_word m (a ∷ []) h = absurd (omega arith)
+mark_word m (a ∷ b ∷ []) h = absurd (omega arith)
+mark_word m (a ∷ b ∷ c ∷ []) h = absurd (omega arith)
+mark_word m (a ∷ b ∷ c ∷ d ∷ bytes) h = refl
 
 -- a term of the name is in the bucket of the name
 in_its_bucket : (text name : List ℕ) (size : ℕ) (t : Term) → cond (bytes_eq (name_at text t) name) t.count 0 ≤ in_bucket text size (mark name % size) t

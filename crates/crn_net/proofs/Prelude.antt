@@ -1,6 +1,6 @@
 -- What this crate's proofs use of other crates and of its specs.
 pub use Rattle.crn_net.specs.Grows.{AddGives, Grown, GrownFrom, Grows, IsSelf, both_with_zeros, complexes_with, names_with, no_net, reactions_with, with_zeros}
-pub use Rattle.crn_net.specs.Inner.BucketSums.{AreBucketSums, in_bucket, mark, mark_after}
+pub use Rattle.crn_net.specs.Inner.BucketSums.{AreBucketSums, in_bucket, joined, mark, mark_after, word}
 pub use Rattle.crn_net.specs.Inner.Steps.{AreNoted, BuildGives, Built, IsOver, IsRowFor, LeftIsOver, NotesBoth, NotesName, NotesReaction, NotesRow, NotesSide, NotesSides, Puts, PutsBoth, RightIsOver, SaysSame, TellsApart}
 pub use Rattle.crn_net.specs.Inner.Sums.{AreByName, name_in, no_share, share_of, sum_in}
 pub use Rattle.crn_net.specs.Terms.{IsSide, IsTerm, name_at, side_of, statement_of}
@@ -22,7 +22,7 @@ pub use Rattle.std.proofs.lemmas.Bool.Decides.{Decides-ltb}
 pub use Rattle.std.proofs.lemmas.Cmp.{nat_list_cmp_total}
 pub use Rattle.std.proofs.lemmas.Fn.{always_returns_same}
 pub use Rattle.std.proofs.lemmas.Int.{fits_signed_from_abs, ints, to_z-of_z}
-pub use Rattle.std.proofs.lemmas.List.{append-nil, ext_get_or, get_or-append_right, get_or-map, get_or-set_other, get_or-set_same, get_or-take, get_or_append_left, get_or_default, get_or_push, length-append, length-map, length-replicate, length-set, length-take, length-take-le, length_push, map-append, map-set, map_more, map_push, take-append-drop, take-append-le, take_all, take_more, take_more_set}
+pub use Rattle.std.proofs.lemmas.List.{append-nil, ext_get_or, get_or-append_right, get_or-map, get_or-set_other, get_or-set_same, get_or-take, get_or_append_left, get_or_default, get_or_push, length-append, length-drop, length-map, length-replicate, length-set, length-take, length-take-le, length_push, map-append, map-set, map_more, map_push, take-append-drop, take-append-le, take_all, take_more, take_more_set}
 pub use Rattle.std.proofs.lemmas.List.Quantifiers.{position-Some}
 pub use Rattle.std.proofs.lemmas.List.Sorted.{ranks_by, sorted_far, sum_by-IsPermutation}
 pub use Rattle.std.proofs.lemmas.List.Sums.{fold-append, fold_more, position_or_len_is, sum_by-cons, sum_by-le-sum_by, sum_by-take-le, sum_by_more}

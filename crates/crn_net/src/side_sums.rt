@@ -1,4 +1,4 @@
-ghost use Rattle.std.specs.Prelude.{◌≡◌, ◌≤◌, ◌<◌, ◌↔◌, ◌*◌, ◌^◌, ℕ, List, pos, nat_abs, ◌≤ℤ◌, length, map, take, drop, IsTrue, IfOk};
+ghost use Rattle.std.specs.Prelude.{◌≡◌, ◌≤◌, ◌<◌, ◌↔◌, ◌*◌, ◌^◌, ℕ, List, false, pos, nat_abs, ◌≤ℤ◌, length, map, take, drop, IsTrue, IfOk};
 ghost use Rattle.std.specs.List.{AllByRecursion, sum_by};
 ghost use Rattle.crn_vec.specs.Network.{amount_in};
 ghost use Rattle.crn_net.specs.Inner.Sums.{share_of, name_in, sum_in, AreByName};
@@ -12,7 +12,7 @@ use crn_vec::{MAX_AMOUNT, MAX_TERMS, NoMemory};
 use std::alloc::Global;
 
 // The least number of buckets that sums are tried in.
-const MIN_BUCKETS: usize = 1024;
+const MIN_BUCKETS: usize = 1023;
 
 // At most `length` bytes of a text from place `at` on. The two `min`s make it total: the closure that compares two
 // shares can't have a precondition.
@@ -97,38 +97,56 @@ fn sums_lie_within(text: &[u8], shares: &[Share], limit: i64) -> bool
     0 <= sum && sum <= limit
 }
 
-// The sum of a name on a side.
-fn amount_of(text: &[u8], side: &[Term], name: &[u8]) -> u32
-    requires { IsSide text.now side.now }
-    ensures { result ≡ amount_in (side_of text.now side.now) name.now }
+// Whether two terms have one name and one number.
+fn are_equal(text: &[u8], one: &Term, other: &Term) -> bool
+    ensures name { IsTrue result → name_at text.now one.now ≡ name_at text.now other.now }
+    ensures number { IsTrue result → one.now.count ≡ other.now.count }
 {
-    let mut sum = 0u32;
-    for term in side {
-        if name_of(text, term) == name {
-            sum += term.count;
-        }
-    }
-    sum
+    one.count == other.count && name_of(text, one) == name_of(text, other)
 }
 
-// Whether the first name of the left side has another sum on the right side.
-fn first_name_differs(text: &[u8], left: &[Term], right: &[Term]) -> bool
-    requires left { IsSide text.now left.now }
-    requires right { IsSide text.now right.now }
+// Whether both sides are the same terms in the same order.
+fn are_alike(text: &[u8], left: &[Term], right: &[Term]) -> bool
+    ensures { IsTrue result → side_of text.now left.now ≡ side_of text.now right.now }
+{
+    if left.len() != right.len() {
+        return false;
+    }
+    for i in 0..left.len() {
+        if !are_equal(text, &left[i], &right[i]) {
+            return false;
+        }
+    }
+    true
+}
+
+// Whether a side has a term of a name.
+fn has_name(text: &[u8], side: &[Term], name: &[u8]) -> bool
+    ensures { result ≡ false → amount_in (side_of text.now side.now) name.now ≡ 0 }
+{
+    for term in side {
+        if name_of(text, term) == name {
+            return true;
+        }
+    }
+    false
+}
+
+// Whether the first name of the left side is not on the right side.
+fn first_name_is_missing(text: &[u8], left: &[Term], right: &[Term]) -> bool
+    requires { IsSide text.now left.now }
     ensures { let statement = statement_of text.now left.now right.now in
         IsTrue result → SaysSame statement → ⊥ }
 {
-    match left.first() {
-        None => false,
-        Some(term) => {
-            let name = name_of(text, term);
-            amount_of(text, left, name) != amount_of(text, right, name)
-        }
+    match left {
+        [] => false,
+        [first, ..] => !has_name(text, right, name_of(text, first)),
     }
 }
 
 // Whether both sides are the same complex. It serves statements with more names than a row has places. It takes as
-// long as looking each name up, and sorting those names whose sums differ. It takes up to 28 bytes for each term.
+// long as looking each name up, and sorting those names whose sums differ; less if the sides are the same terms in one
+// order, or the first name of the left side is not on the right. It takes up to 28 bytes for each term.
 pub(crate) fn says_same(
     alloc: Global,
     text: &[u8],
@@ -140,7 +158,10 @@ pub(crate) fn says_same(
     ensures { let statement = statement_of text.now left.now right.now in
         IfOk result (λ same. IsTrue same ↔ SaysSame statement) }
 {
-    if first_name_differs(text, left, right) {
+    if are_alike(text, left, right) {
+        return Ok(true);
+    }
+    if first_name_is_missing(text, left, right) {
         return Ok(false);
     }
     let all = merged(alloc, text, left, right)?;
@@ -170,7 +191,8 @@ pub fn sums_fit(alloc: Global, text: &[u8], side: &[Term]) -> Result<bool, NoMem
     if total(side) <= MAX_AMOUNT {
         return Ok(true);
     }
-    if buckets_fit(alloc, text, side, side.len().max(MIN_BUCKETS))? {
+    // The number of terms is often a power of two, and the last bits of a mark depend on few bytes of a name.
+    if buckets_fit(alloc, text, side, (side.len() + 1).max(MIN_BUCKETS))? {
         return Ok(true);
     }
     let all = merged(alloc, text, side, &[])?;

@@ -1,6 +1,12 @@
-use Rattle.crn_net.proofs.Prelude.{◌≡◌, ℕ, List, ap, ◌∙◌, arith, pos, ◌-ℤ◌, ints, amount_in, side_of, sum_in, Share}
+use Rattle.crn_net.proofs.Prelude.{◌≡◌, ℕ, List, refl, ap, ◌∙◌, arith, pos, ◌-ℤ◌, ints, amount_in, side_of, sum_in, Share}
 use Rattle.crn_net.proofs.Sums.{numbers_most}
 use Rattle.crn_net.proofs.side_sums.says_same.Goals as goal
+
+pub returns-then-are_alike : goal.returns-then-are_alike
+returns-then-are_alike c = (
+  λ yes' name. ap (λ (s : List (List ℕ × ℕ)). amount_in s name) (c.are_alike.ensures c.if-are_alike.true),
+  λ h. refl,
+)
 
 pub merged-requires-clause-left : goal.merged-requires-clause-left
 merged-requires-clause-left c = numbers_most c.args.text.now c.args.left.now c.requires.left.amounts
