@@ -23,6 +23,7 @@ pub use Rattle.crn_text.specs.SoundLines.{IsNoStray, IsPlain, IsSoundLine, IsSou
 pub use Rattle.crn_text.specs.Spells.{AreFaultless, Fault, IsFirstFault, IsWithoutReaction, Spells, fault_on}
 pub use Rattle.crn_text.specs.Tokens.{BeginsNone, BeginsNot, IsSplitInto, IsToken, TextsAreSplitInOneWay, Token, before_comment, is_blank, is_digit, lines, token, tokens}
 unfoldable pub use Rattle.crn_text.specs.Tokens.{first_token, tokens_after}
+pub use Rattle.crn_text.specs.declared.bytes.TheConstants.{KINDS}
 pub use Rattle.crn_text.specs.declared.canonical.Piece.{Piece}
 pub use Rattle.crn_text.specs.declared.fault.TextCode.{TextCode}
 pub use Rattle.crn_text.specs.declared.fault.TextCode.TheVariants.{BadName, CoefficientTooLarge, EmptySide, NameTooLong, NoArrow, NoMemory, NoReaction, NotAscii, StrayMark, TextTooLong, ZeroCoefficient}
@@ -51,6 +52,7 @@ pub use Rattle.std.proofs.lemmas.Int.Digits.{digits_value_more}
 pub use Rattle.std.proofs.lemmas.List.{append-nil, append_cancel_left, drop_at, get_or-take, length-append, length-drop, length-map, length-take, length-take-le, length_push, map-append, map_push, take-append-drop, take-take, take_at, take_more}
 pub use Rattle.std.proofs.lemmas.List.Concat.{flat_map-append}
 pub use Rattle.std.proofs.lemmas.List.Folds.{list_all-append, list_any-append, prefix_len-append}
+pub use Rattle.std.proofs.lemmas.List.FromFn.{get_or-map-range_with_len}
 pub use Rattle.std.proofs.lemmas.List.Sums.{prefix_len-le-length, prefix_len_is, sum_by-append, sum_by-cons}
 pub use Rattle.std.proofs.lemmas.Result.{err_from_is_err_and}
 pub use Rattle.std.proofs.lemmas.Simd.{bitmask_splat, first_set_mask_l}
@@ -61,7 +63,7 @@ pub use Rattle.std.specs.Char.{digit_value}
 pub use Rattle.std.specs.Cmp.Lexicographic.{pointwise}
 pub use Rattle.std.specs.Int.{w128}
 pub use Rattle.std.specs.Int.Signed.{le_z}
-pub use Rattle.std.specs.List.{AllByRecursion, flat_map, list_all, list_any, onto_first, prefix_len, slice_split, starts_with, take_while}
+pub use Rattle.std.specs.List.{AllByRecursion, flat_map, list_all, list_any, onto_first, prefix_len, range_with_len, slice_split, starts_with, take_while}
 pub use Rattle.std.specs.Option.{MatchOption, is_some}
 pub use Rattle.std.specs.Ordering.{int_eq, ord_min}
 pub use Rattle.std.specs.Prelude.{IfOk, IsTrue, codes, decimal, filter, if◌then◌else◌, min, nat_eq, nat_le, nat_lt, negsuc, not, pos, ℤ, ◌&&◌, ◌||◌, ◌↔◌, ◌≢◌, ◌≤ℤ◌, ◌⊎◌}

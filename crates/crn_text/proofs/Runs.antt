@@ -43,6 +43,10 @@ runs_from p text run rest n is front back = record {
   all = rw (front, is) (all_prefix p text);
 }
 
+-- a text that begins with no such byte, as far as is known
+pub runs_none : (p : ℕ → Bool) (text run rest : List ℕ) → run ≡ [] → rest ≡ text → Runs p text run rest
+runs_none p text run rest none same = record { whole = rw (none, same) refl; all = rw none refl }
+
 -- a run that ends among the first n elements
 pub run_near : {X : Type 0} (p : X → Bool) (n : ℕ) (xs : List X) → n ≤ length xs → prefix_len p (take n xs) < n → prefix_len p (take n xs) ≡ prefix_len p xs
 run_near p n xs fits ends =

@@ -9,22 +9,51 @@ use crn_vec::MAX_NAME;
 // How many bytes are tested at a time.
 const BLOCK: usize = 64;
 
+// For each byte an `a` if it is a letter or an underscore, a `0` if it is a digit, and else a dot.
+static KINDS: [u8; 256] = *b"\
+    ................................\
+    ................0000000000......\
+    .aaaaaaaaaaaaaaaaaaaaaaaaaa....a\
+    .aaaaaaaaaaaaaaaaaaaaaaaaaa.....\
+    ................................\
+    ................................\
+    ................................\
+    ................................";
+
 pub(crate) fn is_digit_byte(byte: u8) -> bool
     ensures { result ≡ is_digit byte }
 {
     matches!(byte, b'0'..=b'9')
 }
 
+/// Whether a byte is a letter or an underscore.
+#[inline(always)]
 pub(crate) fn is_letter_byte(byte: u8) -> bool
+    ensures { result ≡ is_letter byte }
+{
+    KINDS[usize::from(byte)] == b'a'
+}
+
+// The same by comparisons, which serve many bytes at a time.
+fn is_compared_letter(byte: u8) -> bool
     ensures { result ≡ is_letter byte }
 {
     matches!(byte, b'a'..=b'z' | b'A'..=b'Z' | b'_')
 }
 
+// Whether a byte may be of a name, by comparisons.
 fn is_byte_of_name(byte: u8) -> bool
     ensures { result ≡ is_name_byte byte }
 {
-    is_letter_byte(byte) || is_digit_byte(byte)
+    is_compared_letter(byte) || is_digit_byte(byte)
+}
+
+// The same by the table, which is faster for one byte after another.
+#[inline(always)]
+fn is_near_byte_of_name(byte: u8) -> bool
+    ensures { result ≡ is_name_byte byte }
+{
+    KINDS[usize::from(byte)] != b'.'
 }
 
 pub(crate) fn is_blank_byte(byte: u8) -> bool
@@ -69,7 +98,10 @@ fn are_of_name(bytes: &[u8]) -> bool
 fn near_name_bytes(bytes: &[u8]) -> usize
     ensures { result ≡ prefix_len is_name_byte bytes.now }
 {
-    bytes.iter().take_while(|b| is_byte_of_name(**b)).count()
+    bytes
+        .iter()
+        .take_while(|b| is_near_byte_of_name(**b))
+        .count()
 }
 
 /// The number of bytes of a name at the start, or one more than the limit of a name if there are more.

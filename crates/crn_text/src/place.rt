@@ -47,6 +47,24 @@ fn split_number(text: &[u8]) -> (&[u8], &[u8])
     (digits, rest)
 }
 
+// Whether a text begins with a plus sign.
+#[inline(always)]
+fn begins_with_plus(text: &[u8]) -> bool {
+    !text.is_empty() && text[0] == b'+'
+}
+
+// The blanks after a name, and the rest.
+#[inline(always)]
+fn split_blanks_after_name(text: &[u8]) -> (&[u8], &[u8])
+    ensures { Runs is_blank text.now result.0.now result.1.now }
+{
+    // Of many terms most are joined without blanks.
+    if begins_with_plus(text) {
+        return text.split_at(0);
+    }
+    split_blanks(text)
+}
+
 // The name at the start of a text, and the rest; of a name above the limit perhaps a part.
 #[inline(always)]
 fn split_name(text: &[u8]) -> Option<(&[u8], &[u8])>
@@ -93,7 +111,7 @@ pub(crate) fn quick_place(text: &[u8], end: usize) -> Option<(Term, Option<&[u8]
 {
     let (digits, named) = split_number(text);
     let (name, back) = split_name(named)?;
-    let (_, left) = split_blanks(back);
+    let (_, left) = split_blanks_after_name(back);
     let after = end_of_place(left)?;
     let term = Term {
         at: (end - back.len() - name.len()) as u32,
@@ -101,6 +119,18 @@ pub(crate) fn quick_place(text: &[u8], end: usize) -> Option<(Term, Option<&[u8]
         count: count(digits),
     };
     Some((term, after))
+}
+
+// The same of any place, token by token. It is not inlined, so that a loop over places keeps its values at hand.
+#[inline(never)]
+fn place_by_tokens(text: &[u8], end: usize) -> (Option<Term>, Option<&[u8]>)
+    requires short { end ≤ MAX_TEXT }
+    requires inside { length text.now ≤ end }
+    ensures { (body : List ℕ) → OccursIn body text.now end →
+        ReadsPlace body text.now result.0 result.1 }
+{
+    let (place, after) = split_at_byte(text, b'+');
+    (read_term(place, end - text.len() + place.len()), after)
 }
 
 /// The term in the place at the start of a text, if it is one, and the part after the plus sign that ends the place. The
@@ -115,6 +145,5 @@ pub(crate) fn next_place(text: &[u8], end: usize) -> (Option<Term>, Option<&[u8]
     if let Some((term, after)) = quick_place(text, end) {
         return (Some(term), after);
     }
-    let (place, after) = split_at_byte(text, b'+');
-    (read_term(place, end - text.len() + place.len()), after)
+    place_by_tokens(text, end)
 }

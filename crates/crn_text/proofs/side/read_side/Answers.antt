@@ -19,23 +19,23 @@ pub sums_fit-requires-clause-numbers : goal.sums_fit-requires-clause-numbers
 sums_fit-requires-clause-numbers c =
     let place = c.next_place-found.ensures c.args.body.now (rest_left c.places.invariant c.in-Some.is) in
     let reads = rw c.in-Some-found.is at place.reads in
-    let push = c.deref-then-have_doubled.ensures.value ∙ c.in_ok-push.ensures.items in
-    small_counts (terms_more c.in-Some-found.term c.deref-then-have_doubled.result.now c.places.invariant c.in-Some.is place.split reads (sym c.is_within_limits.ensures ∙ c.if-not-is_within_limits.false) push)
+    let push = c.deref-then-have_grown.ensures.value ∙ c.in_ok-push.ensures.items in
+    small_counts (terms_more c.in-Some-found.term c.deref-then-have_grown.result.now c.places.invariant c.in-Some.is place.split reads (sym c.is_within_limits.ensures ∙ c.if-not-is_within_limits.false) push)
 
 pub sums_fit-requires-clause-few : goal.sums_fit-requires-clause-few
 sums_fit-requires-clause-few c =
     let place = c.next_place-found.ensures c.args.body.now (rest_left c.places.invariant c.in-Some.is) in
     let reads = rw c.in-Some-found.is at place.reads in
-    let push = c.deref-then-have_doubled.ensures.value ∙ c.in_ok-push.ensures.items in
-    few_terms (terms_more c.in-Some-found.term c.deref-then-have_doubled.result.now c.places.invariant c.in-Some.is place.split reads (sym c.is_within_limits.ensures ∙ c.if-not-is_within_limits.false) push) c.requires.occurs c.requires.short
+    let push = c.deref-then-have_grown.ensures.value ∙ c.in_ok-push.ensures.items in
+    few_terms (terms_more c.in-Some-found.term c.deref-then-have_grown.result.now c.places.invariant c.in-Some.is place.split reads (sym c.is_within_limits.ensures ∙ c.if-not-is_within_limits.false) push) c.requires.occurs c.requires.short
 
 pub returns-then-not-branch : goal.returns-then-not-branch
 returns-then-not-branch c =
     let place = c.next_place-found.ensures c.args.body.now (rest_left c.places.invariant c.in-Some.is) in
     let reads = rw c.in-Some-found.is at place.reads in
     let not_zero : is_zero (tokens c.args.side.now) ≡ false = sym c.is_single_zero.ensures ∙ c.if-is_single_zero.false in
-    let push = c.deref-then-have_doubled.ensures.value ∙ c.in_ok-push.ensures.items in
-    let more = terms_more c.in-Some-found.term c.deref-then-have_doubled.result.now c.places.invariant c.in-Some.is place.split reads (sym c.is_within_limits.ensures ∙ c.if-not-is_within_limits.false) push in
+    let push = c.deref-then-have_grown.ensures.value ∙ c.in_ok-push.ensures.items in
+    let more = terms_more c.in-Some-found.term c.deref-then-have_grown.result.now c.places.invariant c.in-Some.is place.split reads (sym c.is_within_limits.ensures ∙ c.if-not-is_within_limits.false) push in
     fault_sums c.in_ok-sums_fit.field-0 more not_zero c.in_ok-sums_fit.ensures c.if-not-branch.true
 
 pub places-preserved : goal.places-preserved
