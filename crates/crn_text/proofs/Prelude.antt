@@ -16,7 +16,7 @@ pub use Rattle.crn_text.specs.Inner.Flaws.{first_flaw, flaw_code, place_flaw, si
 pub use Rattle.crn_text.specs.Inner.Found.{AreFound, Follows, IsPiece}
 pub use Rattle.crn_text.specs.Inner.Held.{IsTrimmed, moved}
 pub use Rattle.crn_text.specs.Inner.Known.{AreKnown, AreSound, line_at}
-pub use Rattle.crn_text.specs.Inner.Pieces.{Begins, BeginsWith, IsFirstCode, IsSpelled, LineGives, NamesTerm, Numbered, OccursIn, PartsAt, ReadsPlace, ReadsSide, ReadsTerm, ReadsTerms, Runs, SplitsArrow, SplitsAt, SplitsSide, StatementGives, StatementsGive, TakesToken, TokensGive, after_arrow, after_split, count_of, first_byte, is_unmarked, is_within, token_of}
+pub use Rattle.crn_text.specs.Inner.Pieces.{Begins, BeginsWith, FindsName, FindsPlace, IsFirstCode, IsSpelled, LineGives, NamesPlace, NamesTerm, Numbered, OccursIn, PartsAt, ReadsPlace, ReadsSide, ReadsTerm, ReadsTerms, Runs, SplitsArrow, SplitsAt, SplitsSide, StatementGives, StatementsGive, TakesToken, TokensGive, after_arrow, after_split, count_of, first_byte, is_unmarked, is_within, token_of}
 pub use Rattle.crn_text.specs.Inner.Said.{AreIn, AreSaid, HasSaid, says}
 pub use Rattle.crn_text.specs.Sides.{IsStep, all_statements, arrows, by_arrow, by_arrows, is_arrow, is_arrow_kind, is_name, is_name_kind, is_number, is_number_kind, is_plus, is_plus_kind, is_side, is_stray, is_stray_kind, is_term, is_zero, line_statements, places, sides, statements_of, term_of, terms_of}
 pub use Rattle.crn_text.specs.SoundLines.{IsNoStray, IsPlain, IsSoundLine, IsSoundSide, IsSoundStatement, IsSoundTerm}

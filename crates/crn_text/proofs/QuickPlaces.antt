@@ -1,5 +1,5 @@
 -- A place that holds a name, or a number and a name, with blanks around them, read in one pass.
-use Rattle.crn_text.proofs.Prelude.{◌≡◌, ℕ, ◌+◌, ◌-◌, Bool, true, false, eqb, List, [], ◌∷◌, ◌++◌, length, Option, Some, Bor, refl, ap, ◌∙◌, append_assoc, arith, list_all, list_any, and_parts, nat_tests, length-append, list_any-append, is_letter, is_name_byte, begins_name, name_at, Term, Token, token, tokens, tokens_after, is_digit, is_blank, Number, Name, OccursIn, after_split, Runs, Numbered, IsSpelled, ReadsTerm, ReadsPlace, count_of}
+use Rattle.crn_text.proofs.Prelude.{◌≡◌, ℕ, ◌+◌, ◌-◌, Bool, true, false, eqb, List, [], ◌∷◌, ◌++◌, length, Option, Some, None, Bor, refl, ap, ◌∙◌, append_assoc, arith, list_all, list_any, and_parts, nat_tests, list_any-append, is_letter, is_name_byte, begins_name, name_at, Term, Token, token, tokens, tokens_after, is_digit, is_blank, Number, Name, OccursIn, after_split, Runs, Numbered, IsSpelled, ReadsTerm, ReadsPlace, count_of, NamesPlace, FindsName, FindsPlace}
 use Rattle.crn_text.proofs.CanonicalTokens.{stops, letter_no_digit, name_bytes, tokens_number, tokens_name}
 use Rattle.crn_text.proofs.Terms.{occurs_first, occurs_last, piece_at}
 use Rattle.crn_text.proofs.OneSplit.{blanks_prefix}
@@ -82,27 +82,31 @@ pub not_numbered : (text ds rest : List ℕ) → ds ≡ [] → rest ≡ text →
 not_numbered text ds rest none same = record { before = []; after = []; whole = rw (none, same) refl; first = refl; digits = rw none refl; last = refl }
 
 -- a name with what may be before it and after it
-pub quick_reads : (body text ds named name back after left : List ℕ) (end : ℕ) (next : Option (Bor (List ℕ))) (t : Term) → OccursIn body text end → Numbered text ds named
-    → (named ≡ name ++ back) × (begins_name name ≡ true) → Runs is_blank back after left → left ≡ after_split 43 next → t.at ≡ end - length back - length name → t.length ≡ length name → t.count ≡ count_of ds → ReadsPlace body text (Some t) next
-quick_reads body text ds named name back after left end next t h r split r5 ends at long counts =
+quick_reads : (body text ds named : List ℕ) (end count : ℕ) (next : Option (Bor (List ℕ))) (t : Term) → OccursIn body text end → Numbered text ds named → count ≡ count_of ds → NamesPlace named end count t next → ReadsPlace body text (Some t) next
+quick_reads body text ds named end count next t h r number n =
     let before : List ℕ = r.before in
     let bs : List ℕ = r.after in
+    let name : List ℕ = n.name in
+    let after : List ℕ = n.blanks in
     let place : List ℕ = before ++ (ds ++ (bs ++ (name ++ after))) in
     let to_name : text ≡ (before ++ (ds ++ bs)) ++ named = r.whole ∙ simp append_assoc refl in
-    let rest : named ≡ name ++ (after ++ after_split 43 next) = split.0 ∙ ap (λ (u : List ℕ). name ++ u) (r5.whole ∙ ap (λ (u : List ℕ). after ++ u) ends) in
-    let whole : text ≡ place ++ after_split 43 next = to_name ∙ ap (λ (u : List ℕ). (before ++ (ds ++ bs)) ++ u) rest ∙ simp append_assoc refl in
+    let whole : text ≡ place ++ after_split 43 next = to_name ∙ ap (λ (u : List ℕ). (before ++ (ds ++ bs)) ++ u) n.whole ∙ simp append_assoc refl in
     let there : OccursIn body named end = occurs_last body text (before ++ (ds ++ bs)) named end h to_name in
-    let occurs : OccursIn body name (end - length named + length name) = occurs_first body named name back end there split.0 in
-    let size : length named ≡ length name + length back = ap length split.0 ∙ length-append name back in
-    let here = piece_at body name (end - length named + length name) t.at occurs (omega (arith, there.ends)) in
-    let bytes : name_at body t ≡ name = rw long here.0 in
-    let spelled : IsSpelled body t = record { inside = rw long here.1; named = rw bytes split.1 } in
+    let occurs : OccursIn body name (end - length named + length name) = occurs_first body named name (after ++ after_split 43 next) end there n.whole in
+    let here = piece_at body name (end - length named + length name) t.at occurs (omega (arith, there.ends, n.at)) in
+    let bytes : name_at body t ≡ name = rw n.long here.0 in
+    let spelled : IsSpelled body t = record { inside = rw n.long here.1; named = rw bytes n.named } in
     record {
       place = place;
       split = record {
         whole = whole;
         apart = none_joined (λ b. eqb b 43) before (ds ++ (bs ++ (name ++ after))) (no_plus is_blank before blank_no_plus r.first) (none_joined (λ b. eqb b 43) ds (bs ++ (name ++ after)) (no_plus is_digit ds digit_no_plus r.digits) (none_joined (λ b. eqb b 43) bs (name ++ after) (no_plus is_blank bs blank_no_plus r.last)
-            (none_joined (λ b. eqb b 43) name after (no_plus is_name_byte name name_no_plus (name_bytes name split.1)) (no_plus is_blank after blank_no_plus r5.all))));
+            (none_joined (λ b. eqb b 43) name after (no_plus is_name_byte name name_no_plus (name_bytes name n.named)) (no_plus is_blank after blank_no_plus n.blank))));
       };
-      reads = reads_tokens body place ds name t (place_tokens before ds bs name after r.first r.digits r.last split.1 r5.all) spelled bytes counts;
+      reads = reads_tokens body place ds name t (place_tokens before ds bs name after r.first r.digits r.last n.named n.blank) spelled bytes (n.counts ∙ number);
     }
+
+-- the same if a term is found
+pub quick_finds : (body text ds named : List ℕ) (end count : ℕ) (found : Option (Term × Option (Bor (List ℕ)))) → OccursIn body text end → Numbered text ds named → count ≡ count_of ds → FindsName named end count found → FindsPlace body text found
+quick_finds body text ds named end count None h r number n = tt
+quick_finds body text ds named end count (Some f) h r number n = quick_reads body text ds named end count f.1 f.0 h r number n

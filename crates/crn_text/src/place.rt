@@ -1,8 +1,8 @@
-ghost use Rattle.std.specs.Prelude.{◌≡◌, ◌≤◌, IsTrue, ℕ, List, length, take, min, true};
+ghost use Rattle.std.specs.Prelude.{◌≡◌, ◌≤◌, IsTrue, ℕ, List, length, slice_index};
 ghost use Rattle.std.specs.List.{list_all};
-ghost use Rattle.crn_vec.specs.Network.{is_name_byte};
+ghost use Rattle.crn_vec.specs.Network.{is_letter};
 ghost use Rattle.crn_text.specs.Tokens.{is_blank, is_digit};
-ghost use Rattle.crn_text.specs.Inner.Pieces.{OccursIn, ReadsPlace, Runs, Numbered, StartsNamed, EndsPlace, FindsPlace, count_of};
+ghost use Rattle.crn_text.specs.Inner.Pieces.{OccursIn, ReadsPlace, Runs, Numbered, StartsNamed, EndsPlace, FindsName, FindsPlace, count_of};
 
 use crate::bytes::{blanks, digits, is_letter_byte, short_name_bytes};
 use crate::side::{number, read_term};
@@ -28,8 +28,14 @@ fn split_digits(text: &[u8]) -> (&[u8], &[u8])
 
 // Whether a text begins as a name.
 #[inline(always)]
-fn begins_with_letter(text: &[u8]) -> bool {
-    !text.is_empty() && is_letter_byte(text[0])
+fn begins_with_letter(text: &[u8]) -> bool
+    ensures some { IsTrue result → 1 ≤ length text.now }
+    ensures letter { IsTrue result → IsTrue (is_letter (slice_index text.now 0)) }
+{
+    match text {
+        [] => false,
+        [first, ..] => is_letter_byte(*first),
+    }
 }
 
 // The digits at the start of a text, and what follows them, without the blanks before and after them.
@@ -37,10 +43,6 @@ fn begins_with_letter(text: &[u8]) -> bool {
 fn split_number(text: &[u8]) -> (&[u8], &[u8])
     ensures { Numbered text.now result.0.now result.1.now }
 {
-    // Many places begin with the name.
-    if begins_with_letter(text) {
-        return text.split_at(0);
-    }
     let (_, start) = split_blanks(text);
     let (digits, more) = split_digits(start);
     let (_, rest) = split_blanks(more);
@@ -68,10 +70,12 @@ fn split_blanks_after_name(text: &[u8]) -> (&[u8], &[u8])
 // The name at the start of a text, and the rest; of a name above the limit perhaps a part.
 #[inline(always)]
 fn split_name(text: &[u8]) -> Option<(&[u8], &[u8])>
+    requires some { 1 ≤ length text.now }
+    requires letter { IsTrue (is_letter (slice_index text.now 0)) }
     ensures { StartsNamed text.now result }
 {
     let size = short_name_bytes(text);
-    if size == 0 || !is_letter_byte(text[0]) {
+    if size == 0 {
         return None;
     }
     Some(text.split_at(size))
@@ -101,6 +105,27 @@ fn count(digits: &[u8]) -> u32
     number(digits)
 }
 
+// The term of the name at the start of a text, if its place ends after it, and the part after the place. The text ends at
+// `end` in the body.
+#[inline(always)]
+fn name_place(text: &[u8], end: usize, count: u32) -> Option<(Term, Option<&[u8]>)>
+    requires short { end ≤ MAX_TEXT }
+    requires inside { length text.now ≤ end }
+    requires some { 1 ≤ length text.now }
+    requires letter { IsTrue (is_letter (slice_index text.now 0)) }
+    ensures { FindsName text.now end count result }
+{
+    let (name, back) = split_name(text)?;
+    let (_, left) = split_blanks_after_name(back);
+    let after = end_of_place(left)?;
+    let term = Term {
+        at: (end - text.len()) as u32,
+        length: name.len() as u32,
+        count,
+    };
+    Some((term, after))
+}
+
 /// The term in the place at the start of a text, and the part after the plus sign that ends the place. Nearly each place
 /// with a term is found so, in one pass; `None` says nothing. The text ends at `end` in the body.
 #[inline(always)]
@@ -109,16 +134,15 @@ pub(crate) fn quick_place(text: &[u8], end: usize) -> Option<(Term, Option<&[u8]
     requires inside { length text.now ≤ end }
     ensures { (body : List ℕ) → OccursIn body text.now end → FindsPlace body text.now result }
 {
+    // Many places begin with the name.
+    if begins_with_letter(text) {
+        return name_place(text, end, 1);
+    }
     let (digits, named) = split_number(text);
-    let (name, back) = split_name(named)?;
-    let (_, left) = split_blanks_after_name(back);
-    let after = end_of_place(left)?;
-    let term = Term {
-        at: (end - back.len() - name.len()) as u32,
-        length: name.len() as u32,
-        count: count(digits),
-    };
-    Some((term, after))
+    if !begins_with_letter(named) {
+        return None;
+    }
+    name_place(named, end, count(digits))
 }
 
 // The same of any place, token by token. It is not inlined, so that a loop over places keeps its values at hand.
