@@ -11,8 +11,9 @@ use crate::term::Term;
 use crn_vec::{MAX_AMOUNT, MAX_TERMS, NoMemory};
 use std::alloc::Global;
 
-// The least number of buckets that sums are tried in.
-const MIN_BUCKETS: usize = 1023;
+// The least number of buckets that sums are tried in. It is a prime far from powers of two, so that names which differ in
+// their last two bytes alone, as S7 and S12, are seldom in one.
+const MIN_BUCKETS: usize = 967;
 
 // At most `length` bytes of a text from place `at` on. The two `min`s make it total: the closure that compares two
 // shares can't have a precondition.
