@@ -1,7 +1,5 @@
 -- Differences of vectors, place by place.
-use Rattle.crn_net.proofs.Prelude.{◌≡◌, ℕ, zero, suc, ◌<◌, ◌+◌, List, [], ◌∷◌, ◌++◌, length, get_or, take, map, refl, sym, ap, ap₂, subst, ◌∙◌, add-one, arith, ℤ, ◌-ℤ◌, AllByRecursion, ints, get_or-map, length-map, map_more, take_all, Net, IsPartialNetwork, IsNetwork, IsAmount, IsVector, JoinsTwo, minus, reaction_vector, AreWithin, MAX_SPECIES, MAX_AMOUNT, net_of, vectors_of, IsRow, AreRows, all_in, all_at, all_from, map_in, map_same, map_twice}
-use Rattle.crn_net.proofs.Rows.{row_with_zeros}
-use Rattle.crn_net.proofs.Whole.{amounts_with_zeros}
+use Rattle.crn_net.proofs.Prelude.{difference_of, ◌≡◌, ℕ, zero, suc, ◌<◌, ◌≤◌, ◌+◌, List, [], ◌∷◌, ◌++◌, length, get_or, take, map, refl, sym, ap, ap₂, subst, ◌∙◌, add-one, arith, ℤ, pos, ◌-ℤ◌, AllByRecursion, ints, get_or-map, get_or-take, length-map, length-take-le, map_more, map_push, Net, IsPartialNetwork, IsNetwork, IsAmount, IsVector, JoinsTwo, minus, reaction_vector, AreWithin, MAX_AMOUNT, net_of, vectors_of, all_at, map_same}
 
 minus_suc : (a b : List ℤ) (s : ℕ) (d e : ℤ) → s < length a → s < length b → minus (take (suc s) a) (take (suc s) b) ≡ minus (take s a) (take s b) ++ (get_or a s d -ℤ get_or b s e) ∷ []
 minus_suc [] b s d e p q = absurd (omega arith)
@@ -12,12 +10,6 @@ minus_suc (x ∷ a) (y ∷ b) (suc s) d e p q = ap (λ (t : List ℤ). (x -ℤ y
 pub minus_more : (a b : List ℤ) (s : ℕ) (d e : ℤ) → s < length a → s < length b → minus (take (s + 1) a) (take (s + 1) b) ≡ minus (take s a) (take s b) ++ (get_or a s d -ℤ get_or b s e) ∷ []
 minus_more a b s d e p q = rw add-one (minus_suc a b s d e p q)
 
-pub take_minus : (n : ℕ) (a b : List ℤ) → take n (minus a b) ≡ minus (take n a) (take n b)
-take_minus zero a b = refl
-take_minus (suc n) [] b = refl
-take_minus (suc n) (x ∷ a) [] = refl
-take_minus (suc n) (x ∷ a) (y ∷ b) = ap (λ (t : List ℤ). (x -ℤ y) ∷ t) (take_minus n a b)
-
 pub minus_within : (a b : List ℤ) → AllByRecursion IsAmount a → AllByRecursion IsAmount b → AreWithin MAX_AMOUNT (minus a b)
 minus_within [] b p q = tt
 minus_within (x ∷ a) [] p q = tt
@@ -25,26 +17,52 @@ minus_within (x ∷ a) (y ∷ b) p q = (let xl = p.0.0 in let xm = p.0.1 in let 
 
 -- ---- tables of a network
 
--- the rows of a network hold amounts at all their places
-pub row_amounts : (names : List (List ℕ)) (rows : List (List ℤ)) (reactions : List (ℕ × ℕ)) → IsPartialNetwork (net_of names rows reactions) → AreRows (length names) rows → AllByRecursion (λ row. AllByRecursion IsAmount row) rows
-row_amounts names rows reactions net padded = all_from (λ row. AllByRecursion IsAmount row) rows (λ row i.
-    let n = length names in
-    let is = all_in (IsRow n) rows row padded i in
-    let long = is.long in
-    let v = all_in (IsVector n) (vectors_of n rows) (take n row) net.vectors (map_in (take n) rows row i) in
-    let most = net.species_limit in
-    subst (AllByRecursion IsAmount) (row_with_zeros n MAX_SPECIES row most (omega arith) is ∙ take_all MAX_SPECIES row (omega (arith, long))) (amounts_with_zeros MAX_SPECIES (take n row) v.1))
+-- the complexes hold amounts
+vectors_hold : (n : ℕ) (vectors : List (List ℤ)) → AllByRecursion (IsVector n) vectors → AllByRecursion (λ row. AllByRecursion IsAmount row) vectors
+vectors_hold n [] h = tt
+vectors_hold n (v ∷ vectors) h = (h.0.1, vectors_hold n vectors h.1)
 
-pub vectors_are : (names : List (List ℕ)) (rows : List (List ℤ)) (reactions : List (ℕ × ℕ)) → AllByRecursion (JoinsTwo (length rows)) reactions → vectors_of (length names) (map (λ r. minus (get_or rows r.1 []) (get_or rows r.0 [])) reactions) ≡ map (reaction_vector (net_of names rows reactions)) reactions
-vectors_are names rows reactions apart =
-    let n = length names in
-    map_twice (λ r. minus (get_or rows r.1 []) (get_or rows r.0 [])) (take n) reactions
-    ∙ map_same (λ r. take n (minus (get_or rows r.1 []) (get_or rows r.0 []))) (reaction_vector (net_of names rows reactions)) reactions (λ r i.
-    let j = all_in (JoinsTwo (length rows)) reactions r apart i in
-    take_minus n (get_or rows r.1 []) (get_or rows r.0 []) ∙ ap₂ minus (sym (get_or-map (take n) rows r.1 [] [] j.2)) (sym (get_or-map (take n) rows r.0 [] [] j.1)))
+-- so do the rows at the places of the species
+pub row_holds : (n : ℕ) (rows : List (List ℤ)) (c : ℕ) → AllByRecursion (λ row. AllByRecursion IsAmount row) (vectors_of n rows) → c < length rows → AllByRecursion IsAmount (take n (get_or rows c []))
+row_holds n rows c all lt =
+    let count = length-map rows (take n) in
+    subst (AllByRecursion IsAmount) (get_or-map (take n) rows c [] [] lt) (all_at (λ row. AllByRecursion IsAmount row) (vectors_of n rows) c [] all (omega (arith, lt, count)))
 
-pub joins_rows : (names : List (List ℕ)) (rows : List (List ℤ)) (reactions : List (ℕ × ℕ)) → IsPartialNetwork (net_of names rows reactions) → AllByRecursion (JoinsTwo (length rows)) reactions
-joins_rows names rows reactions net = let count = length-map rows (take (length names)) in subst (λ (k : ℕ). AllByRecursion (JoinsTwo k) reactions) count net.apart
+pub entry_holds : (n : ℕ) (row : List ℤ) (s : ℕ) → AllByRecursion IsAmount (take n row) → n ≤ length row → s < n → IsAmount (get_or row s (pos 0))
+entry_holds n row s all long lt =
+    let prefix : length (take n row) ≡ n = length-take-le n row long in
+    subst IsAmount (get_or-take n row s (pos 0) lt) (all_at IsAmount (take n row) s (pos 0) all (omega (arith, lt, prefix)))
+
+-- a table with the complexes of the rows
+pub rows_same : (names : List (List ℕ)) (rows seen made : List (List ℤ)) (n : ℕ) → n ≡ length names → seen ≡ rows → vectors_of n made ≡ vectors_of n seen → vectors_of (length names) made ≡ vectors_of (length names) rows
+rows_same names rows seen made n width is e = subst (λ (k : ℕ). vectors_of k made ≡ vectors_of k rows) width (e ∙ ap (vectors_of n) is)
+
+net_with : List (List ℕ) → List (ℕ × ℕ) → List (List ℤ) → Net
+net_with names reactions complexes = record { names = names; complexes = complexes; reactions = reactions }
+
+pub net_same : (names : List (List ℕ)) (rows made : List (List ℤ)) (reactions : List (ℕ × ℕ)) → vectors_of (length names) made ≡ vectors_of (length names) rows → net_of names made reactions ≡ net_of names rows reactions
+unfolding net_with
+net_same names rows made reactions e = ap (net_with names reactions) e
+
+pub joins_rows : (names : List (List ℕ)) (rows made seen : List (List ℤ)) (reactions : List (ℕ × ℕ)) → IsPartialNetwork (net_of names rows reactions) → vectors_of (length names) made ≡ vectors_of (length names) rows → seen ≡ made → AllByRecursion (JoinsTwo (length seen)) reactions
+joins_rows names rows made seen reactions net e is =
+    let count : length (vectors_of (length names) rows) ≡ length seen = ap length (sym e) ∙ length-map made (take (length names)) ∙ ap length (sym is) in
+    subst (λ (k : ℕ). AllByRecursion (JoinsTwo k) reactions) count net.apart
+
+pub made_amounts : (names : List (List ℕ)) (rows made seen : List (List ℤ)) (reactions : List (ℕ × ℕ)) (n : ℕ) → IsPartialNetwork (net_of names rows reactions) → n ≡ length names → vectors_of (length names) made ≡ vectors_of (length names) rows → seen ≡ made
+    → AllByRecursion (λ row. AllByRecursion IsAmount row) (vectors_of n seen)
+made_amounts names rows made seen reactions n net width e is =
+    let same = ap₂ (λ (k : ℕ) (t : List (List ℤ)). vectors_of k t) width is ∙ e in
+    subst (AllByRecursion (λ row. AllByRecursion IsAmount row)) (sym same) (vectors_hold (length names) (vectors_of (length names) rows) net.vectors)
+
+pub made_vectors : (names : List (List ℕ)) (rows seen : List (List ℤ)) (reactions seen_reactions : List (ℕ × ℕ)) (made : List (List ℤ)) (n : ℕ) → n ≡ length names → seen ≡ rows → seen_reactions ≡ reactions
+    → vectors_of n made ≡ map (difference_of (vectors_of n seen)) seen_reactions → vectors_of (length names) made ≡ map (reaction_vector (net_of names rows reactions)) reactions
+made_vectors names rows seen reactions seen_reactions made n width a b e =
+    let complexes = ap₂ (λ (k : ℕ) (t : List (List ℤ)). vectors_of k t) width a in
+    ap (λ (k : ℕ). vectors_of k made) (sym width)
+    ∙ e
+    ∙ ap₂ (λ (cs : List (List ℤ)) (rs : List (ℕ × ℕ)). map (difference_of cs) rs) complexes b
+    ∙ map_same (difference_of (vectors_of (length names) rows)) (reaction_vector (net_of names rows reactions)) reactions (λ r i. refl)
 
 -- ---- what the accessors lend
 
@@ -64,13 +82,14 @@ lent_vector m rows vectors r row e lt is =
 
 -- ---- the table of differences
 
-pub one_difference : (rows : List (List ℤ)) (reactions : List (ℕ × ℕ)) (i : ℕ) (made made' : List (List ℤ)) (row : List ℤ) → i < length reactions → made ≡ map (λ r. minus (get_or rows r.1 []) (get_or rows r.0 [])) (take i reactions)
-    → row ≡ minus (get_or rows (get_or reactions i (0, 0)).1 []) (get_or rows (get_or reactions i (0, 0)).0 []) → made' ≡ made ++ row ∷ [] → made' ≡ map (λ r. minus (get_or rows r.1 []) (get_or rows r.0 [])) (take (i + 1) reactions)
-one_difference rows reactions i made made' row lt is at new =
-    new ∙ ap₂ (λ (t : List (List ℤ)) (u : List ℤ). t ++ u ∷ []) is at ∙ sym (map_more (λ r. minus (get_or rows r.1 []) (get_or rows r.0 [])) reactions i (0, 0) lt)
-
-pub made_vectors : (names : List (List ℕ)) (rows seen_rows : List (List ℤ)) (reactions seen_reactions : List (ℕ × ℕ)) (made : List (List ℤ)) → AllByRecursion (JoinsTwo (length rows)) reactions → seen_rows ≡ rows → seen_reactions ≡ reactions
-    → made ≡ map (λ r. minus (get_or seen_rows r.1 []) (get_or seen_rows r.0 [])) seen_reactions → vectors_of (length names) made ≡ map (reaction_vector (net_of names rows reactions)) reactions
-made_vectors names rows seen_rows reactions seen_reactions made apart a b is =
-    let f = λ (t : List (List ℤ)) (u : List (ℕ × ℕ)). map (λ r. minus (get_or t r.1 []) (get_or t r.0 [])) u in
-    ap (vectors_of (length names)) (is ∙ ap₂ f a b) ∙ vectors_are names rows reactions apart
+pub one_difference : (n : ℕ) (rows : List (List ℤ)) (reactions : List (ℕ × ℕ)) (i : ℕ) (made made' : List (List ℤ)) (row : List ℤ) → i < length reactions → AllByRecursion (JoinsTwo (length rows)) reactions
+    → vectors_of n made ≡ map (difference_of (vectors_of n rows)) (take i reactions) → take n row ≡ minus (take n (get_or rows (get_or reactions i (0, 0)).1 [])) (take n (get_or rows (get_or reactions i (0, 0)).0 [])) → made' ≡ made ++ row ∷ []
+    → vectors_of n made' ≡ map (difference_of (vectors_of n rows)) (take (i + 1) reactions)
+one_difference n rows reactions i made made' row lt apart is at new =
+    let j = all_at (JoinsTwo (length rows)) reactions i (0, 0) apart lt in
+    let r = get_or reactions i (0, 0) in
+    let here = at ∙ ap₂ minus (sym (get_or-map (take n) rows r.1 [] [] j.2)) (sym (get_or-map (take n) rows r.0 [] [] j.1)) in
+    ap (vectors_of n) new
+    ∙ map_push (take n) made row
+    ∙ ap₂ (λ (t : List (List ℤ)) (u : List ℤ). t ++ u ∷ []) is here
+    ∙ sym (map_more (difference_of (vectors_of n rows)) reactions i (0, 0) lt)

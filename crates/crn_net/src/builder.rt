@@ -86,8 +86,9 @@ impl NetBuilder {
             return Err(NetFault::NoReaction);
         }
         let alloc = *self.reactions.allocator();
-        let rows = full_rows(alloc, self.rows.as_slice())?;
-        let differences = differences(alloc, &rows, &self.reactions)?;
+        let species = self.names.len();
+        let rows = full_rows(alloc, self.rows.as_slice(), species)?;
+        let differences = differences(alloc, &rows, &self.reactions, species)?;
         let NetBuilder {
             names,
             reactions,

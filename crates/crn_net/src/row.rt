@@ -1,4 +1,4 @@
-ghost use Rattle.std.specs.Prelude.{◌≡◌, ◌<◌, pos, ◌+ℤ◌, ◌≤ℤ◌, replicate, slice_index_or, slice_set};
+ghost use Rattle.std.specs.Prelude.{◌≡◌, ◌<◌, ◌≤◌, pos, ◌+ℤ◌, ◌≤ℤ◌, replicate, slice_index_or, slice_set, take};
 ghost use Rattle.std.specs.Ordering.{int_eq};
 ghost use Rattle.std.proofs.Common.{ap};
 ghost use Rattle.std.specs.Cmp.{partial_equiv_from_equiv, int_eq_equiv};
@@ -70,12 +70,13 @@ impl Amounts {
             .wrapping_add(weight(place).wrapping_mul(count as usize));
     }
 
-    // The row with numbers as large as a network's vectors have them.
-    pub(crate) fn full_row(&self) -> Row
-        ensures { result ≡ self.now }
+    // A row with the amounts of the first species, as large as a network's vectors have them, and zeros after them.
+    pub(crate) fn full_row(&self, species: usize) -> Row
+        requires { species ≤ MAX_SPECIES }
+        ensures { take species result ≡ take species self.now }
     {
         let mut row = [0; MAX_SPECIES];
-        for s in 0..MAX_SPECIES {
+        for s in 0..species {
             row[s] = i128::from(self.row[s]);
         }
         row

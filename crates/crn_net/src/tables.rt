@@ -3,7 +3,8 @@ ghost use Rattle.std.specs.List.{list_any, AllByRecursion};
 ghost use Rattle.crn_vec.specs.Lists.{AreDistinct};
 ghost use Rattle.crn_vec.specs.Network.{IsAmount, JoinsTwo, minus};
 ghost use Rattle.crn_net.specs.Terms.{side_of, statement_of, IsSide};
-ghost use Rattle.crn_net.specs.Inner.Steps.{AreNames, AreSides, AreTables, AreZeros, NotesName, NotesSide, NotesBoth, TellsApart, IsCrowded, NotesSides, NotesRow, NotesReaction, BuildGives};
+ghost use Rattle.crn_net.specs.Views.{vectors_of};
+ghost use Rattle.crn_net.specs.Inner.Steps.{AreNames, AreSides, AreTables, AreZeros, NotesName, NotesSide, NotesBoth, TellsApart, IsCrowded, NotesSides, NotesRow, NotesReaction, BuildGives, difference_of};
 
 use crate::buckets::mark_of;
 use crate::fault::NetFault;
@@ -55,6 +56,24 @@ fn note_name(names: &mut Names, guesses: &mut Guesses, name: &[u8]) -> Result<us
     Ok(place)
 }
 
+// The same, if the name may follow the one that was noted before, as in a text that lists species in their order.
+fn note_next(
+    names: &mut Names,
+    guesses: &mut Guesses,
+    next: usize,
+    name: &[u8],
+) -> Result<usize, NetFault>
+    requires few { length names.old.keys ≤ MAX_SPECIES }
+    requires short { length name.now ≤ MAX_NAME }
+    ensures notes { NotesName names.old.keys name.now result names.new.keys }
+    ensures same { take (length names.old.keys) names.new.keys ≡ names.old.keys }
+{
+    if is_name_at(names, next, name) {
+        return Ok(next);
+    }
+    note_name(names, guesses, name)
+}
+
 // The amounts of both sides of a statement.
 pub(crate) type RowPair = (Amounts, Amounts);
 
@@ -74,9 +93,12 @@ fn note_side(
         result names.new.keys row.new }
     ensures same { take (length names.old.keys) names.new.keys ≡ names.old.keys }
 {
+    // No name is here.
+    let mut next = MAX_SPECIES;
     for term in side {
-        let place = note_name(names, guesses, name_of(text, term))?;
+        let place = note_next(names, guesses, next, name_of(text, term))?;
         row.add(place, term.count);
+        next = place.wrapping_add(1);
     }
     Ok(())
 }
@@ -273,44 +295,53 @@ pub(crate) fn build(
     note_reaction(reactions, &mut guesses.reactions, (reactant, product))
 }
 
-// The rows with numbers as large as a network's vectors have them.
-pub(crate) fn full_rows(alloc: Global, rows: &[Amounts]) -> Result<Vec<Row>, NoMemory>
-    ensures { IfOk result (λ made. made.items ≡ rows.now) }
+// The rows with numbers as large as a network's vectors have them, of which there are so many as species.
+pub(crate) fn full_rows(
+    alloc: Global,
+    rows: &[Amounts],
+    species: usize,
+) -> Result<Vec<Row>, NoMemory>
+    requires { species ≤ MAX_SPECIES }
+    ensures { IfOk result (λ made. vectors_of species made.items ≡ vectors_of species rows.now) }
 {
     let mut made = Vec::with_capacity(alloc, rows.len())?;
     for row in rows {
-        made.push(row.full_row())?;
+        made.push(row.full_row(species))?;
     }
     Ok(made)
 }
 
-// One row minus another, entry by entry.
-fn difference(from: &Row, take: &Row) -> Row
-    requires from { AllByRecursion IsAmount from.now }
-    requires take { AllByRecursion IsAmount take.now }
-    ensures { result ≡ minus from.now take.now }
+// One row minus another, entry by entry, at the places of the species.
+fn difference(product: &Row, reactant: &Row, species: usize) -> Row
+    requires species { species ≤ MAX_SPECIES }
+    requires product { AllByRecursion IsAmount (take species product.now) }
+    requires reactant { AllByRecursion IsAmount (take species reactant.now) }
+    ensures { take species result ≡ minus (take species product.now) (take species reactant.now) }
 {
     let mut row = [0; MAX_SPECIES];
-    for s in 0..MAX_SPECIES {
-        row[s] = from[s] - take[s];
+    for s in 0..species {
+        row[s] = product[s] - reactant[s];
     }
     row
 }
 
-// For each reaction, the row of its product minus that of its reactant.
+// For each reaction, the row of its product minus that of its reactant, at the places of the species.
 pub(crate) fn differences(
     alloc: Global,
     rows: &[Row],
     reactions: &[(usize, usize)],
+    species: usize,
 ) -> Result<Vec<Row>, NoMemory>
-    requires amounts { AllByRecursion (λ row. AllByRecursion IsAmount row) rows.now }
+    requires species { species ≤ MAX_SPECIES }
+    requires amounts { AllByRecursion (λ row. AllByRecursion IsAmount row)
+        (vectors_of species rows.now) }
     requires places { AllByRecursion (JoinsTwo (length rows.now)) reactions.now }
-    ensures { let row = λ (c : ℕ). slice_index_or rows.now c [] in
-        IfOk result (λ made. made.items ≡ map (λ r. minus (row r.1) (row r.0)) reactions.now) }
+    ensures { let vector = difference_of (vectors_of species rows.now) in
+        IfOk result (λ made. vectors_of species made.items ≡ map vector reactions.now) }
 {
     let mut made = Vec::with_capacity(alloc, reactions.len())?;
     for reaction in reactions {
-        made.push(difference(&rows[reaction.1], &rows[reaction.0]))?;
+        made.push(difference(&rows[reaction.1], &rows[reaction.0], species))?;
     }
     Ok(made)
 }

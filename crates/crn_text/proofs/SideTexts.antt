@@ -2,9 +2,6 @@
 use Rattle.crn_text.proofs.Prelude.{◌≡◌, ℕ, ◌+◌, ◌≤◌, List, [], ◌∷◌, ◌++◌, sym, ap, ◌∙◌, append_assoc, arith, decimal, decimal_digit, decimal_step}
 use Rattle.std.specs.Prelude.{◌<◌, ◌/◌, ◌%◌}
 
-pub one_digit : (text before : List ℕ) (n : ℕ) → n < 10 → before ≡ text → before ++ (48 + n % 10) ∷ [] ≡ text ++ decimal n
-one_digit text before n lt is = let e : n % 10 ≡ n = omega arith in rw (e, is) (ap (λ (t : List ℕ). text ++ t) (sym (decimal_digit n lt)))
-
 pub two_digits : (text before : List ℕ) (n : ℕ) → 10 ≤ n → n ≤ 99 → before ≡ text ++ (48 + n / 10) ∷ [] → before ++ (48 + n % 10) ∷ [] ≡ text ++ decimal n
 two_digits text before n ge le is =
     let tens : decimal (n / 10) ≡ (48 + n / 10) ∷ [] = decimal_digit (n / 10) (omega arith) in

@@ -3,7 +3,7 @@
 use Rattle.std.specs.Prelude.{◌≡◌, ◌≤◌, ◌<◌, ◌⊎◌, ℕ, ℤ, List, [], ◌∷◌, ◌++◌, length, map, take, replicate, slice_index_or, pos, Result, Ok, Err}
 use Rattle.std.specs.Str.{bytes_eq}
 use Rattle.crn_vec.specs.Lists.{IsIn, AreDistinct, firsts}
-use Rattle.crn_vec.specs.Network.{amount_in, amounts_in, names_in, Statement}
+use Rattle.crn_vec.specs.Network.{amount_in, amounts_in, minus, names_in, Statement}
 use Rattle.crn_vec.specs.declared.limits.TheConstants.{MAX_SPECIES, MAX_COMPLEXES, MAX_REACTIONS}
 use Rattle.crn_net.specs.Terms.{IsSide}
 use Rattle.crn_net.specs.Views.{IsRow}
@@ -185,3 +185,10 @@ BuildGives names rows reactions s (Err TooManyReactions) names' rows' reactions'
     (SaysSame s → ⊥) × IsOver names rows reactions s
 BuildGives names rows reactions s (Err NoMemory) names' rows' reactions' = Unit {0}
 BuildGives names rows reactions s (Err fault) names' rows' reactions' = ⊥
+
+-- ---- the vectors of reactions
+
+-- the complex that the reaction goes to, minus that which it goes from
+abbrev pub difference_of : List (List ℤ) → ℕ × ℕ → List ℤ
+difference_of complexes r =
+    minus (slice_index_or complexes r.1 []) (slice_index_or complexes r.0 [])

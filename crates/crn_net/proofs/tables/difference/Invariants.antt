@@ -4,5 +4,5 @@ use Rattle.crn_net.proofs.tables.difference.Given as goal
 abbrev pub invariant-loop-s : goal.invariant-loop-s
 invariant-loop-s l = record {
   long : length l.row ≡ MAX_SPECIES;
-  are : take l.s l.row ≡ minus (take l.s l.from) (take l.s l.take);
+  are : take l.s l.row ≡ minus (take l.s l.product) (take l.s l.reactant);
 }

@@ -1,5 +1,5 @@
-use Rattle.crn_net.proofs.Prelude.{◌≡◌, take, map, get_or, [], minus}
+use Rattle.crn_net.proofs.Prelude.{difference_of, ◌≡◌, take, map, vectors_of}
 use Rattle.crn_net.proofs.tables.differences.Given as goal
 
 abbrev pub invariant-loop-reaction : goal.invariant-loop-reaction
-invariant-loop-reaction l = l.made.items ≡ map (λ r. minus (get_or l.rows r.1 []) (get_or l.rows r.0 [])) (take l.reaction-index l.reactions)
+invariant-loop-reaction l = vectors_of l.species l.made.items ≡ map (difference_of (vectors_of l.species l.rows)) (take l.reaction-index l.reactions)

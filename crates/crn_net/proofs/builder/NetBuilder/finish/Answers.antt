@@ -1,18 +1,44 @@
-use Rattle.crn_net.proofs.Prelude.{◌≡◌, ◌∙◌}
-use Rattle.crn_net.proofs.Differences.{row_amounts, made_vectors, joins_rows}
+use Rattle.crn_net.proofs.Prelude.{◌≡◌, ◌∙◌, length, sym, subst, arith, rules, vectors_of, IsNetwork}
+use Rattle.crn_net.proofs.Differences.{rows_same, net_same, joins_rows, made_amounts, made_vectors}
 use Rattle.crn_net.proofs.builder.NetBuilder.finish.Goals as goal
 
 pub differences-requires-clause-amounts : goal.differences-requires-clause-amounts
 differences-requires-clause-amounts c =
-    let is = c.deref.ensures.value ∙ c.in_ok-rows.ensures ∙ c.as_slice.ensures.keys in
-    rw is (row_amounts c.self.inside.names.keys c.self.inside.rows.keys c.self.inside.reactions.items c.self.invariant.0 c.self.invariant.1)
+    let names = c.self.inside.names.keys in
+    let keys = c.self.inside.rows.keys in
+    let width : c.len-species.result ≡ length names = omega arith in
+    let same = rows_same names keys c.as_slice.result.now c.in_ok-rows.rows.items c.len-species.result width c.as_slice.ensures.keys c.in_ok-rows.ensures in
+    made_amounts names keys c.in_ok-rows.rows.items c.deref.result.now c.self.inside.reactions.items c.len-species.result c.self.invariant.0 width same c.deref.ensures.value
+
+pub differences-requires-clause-places : goal.differences-requires-clause-places
+differences-requires-clause-places c =
+    let names = c.self.inside.names.keys in
+    let keys = c.self.inside.rows.keys in
+    let width : c.len-species.result ≡ length names = omega arith in
+    let same = rows_same names keys c.as_slice.result.now c.in_ok-rows.rows.items c.len-species.result width c.as_slice.ensures.keys c.in_ok-rows.ensures in
+    rw c.deref-2.ensures.value (joins_rows names keys c.in_ok-rows.rows.items c.deref.result.now c.self.inside.reactions.items c.self.invariant.0 same c.deref.ensures.value)
+
+pub new-requires-clause-network : goal.new-requires-clause-network
+new-requires-clause-network c =
+    let names = c.self.inside.names.keys in
+    let keys = c.self.inside.rows.keys in
+    let rows = c.in_ok-rows.rows.items in
+    let width : c.len-species.result ≡ length names = omega arith in
+    let same = rows_same names keys c.as_slice.result.now rows c.len-species.result width c.as_slice.ensures.keys c.in_ok-rows.ensures in
+    subst IsNetwork (sym (net_same names keys rows c.self.inside.reactions.items same)) (record { partial = c.self.invariant.0; some = search rules })
 
 pub new-requires-clause-vectors : goal.new-requires-clause-vectors
 new-requires-clause-vectors c =
-    let n = c.self.inside.names.keys in
-    let rs = c.self.inside.reactions.items in
-    let rows : c.in_ok-rows.rows.items ≡ c.self.inside.rows.keys = c.in_ok-rows.ensures ∙ c.as_slice.ensures.keys in
-    let made =
-    made_vectors n c.self.inside.rows.keys c.deref.result.now rs c.deref-2.result.now c.in_ok-differences.differences.items
-    (joins_rows n c.self.inside.rows.keys rs c.self.invariant.0) (c.deref.ensures.value ∙ rows) c.deref-2.ensures.value c.in_ok-differences.ensures in
-    rw rows made
+    let names = c.self.inside.names.keys in
+    let width : c.len-species.result ≡ length names = omega arith in
+    made_vectors names c.in_ok-rows.rows.items c.deref.result.now c.self.inside.reactions.items c.deref-2.result.now c.in_ok-differences.differences.items c.len-species.result width c.deref.ensures.value c.deref-2.ensures.value c.in_ok-differences.ensures
+
+pub returns : goal.returns
+returns c =
+    let names = c.self.inside.names.keys in
+    let keys = c.self.inside.rows.keys in
+    let rows = c.in_ok-rows.rows.items in
+    let width : c.len-species.result ≡ length names = omega arith in
+    let same = rows_same names keys c.as_slice.result.now rows c.len-species.result width c.as_slice.ensures.keys c.in_ok-rows.ensures in
+    let net = c.new.ensures ∙ net_same names keys rows c.self.inside.reactions.items same in
+    (net ∙ c.self.view_is, subst IsNetwork (sym net) (record { partial = c.self.invariant.0; some = search rules }))

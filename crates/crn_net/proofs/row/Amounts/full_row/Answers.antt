@@ -10,7 +10,7 @@ loop-s-preserved c =
     let is = c.from.ensures in
     let seen : get_or c.args.self.now s (pos 0) ≡ pos (get_or x s 0) = ap (λ (t : List ℤ). get_or t s (pos 0)) (sym c.self.view_is) ∙ at_seen x s in
     let long : length c.args.self.now ≡ length x = ap length (sym c.self.view_is) ∙ length-map x pos in
-    let lt : s < length c.args.self.now = let t = c.self.told in omega (arith, long) in
+    let lt : s < length c.args.self.now = let t = c.self.told in omega (arith, long, c.requires) in
     let fits = fits_signed_from_abs w128 c.from.result (let b = rw is at c.from.type_inv in omega (arith, ints, is, b)) in
     rw (to_z-of_z w128 c.from.result fits) (record {
       long = length-set c.loop-s.row s c.from.result ∙ h.long;

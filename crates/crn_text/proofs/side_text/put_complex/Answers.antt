@@ -1,6 +1,6 @@
 use Rattle.crn_text.proofs.Prelude.{◌≡◌, ◌<◌, ◌∙◌, ◌++◌, ℕ, List, [], length, get_or, sym, ap, arith, take_all, codes, pos, with_separator, term, terms}
 use Rattle.crn_text.proofs.Texts.{read_amount, terms_same, terms_count, side_step, side_some, side_none}
-use Rattle.crn_text.proofs.side_text.SideText.set.Goals as goal
+use Rattle.crn_text.proofs.side_text.put_complex.Goals as goal
 
 pub loop-s-preserved-then-vector-s-le0 : goal.loop-s-preserved-then-vector-s-le0
 loop-s-preserved-then-vector-s-le0 c =
@@ -27,20 +27,19 @@ loop-s-preserved c =
       text = put ∙ ap (λ (t : List ℕ). t ++ here) h.text ∙ sym (side_step names v s c.loop-s.shown lt lt' some h.shown);
       shown = omega (arith, h.shown, terms_count names v s lt lt' some);
       few = omega (arith, h.few);
-      short = omega (arith, h.short, c.put_term.ensures.size);
+      short = omega (arith, h.short, c.put_term.ensures.short);
     }
 
-pub returns-then-shown-eq0 : goal.returns-then-shown-eq0
-returns-then-shown-eq0 c =
+pub returns-then-shown-eq0-clause-text : goal.returns-then-shown-eq0-clause-text
+returns-then-shown-eq0-clause-text c =
     let v = c.vector-vector.result.now in
     let names = c.args.net.now.names in
-    let text = rw (take_all c.loop-s.s names (omega arith), take_all c.loop-s.s v (omega arith)) at c.loop-s.invariant.text in
     let shown = rw (take_all c.loop-s.s names (omega arith), take_all c.loop-s.s v (omega arith)) at c.loop-s.invariant.shown in
     let none : length (terms names v) ≡ 0 = omega (arith, shown) in
-    rw (← c.vector-vector.ensures.value, side_none names v none, ← text) c.put.ensures
+    rw (← c.vector-vector.ensures.value, side_none names v none) c.push.ensures.text
 
-pub returns-else-shown-eq0 : goal.returns-else-shown-eq0
-returns-else-shown-eq0 c =
+pub returns-else-shown-eq0-clause-text : goal.returns-else-shown-eq0-clause-text
+returns-else-shown-eq0-clause-text c =
     let v = c.vector-vector.result.now in
     let names = c.args.net.now.names in
     let text = rw (take_all c.loop-s.s names (omega arith), take_all c.loop-s.s v (omega arith)) at c.loop-s.invariant.text in
