@@ -1,4 +1,4 @@
-ghost use Rattle.std.specs.Prelude.{◌≡◌, ◌≤◌, length, List, ℕ, [], ◌∷◌, nat_eq};
+ghost use Rattle.std.specs.Prelude.{◌≡◌, ◌≤◌, length, take, List, ℕ, [], ◌∷◌, nat_eq};
 ghost use Rattle.std.proofs.Common.{ap};
 ghost use Rattle.std.specs.Cmp.{partial_equiv_from_equiv};
 ghost use Rattle.std.specs.Cmp.Lexicographic.{pointwise, bytes_decides, nat_list_eq_equiv};
@@ -48,6 +48,15 @@ impl Name {
     {
         let (prefix, _) = self.bytes.split_at(self.size);
         prefix
+    }
+
+    // The bytes of the name and others after them, as many as the longest name has, and how many are the name's.
+    pub(crate) fn block(&self) -> (&[u8], usize)
+        ensures name { take result.1 result.0.now ≡ self.now }
+        ensures long { length result.0.now ≡ MAX_NAME }
+        ensures size { result.1 ≤ MAX_NAME }
+    {
+        (self.bytes.as_slice(), self.size)
     }
 }
 

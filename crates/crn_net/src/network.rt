@@ -1,4 +1,4 @@
-ghost use Rattle.std.specs.Prelude.{◌≡◌, ◌<◌, ◌≤◌, length, map, [], slice_index_or};
+ghost use Rattle.std.specs.Prelude.{◌≡◌, ◌<◌, ◌≤◌, length, map, take, [], slice_index_or};
 ghost use Rattle.std.specs.List.{AllByRecursion};
 ghost use Rattle.crn_vec.specs.Network.{Net, IsNetwork, IsName, IsAmount};
 ghost use Rattle.crn_vec.specs.Vectors.{AreWithin};
@@ -7,7 +7,7 @@ ghost use Rattle.crn_net.specs.Views.{net_of, vectors_of};
 
 use crate::name::Names;
 use crate::row::Row;
-use crn_vec::{MAX_AMOUNT, MAX_COMPLEXES, MAX_REACTIONS, MAX_SPECIES};
+use crn_vec::{MAX_AMOUNT, MAX_COMPLEXES, MAX_NAME, MAX_REACTIONS, MAX_SPECIES};
 use std::marker::Model;
 
 /// A reaction network. Species, complexes and reactions are counted from 0.
@@ -97,6 +97,17 @@ impl Network {
         ensures name { IsName result.now }
     {
         self.names.as_slice()[s].as_slice()
+    }
+
+    /// The name of a species and any bytes after it, as many as the longest name has, and how many are the name's. As
+    /// many bytes are copied faster than few.
+    pub fn padded_name(&self, s: usize) -> (&[u8], usize)
+        requires { s < length self.now.names }
+        ensures name { take result.1 result.0.now ≡ slice_index_or self.now.names s [] }
+        ensures long { length result.0.now ≡ MAX_NAME }
+        ensures size { result.1 ≤ MAX_NAME }
+    {
+        self.names.as_slice()[s].block()
     }
 
     /// The amounts of a complex, one for each species.

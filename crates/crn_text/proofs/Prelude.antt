@@ -49,7 +49,7 @@ pub use Rattle.std.proofs.lemmas.Fmt.{decimal_by_steps, decimal_digit, decimal_s
 pub use Rattle.std.proofs.lemmas.Grind.{common_steps}
 pub use Rattle.std.proofs.lemmas.Int.{fits_signed_from_abs, ints, to_z-of_z}
 pub use Rattle.std.proofs.lemmas.Int.Digits.{digits_value_more}
-pub use Rattle.std.proofs.lemmas.List.{append-nil, append_cancel_left, drop_at, get_or-take, length-append, length-drop, length-map, length-take, length-take-le, length_push, map-append, map_push, take-append-drop, take-take, take_at, take_more}
+pub use Rattle.std.proofs.lemmas.List.{append-nil, append_cancel_left, drop_at, get_or-take, length-append, length-drop, length-map, length-take, length-take-le, length_push, map-append, map_push, take-append-drop, take-append-le, take-take, take_at, take_more}
 pub use Rattle.std.proofs.lemmas.List.Concat.{flat_map-append}
 pub use Rattle.std.proofs.lemmas.List.Folds.{list_all-append, list_any-append, prefix_len-append}
 pub use Rattle.std.proofs.lemmas.List.FromFn.{get_or-map-range_with_len}
@@ -66,6 +66,6 @@ pub use Rattle.std.specs.Int.Signed.{le_z}
 pub use Rattle.std.specs.List.{AllByRecursion, flat_map, list_all, list_any, onto_first, prefix_len, range_with_len, slice_split, starts_with, take_while}
 pub use Rattle.std.specs.Option.{MatchOption, is_some}
 pub use Rattle.std.specs.Ordering.{int_eq, ord_min}
-pub use Rattle.std.specs.Prelude.{IfOk, IsTrue, codes, decimal, filter, if◌then◌else◌, min, nat_eq, nat_le, nat_lt, negsuc, not, pos, ℤ, ◌&&◌, ◌||◌, ◌↔◌, ◌≢◌, ◌≤ℤ◌, ◌⊎◌}
+pub use Rattle.std.specs.Prelude.{IfOk, IsTrue, codes, decimal, filter, if◌then◌else◌, min, nat_abs, nat_eq, nat_le, nat_lt, negsuc, not, pos, ℤ, ◌&&◌, ◌<ℤ◌, ◌||◌, ◌↔◌, ◌≢◌, ◌≤ℤ◌, ◌⊎◌}
 pub use Rattle.std.specs.Str.{bytes_eq}
 pub use Rattle.std.specs.Str.Parse.{digits_value, digits_value_after}

@@ -1,4 +1,4 @@
-ghost use Rattle.std.specs.Prelude.{◌≡◌, ◌≤◌, ◌<◌, ◌+◌, ◌*◌, ◌++◌, [], ◌∷◌, pos, ◌<ℤ◌, ◌≤ℤ◌, codes, decimal, length, take};
+ghost use Rattle.std.specs.Prelude.{◌≡◌, ◌≤◌, ◌<◌, ◌+◌, ◌*◌, ◌++◌, [], ◌∷◌, pos, ◌<ℤ◌, ◌≤ℤ◌, codes, decimal, length, take, List, ℕ};
 ghost use Rattle.crn_io.specs.Joined.{with_separator};
 ghost use Rattle.crn_text.specs.Canonical.{term, complex_text};
 
@@ -100,16 +100,30 @@ fn put_number(bytes: &mut [u8], at: usize, number: u8) -> usize
     push(bytes, next, b'0' + number % 10)
 }
 
-// Puts the term of a species with its amount, after a plus sign unless it is the first. An amount of 1 is not written.
+// Puts the first bytes of a block, of which all are copied: they are so many that it takes no loop.
 #[inline(always)]
-fn put_term(bytes: &mut [u8], at: usize, before: usize, amount: i128, name: &[u8]) -> usize
-    requires room { at + TERM ≤ length bytes.old }
+fn put_block(bytes: &mut [u8], at: usize, block: &[u8], size: usize) -> usize
+    requires room { at + MAX_NAME ≤ length bytes.old }
+    requires long { length block.now ≡ MAX_NAME }
+    requires size { size ≤ MAX_NAME }
+    ensures text { take result bytes.new ≡ take at bytes.old ++ take size block.now }
+    ensures end { result ≡ at + size }
+{
+    let (_, rest) = bytes.split_at_mut(at);
+    let (here, _) = rest.split_at_mut(MAX_NAME);
+    here.copy_from_slice(block);
+    at + size
+}
+
+// Puts the amount of a species, after a plus sign unless it is the first. An amount of 1 is not written.
+#[inline(always)]
+fn put_amount(bytes: &mut [u8], at: usize, before: usize, amount: i128) -> usize
+    requires room { at + 5 ≤ length bytes.old }
     requires some { pos 0 <ℤ amount }
     requires most { amount ≤ℤ pos MAX_AMOUNT }
-    requires name { length name.now ≤ MAX_NAME }
-    ensures text { take result bytes.new
-        ≡ take at bytes.old ++ with_separator (codes " + ") before (term amount name.now) }
-    ensures short { result ≤ at + TERM }
+    ensures text { (name : List ℕ) → take result bytes.new ++ name
+        ≡ take at bytes.old ++ with_separator (codes " + ") before (term amount name) }
+    ensures short { result ≤ at + 5 }
 {
     let mut end = at;
     if before > 0 {
@@ -118,7 +132,7 @@ fn put_term(bytes: &mut [u8], at: usize, before: usize, amount: i128, name: &[u8
     if amount != 1 {
         end = put_number(bytes, end, amount as u8);
     }
-    put(bytes, end, name)
+    end
 }
 
 // Puts complex c at the start.
@@ -135,7 +149,9 @@ fn put_complex(bytes: &mut [u8], net: &Network, c: usize) -> usize
         if vector[s] <= 0 {
             continue;
         }
-        end = put_term(bytes, end, shown, vector[s], net.name(s));
+        let next = put_amount(bytes, end, shown, vector[s]);
+        let (block, size) = net.padded_name(s);
+        end = put_block(bytes, next, block, size);
         shown += 1;
     }
     if shown == 0 {

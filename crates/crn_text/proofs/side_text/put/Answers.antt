@@ -4,8 +4,8 @@ use Rattle.crn_text.proofs.side_text.put.Goals as goal
 pub loop-byte-init : goal.loop-byte-init
 loop-byte-init c = record { text = sym (append-nil (take c.args.at c.args.bytes.now)); end = omega arith }
 
-pub push-requires : goal.push-requires
-push-requires c =
+pub push-end-requires : goal.push-end-requires
+push-end-requires c =
     let lt : c.loop-byte.byte-index < length c.args.piece.now = omega (arith, c.loop-byte-test.true) in
     omega (arith, lt, c.requires, c.loop-byte.invariant.end, c.loop-byte.auto.bytes)
 
@@ -16,11 +16,11 @@ loop-byte-preserved c =
     let b = get_or piece i 0 in
     let before = take c.args.at c.args.bytes.now in
     record {
-      text = c.push.ensures.text
-      ∙ ap (λ (t : List ℕ). t ++ b ∷ []) c.loop-byte.invariant.text
-      ∙ append_assoc before (take i piece) (b ∷ [])
-      ∙ ap (λ (t : List ℕ). before ++ t) (sym (take_more piece i 0 (omega arith)));
-      end = omega (arith, c.push.ensures.end, c.loop-byte.invariant.end);
+      text = c.push-end.ensures.text
+          ∙ ap (λ (t : List ℕ). t ++ b ∷ []) c.loop-byte.invariant.text
+          ∙ append_assoc before (take i piece) (b ∷ [])
+          ∙ ap (λ (t : List ℕ). before ++ t) (sym (take_more piece i 0 (omega arith)));
+      end = omega (arith, c.push-end.ensures.end, c.loop-byte.invariant.end);
     }
 
 pub returns-clause-text : goal.returns-clause-text

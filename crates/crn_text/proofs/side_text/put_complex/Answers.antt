@@ -1,4 +1,4 @@
-use Rattle.crn_text.proofs.Prelude.{◌≡◌, ◌<◌, ◌∙◌, ◌++◌, ℕ, List, [], length, get_or, sym, ap, arith, take_all, codes, pos, with_separator, term, terms}
+use Rattle.crn_text.proofs.Prelude.{◌≡◌, ◌<◌, ◌∙◌, ◌++◌, ℕ, List, [], length, get_or, take, sym, ap, arith, take_all, codes, pos, with_separator, term, terms}
 use Rattle.crn_text.proofs.Texts.{read_amount, terms_same, terms_count, side_step, side_some, side_none}
 use Rattle.crn_text.proofs.side_text.put_complex.Goals as goal
 
@@ -21,13 +21,16 @@ loop-s-preserved c =
     let lt : s < length names = omega arith in
     let lt' : s < length v = omega arith in
     let some = rw (read_amount v s c.vector-vector.ensures.amounts) at c.if-vector-s-le0.false in
-    let put = rw (c.name.ensures.value, read_amount v s c.vector-vector.ensures.amounts) at c.put_term.ensures.text in
-    let here = with_separator (codes " + ") c.loop-s.shown (term (get_or v s (pos 0)) (get_or names s [])) in
+    let name = get_or names s [] in
+    let here = with_separator (codes " + ") c.loop-s.shown (term (get_or v s (pos 0)) name) in
+    let amount = rw (read_amount v s c.vector-vector.ensures.amounts) at c.put_amount-next.ensures.text in
+    let block = c.put_block-end.ensures.text ∙ ap (λ (t : List ℕ). take c.put_amount-next.result c.put_amount-next.new.bytes ++ t) c.padded_name-size.ensures.name in
+    let put = block ∙ amount name in
     record {
       text = put ∙ ap (λ (t : List ℕ). t ++ here) h.text ∙ sym (side_step names v s c.loop-s.shown lt lt' some h.shown);
       shown = omega (arith, h.shown, terms_count names v s lt lt' some);
       few = omega (arith, h.few);
-      short = omega (arith, h.short, c.put_term.ensures.short);
+      short = omega (arith, h.short, c.put_amount-next.ensures.short, c.put_block-end.ensures.end, c.padded_name-size.ensures.size);
     }
 
 pub returns-then-shown-eq0-clause-text : goal.returns-then-shown-eq0-clause-text
@@ -38,8 +41,8 @@ returns-then-shown-eq0-clause-text c =
     let none : length (terms names v) ≡ 0 = omega (arith, shown) in
     rw (← c.vector-vector.ensures.value, side_none names v none) c.push.ensures.text
 
-pub returns-else-shown-eq0-clause-text : goal.returns-else-shown-eq0-clause-text
-returns-else-shown-eq0-clause-text c =
+pub returns-clause-text : goal.returns-clause-text
+returns-clause-text c =
     let v = c.vector-vector.result.now in
     let names = c.args.net.now.names in
     let text = rw (take_all c.loop-s.s names (omega arith), take_all c.loop-s.s v (omega arith)) at c.loop-s.invariant.text in
