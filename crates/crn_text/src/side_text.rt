@@ -146,7 +146,7 @@ fn put_complex(bytes: &mut [u8], net: &Network, c: usize) -> usize
     let mut shown = 0usize;
     let mut end = 0usize;
     for s in 0..net.species() {
-        if vector[s] <= 0 {
+        if vector[s] == 0 {
             continue;
         }
         let next = put_amount(bytes, end, shown, vector[s]);

@@ -1,14 +1,14 @@
 use Rattle.crn_text.proofs.Prelude.{◌≡◌, ◌<◌, ◌∙◌, ◌++◌, ℕ, List, [], length, get_or, take, sym, ap, arith, take_all, codes, pos, with_separator, term, terms}
-use Rattle.crn_text.proofs.Texts.{read_amount, terms_same, terms_count, side_step, side_some, side_none}
+use Rattle.crn_text.proofs.Texts.{read_amount, none_there, some_there, terms_same, terms_count, side_step, side_some, side_none}
 use Rattle.crn_text.proofs.side_text.put_complex.Goals as goal
 
-pub loop-s-preserved-then-vector-s-le0 : goal.loop-s-preserved-then-vector-s-le0
-loop-s-preserved-then-vector-s-le0 c =
+pub loop-s-preserved-then-vector-s-eq0 : goal.loop-s-preserved-then-vector-s-eq0
+loop-s-preserved-then-vector-s-eq0 c =
     let v = c.vector-vector.result.now in
     let h = c.loop-s.invariant in
     let lt : c.loop-s.s < length c.args.net.now.names = omega arith in
     let lt' : c.loop-s.s < length v = omega arith in
-    let none = rw (read_amount v c.loop-s.s c.vector-vector.ensures.amounts) at c.if-vector-s-le0.true in
+    let none = none_there v c.loop-s.s c.vector-vector.ensures.amounts c.if-vector-s-eq0.true in
     let same = terms_same c.args.net.now.names v c.loop-s.s lt lt' none in
     rw same (record { text = h.text; shown = h.shown; few = omega (arith, h.few); short = omega (arith, h.short) })
 
@@ -20,7 +20,7 @@ loop-s-preserved c =
     let h = c.loop-s.invariant in
     let lt : s < length names = omega arith in
     let lt' : s < length v = omega arith in
-    let some = rw (read_amount v s c.vector-vector.ensures.amounts) at c.if-vector-s-le0.false in
+    let some = (some_there v s c.vector-vector.ensures.amounts c.if-vector-s-eq0.false).0 in
     let name = get_or names s [] in
     let here = with_separator (codes " + ") c.loop-s.shown (term (get_or v s (pos 0)) name) in
     let amount = rw (read_amount v s c.vector-vector.ensures.amounts) at c.put_amount-next.ensures.text in
