@@ -1,5 +1,5 @@
 -- Differences of vectors, place by place.
-use Rattle.crn_net.proofs.Prelude.{difference_of, ◌≡◌, ℕ, zero, suc, ◌<◌, ◌≤◌, ◌+◌, List, [], ◌∷◌, ◌++◌, length, get_or, take, map, refl, sym, ap, ap₂, subst, ◌∙◌, add-one, arith, ℤ, pos, ◌-ℤ◌, AllByRecursion, ints, get_or-map, get_or-take, length-map, length-take-le, map_more, map_push, Net, IsPartialNetwork, IsNetwork, IsAmount, IsVector, JoinsTwo, minus, reaction_vector, AreWithin, MAX_AMOUNT, net_of, vectors_of, all_at, map_same}
+use Rattle.crn_net.proofs.Prelude.{difference_of, ◌≡◌, ℕ, zero, suc, ◌<◌, ◌≤◌, ◌+◌, List, [], ◌∷◌, ◌++◌, length, get_or, set, take, map, refl, sym, ap, ap₂, subst, ◌∙◌, add-one, arith, ℤ, pos, ◌-ℤ◌, AllByRecursion, ints, get_or-map, get_or-take, length-map, length-take-le, map_more, map_push, Net, IsPartialNetwork, IsNetwork, IsAmount, IsVector, JoinsTwo, minus, reaction_vector, AreWithin, MAX_AMOUNT, net_of, vectors_of, all_at, map_same}
 
 minus_suc : (a b : List ℤ) (s : ℕ) (d e : ℤ) → s < length a → s < length b → minus (take (suc s) a) (take (suc s) b) ≡ minus (take s a) (take s b) ++ (get_or a s d -ℤ get_or b s e) ∷ []
 minus_suc [] b s d e p q = absurd (omega arith)
@@ -80,7 +80,22 @@ lent_vector m rows vectors r row e lt is =
     let l = ap length e in
     ap (take m) is ∙ sym (get_or-map (take m) rows r row [] (omega (arith, count, l))) ∙ ap (λ (t : List (List ℤ)). get_or t r []) e
 
--- ---- the table of differences
+-- ---- the tables, row by row
+
+-- the last entry takes another value
+pub set_last : (xs : List (List ℤ)) (y z : List ℤ) (i : ℕ) → length xs ≡ i → set (xs ++ y ∷ []) i z ≡ xs ++ z ∷ []
+set_last [] y z zero e = refl
+set_last [] y z (suc i) e = absurd (omega (arith, e))
+set_last (x ∷ xs) y z zero e = absurd (omega (arith, e))
+set_last (x ∷ xs) y z (suc i) e = ap (λ (t : List (List ℤ)). x ∷ t) (set_last xs y z i (omega (arith, e)))
+
+pub one_row : (n : ℕ) (rows made made' : List (List ℤ)) (c : ℕ) (row from : List ℤ) → c < length rows → vectors_of n made ≡ vectors_of n (take c rows) → from ≡ get_or rows c from → take n row ≡ take n from → made' ≡ made ++ row ∷ []
+    → vectors_of n made' ≡ vectors_of n (take (c + 1) rows)
+one_row n rows made made' c row from lt are is put new =
+    ap (vectors_of n) new
+    ∙ map_push (take n) made row
+    ∙ ap₂ (λ (t : List (List ℤ)) (u : List ℤ). t ++ u ∷ []) are (put ∙ ap (take n) is)
+    ∙ sym (map_more (take n) rows c from lt)
 
 pub one_difference : (n : ℕ) (rows : List (List ℤ)) (reactions : List (ℕ × ℕ)) (i : ℕ) (made made' : List (List ℤ)) (row : List ℤ) → i < length reactions → AllByRecursion (JoinsTwo (length rows)) reactions
     → vectors_of n made ≡ map (difference_of (vectors_of n rows)) (take i reactions) → take n row ≡ minus (take n (get_or rows (get_or reactions i (0, 0)).1 [])) (take n (get_or rows (get_or reactions i (0, 0)).0 [])) → made' ≡ made ++ row ∷ []

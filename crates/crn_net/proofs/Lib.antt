@@ -1,4 +1,5 @@
 pub mod CallerLemmas
+mod Marks
 mod Members
 mod Whole
 mod Differences

@@ -1,6 +1,7 @@
 -- What this crate's proofs use of other crates and of its specs.
 pub use Rattle.crn_net.specs.Grows.{AddGives, Grown, GrownFrom, Grows, IsSelf, both_with_zeros, complexes_with, names_with, no_net, reactions_with, with_zeros}
 pub use Rattle.crn_net.specs.Inner.BucketSums.{AreBucketSums, in_bucket, joined, mark, mark_after, word}
+pub use Rattle.crn_net.specs.Inner.Marks.{AreMarked, IsMarked, slot_of}
 pub use Rattle.crn_net.specs.Inner.Steps.{AreNoted, BuildGives, Built, IsOver, IsRowFor, LeftIsOver, NotesBoth, NotesName, NotesReaction, NotesRow, NotesSide, NotesSides, Puts, PutsBoth, RightIsOver, SaysSame, TellsApart, difference_of}
 pub use Rattle.crn_net.specs.Inner.Sums.{AreByName, name_in, no_share, share_of, sum_in}
 pub use Rattle.crn_net.specs.Terms.{IsSide, IsTerm, name_at, side_of, statement_of}

@@ -3,3 +3,4 @@ pub mod Steps
 pub mod Sums
 pub mod Rows
 pub mod BucketSums
+pub mod Marks

@@ -6,10 +6,11 @@ use crate::fault::NetFault;
 use crate::guesses::TableGuesses;
 use crate::name::Names;
 use crate::network::Network;
+use crate::reactions::Reactions;
 use crate::row::Complexes;
 use crate::tables::{build, differences, full_rows};
 use crate::term::Term;
-use crn_vec::{MAX_COMPLEXES, MAX_REACTIONS, MAX_SPECIES, NoMemory};
+use crn_vec::{MAX_COMPLEXES, MAX_SPECIES, NoMemory};
 use indexmap::IndexSet;
 use std::alloc::Global;
 use std::marker::Model;
@@ -19,7 +20,7 @@ use std::marker::Model;
 pub struct NetBuilder {
     names: Names,
     rows: Complexes,
-    reactions: Vec<(usize, usize)>,
+    reactions: Reactions,
     guesses: TableGuesses,
 }
 
@@ -30,10 +31,10 @@ impl Model for NetBuilder {
 
     ghost Value = { Net };
 
-    ghost view = { λ b. net_of b.names.keys b.rows.keys b.reactions.items };
+    ghost view = { λ b. net_of b.names.keys b.rows.keys b.reactions };
 
     ghost invariant = { λ b.
-        let net = net_of b.names.keys b.rows.keys b.reactions.items in
+        let net = net_of b.names.keys b.rows.keys b.reactions in
         IsPartialNetwork net × AreRows (length b.names.keys) b.rows.keys };
 }
 
@@ -46,7 +47,7 @@ impl NetBuilder {
             // A name above the limit is inserted first, and removed again.
             names: IndexSet::with_capacity(alloc, MAX_SPECIES + 1)?,
             rows: IndexSet::with_capacity(alloc, MAX_COMPLEXES)?,
-            reactions: Vec::with_capacity(alloc, MAX_REACTIONS)?,
+            reactions: Reactions::new(alloc)?,
             guesses: TableGuesses::new(),
         })
     }
@@ -82,18 +83,18 @@ impl NetBuilder {
     pub fn finish(self) -> Result<Network, NetFault>
         ensures { FinishGives self result }
     {
-        if self.reactions.is_empty() {
+        if self.reactions.as_slice().is_empty() {
             return Err(NetFault::NoReaction);
         }
-        let alloc = *self.reactions.allocator();
+        let alloc = self.reactions.allocator();
         let species = self.names.len();
         let rows = full_rows(alloc, self.rows.as_slice(), species)?;
-        let differences = differences(alloc, &rows, &self.reactions, species)?;
+        let differences = differences(alloc, &rows, self.reactions.as_slice(), species)?;
         let NetBuilder {
             names,
             reactions,
             ..
         } = self;
-        Ok(Network::new(names, rows, reactions, differences))
+        Ok(Network::new(names, rows, reactions.into_list(), differences))
     }
 }

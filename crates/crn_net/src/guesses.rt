@@ -38,7 +38,6 @@ impl Guesses {
 pub(crate) struct TableGuesses {
     pub(crate) names: Guesses,
     pub(crate) rows: Guesses,
-    pub(crate) reactions: Guesses,
 }
 
 impl TableGuesses {
@@ -46,7 +45,6 @@ impl TableGuesses {
         TableGuesses {
             names: Guesses::new(),
             rows: Guesses::new(),
-            reactions: Guesses::new(),
         }
     }
 }

@@ -9,6 +9,7 @@ mod laws;
 mod merge;
 mod name;
 mod network;
+mod reactions;
 mod row;
 mod same;
 mod side_sums;

@@ -70,16 +70,14 @@ impl Amounts {
             .wrapping_add(weight(place).wrapping_mul(count as usize));
     }
 
-    // A row with the amounts of the first species, as large as a network's vectors have them, and zeros after them.
-    pub(crate) fn full_row(&self, species: usize) -> Row
+    // Puts the amounts of the first species into a row, as large as a network's vectors have them.
+    pub(crate) fn put_row(&self, species: usize, row: &mut Row)
         requires { species ≤ MAX_SPECIES }
-        ensures { take species result ≡ take species self.now }
+        ensures { take species row.new ≡ take species self.now }
     {
-        let mut row = [0; MAX_SPECIES];
         for s in 0..species {
             row[s] = i128::from(self.row[s]);
         }
-        row
     }
 }
 

@@ -4,17 +4,18 @@ ghost use Rattle.crn_vec.specs.Lists.{AreDistinct};
 ghost use Rattle.crn_vec.specs.Network.{IsAmount, JoinsTwo, minus};
 ghost use Rattle.crn_net.specs.Terms.{side_of, statement_of, IsSide};
 ghost use Rattle.crn_net.specs.Views.{vectors_of};
-ghost use Rattle.crn_net.specs.Inner.Steps.{AreNames, AreSides, AreTables, AreZeros, NotesName, NotesSide, NotesBoth, TellsApart, IsCrowded, NotesSides, NotesRow, NotesReaction, BuildGives, difference_of};
+ghost use Rattle.crn_net.specs.Inner.Steps.{AreNames, AreSides, AreTables, AreZeros, NotesName, NotesSide, NotesBoth, TellsApart, IsCrowded, NotesSides, NotesRow, BuildGives, difference_of};
 
 use crate::buckets::mark_of;
 use crate::fault::NetFault;
 use crate::guesses::{Guesses, TableGuesses};
 use crate::name::{Name, Names};
+use crate::reactions::Reactions;
 use crate::row::{Amounts, Complexes, Row};
 use crate::same::are_same;
 use crate::side_sums::{name_of, says_same};
 use crate::term::Term;
-use crn_vec::{MAX_COMPLEXES, MAX_NAME, MAX_REACTIONS, MAX_SPECIES, NoMemory};
+use crn_vec::{MAX_COMPLEXES, MAX_NAME, MAX_SPECIES, NoMemory};
 use std::alloc::Global;
 
 // Whether a name is at a place.
@@ -209,93 +210,36 @@ fn note_row(rows: &mut Complexes, guesses: &mut Guesses, row: Amounts) -> Result
     Ok(place)
 }
 
-// Whether a reaction is among these. They are few, so it looks at each.
-fn has_reaction(reactions: &[(usize, usize)], reaction: (usize, usize)) -> bool
-    ensures { result ≡ list_any
-        (λ known. known.0 == reaction.0 && known.1 == reaction.1) reactions.now }
-{
-    reactions
-        .iter()
-        .any(|known| known.0 == reaction.0 && known.1 == reaction.1)
-}
-
-// Adds a reaction if it is new.
-fn add_reaction(
-    reactions: &mut Vec<(usize, usize)>,
-    reaction: (usize, usize),
-) -> Result<(), NetFault>
-    requires few { length reactions.old.items ≤ MAX_REACTIONS }
-    ensures { NotesReaction reactions.old.items reaction result reactions.new.items }
-{
-    if has_reaction(reactions, reaction) {
-        return Ok(());
-    }
-    if reactions.len() >= MAX_REACTIONS {
-        return Err(NetFault::TooManyReactions);
-    }
-    reactions.push(reaction)?;
-    Ok(())
-}
-
-// Whether a reaction is at a place.
-fn is_reaction_at(reactions: &[(usize, usize)], place: usize, reaction: (usize, usize)) -> bool
-    ensures { let is_there = slice_index_or reactions.now place reaction ≡ reaction in
-        IsTrue result → (place < length reactions.now) × is_there }
-{
-    place < reactions.len() && reactions[place].0 == reaction.0 && reactions[place].1 == reaction.1
-}
-
-// The same, if the place of the reaction may have been guessed.
-fn note_reaction(
-    reactions: &mut Vec<(usize, usize)>,
-    guesses: &mut Guesses,
-    reaction: (usize, usize),
-) -> Result<(), NetFault>
-    requires few { length reactions.old.items ≤ MAX_REACTIONS }
-    ensures { NotesReaction reactions.old.items reaction result reactions.new.items }
-{
-    let mark = reaction
-        .0
-        .wrapping_mul(MAX_COMPLEXES)
-        .wrapping_add(reaction.1);
-    if is_reaction_at(reactions, guesses.place(mark), reaction) {
-        return Ok(());
-    }
-    let next = reactions.len();
-    add_reaction(reactions, reaction)?;
-    guesses.put(mark, next.min(MAX_REACTIONS));
-    Ok(())
-}
-
 // Adds the reaction of a statement to the tables. After an error there may be more names and rows, but the reactions
 // are as before.
 pub(crate) fn build(
     names: &mut Names,
     rows: &mut Complexes,
-    reactions: &mut Vec<(usize, usize)>,
+    reactions: &mut Reactions,
     guesses: &mut TableGuesses,
     text: &[u8],
     left: &[Term],
     right: &[Term],
 ) -> Result<(), NetFault>
-    requires tables { AreTables names.old.keys rows.old.keys reactions.old.items }
+    requires tables { AreTables names.old.keys rows.old.keys reactions.old }
     requires sides { AreSides text.now left.now right.now }
     ensures gives { let statement = statement_of text.now left.now right.now in
-        BuildGives names.old.keys rows.old.keys reactions.old.items statement
-        result names.new.keys rows.new.keys reactions.new.items }
+        BuildGives names.old.keys rows.old.keys reactions.old statement
+        result names.new.keys rows.new.keys reactions.new }
     ensures same_names { take (length names.old.keys) names.new.keys ≡ names.old.keys }
     ensures same_rows { take (length rows.old.keys) rows.new.keys ≡ rows.old.keys }
-    ensures same_reactions { OnErr result (reactions.new.items ≡ reactions.old.items) }
+    ensures same_reactions { OnErr result (reactions.new ≡ reactions.old) }
 {
     let mut sides = (Amounts::zeros(), Amounts::zeros());
     note_sides(names, &mut guesses.names, &mut sides, text, left, right)?;
     let (left_row, right_row) = sides;
     let reactant = note_row(rows, &mut guesses.rows, left_row)?;
     let product = note_row(rows, &mut guesses.rows, right_row)?;
-    note_reaction(reactions, &mut guesses.reactions, (reactant, product))
+    reactions.note((reactant, product))
 }
 
-// The rows with numbers as large as a network's vectors have them, of which there are so many as species.
+// The rows with numbers as large as a network's vectors have them, of which there are so many as species. Each is put where
+// it stays, as a row is long to move.
 pub(crate) fn full_rows(
     alloc: Global,
     rows: &[Amounts],
@@ -304,25 +248,25 @@ pub(crate) fn full_rows(
     requires { species ≤ MAX_SPECIES }
     ensures { IfOk result (λ made. vectors_of species made.items ≡ vectors_of species rows.now) }
 {
-    let mut made = Vec::with_capacity(alloc, rows.len())?;
-    for row in rows {
-        made.push(row.full_row(species))?;
+    let mut made: Vec<Row> = Vec::with_capacity(alloc, rows.len())?;
+    for c in 0..rows.len() {
+        made.push([0; MAX_SPECIES])?;
+        rows[c].put_row(species, &mut made[c]);
     }
     Ok(made)
 }
 
-// One row minus another, entry by entry, at the places of the species.
-fn difference(product: &Row, reactant: &Row, species: usize) -> Row
+// Puts one row minus another, entry by entry, at the places of the species.
+fn put_difference(row: &mut Row, product: &Row, reactant: &Row, species: usize)
     requires species { species ≤ MAX_SPECIES }
     requires product { AllByRecursion IsAmount (take species product.now) }
     requires reactant { AllByRecursion IsAmount (take species reactant.now) }
-    ensures { take species result ≡ minus (take species product.now) (take species reactant.now) }
+    ensures { take species row.new
+        ≡ minus (take species product.now) (take species reactant.now) }
 {
-    let mut row = [0; MAX_SPECIES];
     for s in 0..species {
         row[s] = product[s] - reactant[s];
     }
-    row
 }
 
 // For each reaction, the row of its product minus that of its reactant, at the places of the species.
@@ -339,9 +283,11 @@ pub(crate) fn differences(
     ensures { let vector = difference_of (vectors_of species rows.now) in
         IfOk result (λ made. vectors_of species made.items ≡ map vector reactions.now) }
 {
-    let mut made = Vec::with_capacity(alloc, reactions.len())?;
-    for reaction in reactions {
-        made.push(difference(&rows[reaction.1], &rows[reaction.0], species))?;
+    let mut made: Vec<Row> = Vec::with_capacity(alloc, reactions.len())?;
+    for r in 0..reactions.len() {
+        let (reactant, product) = reactions[r];
+        made.push([0; MAX_SPECIES])?;
+        put_difference(&mut made[r], &rows[product], &rows[reactant], species);
     }
     Ok(made)
 }

@@ -1,4 +1,4 @@
-use Rattle.crn_net.proofs.Prelude.{◌≡◌, ◌∙◌, length, sym, subst, arith, rules, vectors_of, IsNetwork}
+use Rattle.crn_net.proofs.Prelude.{◌≡◌, ◌∙◌, ℕ, List, ap, length, sym, subst, arith, rules, net_of, vectors_of, IsNetwork}
 use Rattle.crn_net.proofs.Differences.{rows_same, net_same, joins_rows, made_amounts, made_vectors}
 use Rattle.crn_net.proofs.builder.NetBuilder.finish.Goals as goal
 
@@ -7,16 +7,16 @@ differences-requires-clause-amounts c =
     let names = c.self.inside.names.keys in
     let keys = c.self.inside.rows.keys in
     let width : c.len-species.result ≡ length names = omega arith in
-    let same = rows_same names keys c.as_slice.result.now c.in_ok-rows.rows.items c.len-species.result width c.as_slice.ensures.keys c.in_ok-rows.ensures in
-    made_amounts names keys c.in_ok-rows.rows.items c.deref.result.now c.self.inside.reactions.items c.len-species.result c.self.invariant.0 width same c.deref.ensures.value
+    let same = rows_same names keys c.as_slice-2.result.now c.in_ok-rows.rows.items c.len-species.result width c.as_slice-2.ensures.keys c.in_ok-rows.ensures in
+    made_amounts names keys c.in_ok-rows.rows.items c.deref.result.now c.self.inside.reactions c.len-species.result c.self.invariant.0 width same c.deref.ensures.value
 
 pub differences-requires-clause-places : goal.differences-requires-clause-places
 differences-requires-clause-places c =
     let names = c.self.inside.names.keys in
     let keys = c.self.inside.rows.keys in
     let width : c.len-species.result ≡ length names = omega arith in
-    let same = rows_same names keys c.as_slice.result.now c.in_ok-rows.rows.items c.len-species.result width c.as_slice.ensures.keys c.in_ok-rows.ensures in
-    rw c.deref-2.ensures.value (joins_rows names keys c.in_ok-rows.rows.items c.deref.result.now c.self.inside.reactions.items c.self.invariant.0 same c.deref.ensures.value)
+    let same = rows_same names keys c.as_slice-2.result.now c.in_ok-rows.rows.items c.len-species.result width c.as_slice-2.ensures.keys c.in_ok-rows.ensures in
+    rw c.as_slice-3.ensures (joins_rows names keys c.in_ok-rows.rows.items c.deref.result.now c.self.inside.reactions c.self.invariant.0 same c.deref.ensures.value)
 
 pub new-requires-clause-network : goal.new-requires-clause-network
 new-requires-clause-network c =
@@ -24,14 +24,14 @@ new-requires-clause-network c =
     let keys = c.self.inside.rows.keys in
     let rows = c.in_ok-rows.rows.items in
     let width : c.len-species.result ≡ length names = omega arith in
-    let same = rows_same names keys c.as_slice.result.now rows c.len-species.result width c.as_slice.ensures.keys c.in_ok-rows.ensures in
-    subst IsNetwork (sym (net_same names keys rows c.self.inside.reactions.items same)) (record { partial = c.self.invariant.0; some = search rules })
+    let same = rows_same names keys c.as_slice-2.result.now rows c.len-species.result width c.as_slice-2.ensures.keys c.in_ok-rows.ensures in
+    rw c.into_list.ensures (subst IsNetwork (sym (net_same names keys rows c.self.inside.reactions same)) (record { partial = c.self.invariant.0; some = search rules }))
 
 pub new-requires-clause-vectors : goal.new-requires-clause-vectors
 new-requires-clause-vectors c =
     let names = c.self.inside.names.keys in
     let width : c.len-species.result ≡ length names = omega arith in
-    made_vectors names c.in_ok-rows.rows.items c.deref.result.now c.self.inside.reactions.items c.deref-2.result.now c.in_ok-differences.differences.items c.len-species.result width c.deref.ensures.value c.deref-2.ensures.value c.in_ok-differences.ensures
+    rw c.into_list.ensures (made_vectors names c.in_ok-rows.rows.items c.deref.result.now c.self.inside.reactions c.as_slice-3.result.now c.in_ok-differences.differences.items c.len-species.result width c.deref.ensures.value c.as_slice-3.ensures c.in_ok-differences.ensures)
 
 pub returns : goal.returns
 returns c =
@@ -39,6 +39,6 @@ returns c =
     let keys = c.self.inside.rows.keys in
     let rows = c.in_ok-rows.rows.items in
     let width : c.len-species.result ≡ length names = omega arith in
-    let same = rows_same names keys c.as_slice.result.now rows c.len-species.result width c.as_slice.ensures.keys c.in_ok-rows.ensures in
-    let net = c.new.ensures ∙ net_same names keys rows c.self.inside.reactions.items same in
+    let same = rows_same names keys c.as_slice-2.result.now rows c.len-species.result width c.as_slice-2.ensures.keys c.in_ok-rows.ensures in
+    let net = c.new.ensures ∙ ap (λ (rs : List (ℕ × ℕ)). net_of names rows rs) c.into_list.ensures ∙ net_same names keys rows c.self.inside.reactions same in
     (net ∙ c.self.view_is, subst IsNetwork (sym net) (record { partial = c.self.invariant.0; some = search rules }))

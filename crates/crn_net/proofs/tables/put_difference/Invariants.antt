@@ -1,5 +1,5 @@
-use Rattle.crn_net.proofs.Prelude.{◌≡◌, take, length, MAX_SPECIES, minus}
-use Rattle.crn_net.proofs.tables.difference.Given as goal
+use Rattle.crn_net.proofs.Prelude.{◌≡◌, length, take, minus, MAX_SPECIES}
+use Rattle.crn_net.proofs.tables.put_difference.Given as goal
 
 abbrev pub invariant-loop-s : goal.invariant-loop-s
 invariant-loop-s l = record {

@@ -1,5 +1,5 @@
 use Rattle.crn_net.proofs.Prelude.{◌≡◌, take, length, MAX_SPECIES}
-use Rattle.crn_net.proofs.row.Amounts.full_row.Given as goal
+use Rattle.crn_net.proofs.row.Amounts.put_row.Given as goal
 
 abbrev pub invariant-loop-s : goal.invariant-loop-s
 invariant-loop-s l = record {

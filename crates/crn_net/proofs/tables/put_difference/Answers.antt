@@ -1,6 +1,6 @@
 use Rattle.crn_net.proofs.Prelude.{arith, get_or, ◌++◌, ◌∷◌, [], List, ap, sym, ◌∙◌, ℤ, pos, ◌-ℤ◌, w128, ints, to_z-of_z, fits_signed_from_abs, length-set, take_more_set}
 use Rattle.crn_net.proofs.Differences.{minus_more, entry_holds}
-use Rattle.crn_net.proofs.tables.difference.Goals as goal
+use Rattle.crn_net.proofs.tables.put_difference.Goals as goal
 
 pub loop-s-preserved : goal.loop-s-preserved
 loop-s-preserved c =

@@ -1,6 +1,6 @@
 use Rattle.crn_net.proofs.Prelude.{◌≡◌, ◌<◌, ◌++◌, ◌∷◌, [], ◌∙◌, List, get_or, take, length, sym, ap, arith, ℤ, pos, w128, ints, to_z-of_z, fits_signed_from_abs, length-set, length-map, take_more, take_more_set}
 use Rattle.crn_net.proofs.Narrow.{at_seen}
-use Rattle.crn_net.proofs.row.Amounts.full_row.Goals as goal
+use Rattle.crn_net.proofs.row.Amounts.put_row.Goals as goal
 
 pub loop-s-preserved : goal.loop-s-preserved
 loop-s-preserved c =
