@@ -99,20 +99,20 @@ fn put_class<K: Sink>(
     put_all(sink, b"\n")
 }
 
-// The lines of all linkage classes.
+// The lines of all linkage classes. The text is a buffer.
 pub(crate) fn put_classes<K: Sink>(
     sink: &mut K,
     net: &Network,
     labels: &[u32],
     count: u32,
+    text: &mut SideText,
 ) -> Result<(), WriteFault>
     requires { length labels.now ≡ length net.now.complexes }
     ensures { Wrote (lines_from (class_line net.now labels.now) 1 count)
         (K.seen sink.old) (K.seen sink.new) result }
 {
-    let mut text = SideText::new();
     for k in 0..count {
-        put_class(sink, net, labels, k + 1, &mut text)?;
+        put_class(sink, net, labels, k + 1, text)?;
     }
     Ok(())
 }
@@ -165,22 +165,22 @@ fn put_strong_class<K: Sink>(
     put_all(sink, b"\n")
 }
 
-// The lines of all strong classes.
+// The lines of all strong classes. The text is a buffer.
 pub(crate) fn put_strong_classes<K: Sink>(
     sink: &mut K,
     net: &Network,
     labels: &[u32],
     exits: &[u32],
     count: u32,
+    text: &mut SideText,
 ) -> Result<(), WriteFault>
     requires labels { length labels.now ≡ length net.now.complexes }
     requires exits { count ≤ length exits.now }
     ensures { Wrote (lines_from (strong_line net.now labels.now exits.now) 1 count)
         (K.seen sink.old) (K.seen sink.new) result }
 {
-    let mut text = SideText::new();
     for k in 0..count {
-        put_strong_class(sink, net, labels, exits, k + 1, &mut text)?;
+        put_strong_class(sink, net, labels, exits, k + 1, text)?;
     }
     Ok(())
 }

@@ -16,6 +16,7 @@ use crate::sigma::put_sigma_line;
 use crn_cert::{Gap, Verdict};
 use crn_io::{Sink, WriteFault, put_all, put_parts};
 use crn_net::Network;
+use crn_text::SideText;
 use itoa::Buffer;
 
 // The line of a list of numbers.
@@ -53,14 +54,19 @@ fn put_two_vectors<K: Sink>(
     put_vector_entry(sink, title, two)
 }
 
-// The line of a reaction.
-fn put_reaction_entry<K: Sink>(sink: &mut K, net: &Network, r: u32) -> Result<(), WriteFault>
+// The line of a reaction. The text is a buffer.
+fn put_reaction_entry<K: Sink>(
+    sink: &mut K,
+    net: &Network,
+    r: u32,
+    text: &mut SideText,
+) -> Result<(), WriteFault>
     requires { IsFrom 1 (length net.now.reactions) r }
     ensures { Wrote (titled_line (codes "reaction " ++ decimal r) (reaction_text net.now r))
         (K.seen sink.old) (K.seen sink.new) result }
 {
     put_number(sink, b"  reaction ", r as usize, b": ")?;
-    put_reaction(sink, net, r)?;
+    put_reaction(sink, net, r, text)?;
     put_all(sink, b"\n")
 }
 
@@ -81,19 +87,20 @@ fn put_walk_title<K: Sink>(sink: &mut K, r: u32) -> Result<(), WriteFault>
     )
 }
 
-// The line of a reaction and a walk.
+// The line of a reaction and a walk. The text is a buffer.
 fn put_walk_entry<K: Sink>(
     sink: &mut K,
     net: &Network,
     r: u32,
     walk: &[u32],
+    text: &mut SideText,
 ) -> Result<(), WriteFault>
     requires { AllByRecursion (IsFrom 1 (length net.now.complexes)) walk.now }
     ensures { Wrote (titled_line (codes "reaction " ++ decimal r ++ codes ", walk")
         (walk_text net.now walk.now)) (K.seen sink.old) (K.seen sink.new) result }
 {
     put_walk_title(sink, r)?;
-    put_walk(sink, net, walk)?;
+    put_walk(sink, net, walk, text)?;
     put_all(sink, b"\n")
 }
 
@@ -241,12 +248,13 @@ fn put_table_pair<K: Sink>(
     put_vector_entry(sink, b"alpha", alpha)
 }
 
-// The lines below the line of the question at a place, counted from 0.
+// The lines below the line of the question at a place, counted from 0. The text is a buffer.
 pub(crate) fn put_details<K: Sink>(
     sink: &mut K,
     net: &Network,
     place: usize,
     verdict: &Verdict,
+    text: &mut SideText,
 ) -> Result<(), WriteFault>
     requires place { place < 15 }
     requires inside { IsReadable net.now verdict.now }
@@ -254,13 +262,13 @@ pub(crate) fn put_details<K: Sink>(
         (K.seen sink.old) (K.seen sink.new) result }
 {
     match verdict {
-        Verdict::Classes { count, label } => put_classes(sink, net, label.as_slice(), *count),
+        Verdict::Classes { count, label } => put_classes(sink, net, label.as_slice(), *count, text),
         Verdict::Strong {
             count,
             label,
             exit,
             ..
-        } => put_strong_classes(sink, net, label.as_slice(), exit.as_slice(), *count),
+        } => put_strong_classes(sink, net, label.as_slice(), exit.as_slice(), *count, text),
         Verdict::Rank { base, .. } => {
             put_numbers_entry(sink, b"independent reactions", base.as_slice())
         }
@@ -274,12 +282,12 @@ pub(crate) fn put_details<K: Sink>(
             m,
             ..
         } => put_signal(sink, turn, shelves.as_slice(), mu.as_slice(), m),
-        Verdict::NoReaction { reaction } => put_reaction_entry(sink, net, *reaction),
+        Verdict::NoReaction { reaction } => put_reaction_entry(sink, net, *reaction, text),
         Verdict::NoVec { multipliers } => {
             put_vector_entry(sink, b"multipliers", multipliers.as_slice())
         }
         Verdict::NoCycle { reaction, walk } => {
-            put_walk_entry(sink, net, *reaction, walk.as_slice())
+            put_walk_entry(sink, net, *reaction, walk.as_slice(), text)
         }
         Verdict::NoPair { alpha, weights } => {
             put_table_pair(sink, net, alpha.as_slice(), weights.as_slice())

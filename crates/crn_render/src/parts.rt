@@ -10,7 +10,7 @@ ghost use Rattle.crn_render.specs.Details.{vector_text, shelf, shelves_text, com
 
 use crn_io::{Sink, WriteFault, put_all, put_between, put_parts};
 use crn_net::Network;
-use crn_text::{SideText, write_side};
+use crn_text::SideText;
 use itoa::Buffer;
 
 // A number between two texts.
@@ -136,46 +136,78 @@ pub(crate) fn put_complex<K: Sink>(
     put_between(sink, b"; ", before, text.as_slice())
 }
 
-// All complexes.
-pub(crate) fn put_complexes<K: Sink>(sink: &mut K, net: &Network) -> Result<(), WriteFault>
+// All complexes. The text is a buffer.
+pub(crate) fn put_complexes<K: Sink>(
+    sink: &mut K,
+    net: &Network,
+    text: &mut SideText,
+) -> Result<(), WriteFault>
     ensures { Wrote (joined (codes "; ") (complex_texts net.now))
         (K.seen sink.old) (K.seen sink.new) result }
 {
-    let mut text = SideText::new();
     for c in 0..net.complexes() {
-        put_complex(sink, c, net, c, &mut text)?;
+        put_complex(sink, c, net, c, text)?;
     }
     Ok(())
 }
 
-// The complexes of a walk, which counts them from 1.
-pub(crate) fn put_walk<K: Sink>(sink: &mut K, net: &Network, walk: &[u32]) -> Result<(), WriteFault>
+// The complexes of a walk, which counts them from 1. The text is a buffer.
+pub(crate) fn put_walk<K: Sink>(
+    sink: &mut K,
+    net: &Network,
+    walk: &[u32],
+    text: &mut SideText,
+) -> Result<(), WriteFault>
     requires { AllByRecursion (IsFrom 1 (length net.now.complexes)) walk.now }
     ensures { Wrote (walk_text net.now walk.now) (K.seen sink.old) (K.seen sink.new) result }
 {
-    let mut text = SideText::new();
     for i in 0..walk.len() {
-        put_complex(sink, i, net, walk[i] as usize - 1, &mut text)?;
+        put_complex(sink, i, net, walk[i] as usize - 1, text)?;
     }
     Ok(())
 }
 
-// The reaction from complex y to complex z.
-fn put_arrow<K: Sink>(sink: &mut K, net: &Network, y: usize, z: usize) -> Result<(), WriteFault>
+// Complex c, counted from 0. The text is a buffer.
+fn put_side<K: Sink>(
+    sink: &mut K,
+    net: &Network,
+    c: usize,
+    text: &mut SideText,
+) -> Result<(), WriteFault>
+    requires { c < length net.now.complexes }
+    ensures { Wrote (complex_text net.now c) (K.seen sink.old) (K.seen sink.new) result }
+{
+    text.set(net, c);
+    put_all(sink, text.as_slice())
+}
+
+// The reaction from complex y to complex z. The text is a buffer.
+fn put_arrow<K: Sink>(
+    sink: &mut K,
+    net: &Network,
+    y: usize,
+    z: usize,
+    text: &mut SideText,
+) -> Result<(), WriteFault>
     requires reactant { y < length net.now.complexes }
     requires product { z < length net.now.complexes }
     ensures { Wrote (arrow_text net.now (y, z)) (K.seen sink.old) (K.seen sink.new) result }
 {
-    write_side(net, y, sink)?;
+    put_side(sink, net, y, text)?;
     put_all(sink, b" -> ")?;
-    write_side(net, z, sink)
+    put_side(sink, net, z, text)
 }
 
-// Reaction r, counted from 1.
-pub(crate) fn put_reaction<K: Sink>(sink: &mut K, net: &Network, r: u32) -> Result<(), WriteFault>
+// Reaction r, counted from 1. The text is a buffer.
+pub(crate) fn put_reaction<K: Sink>(
+    sink: &mut K,
+    net: &Network,
+    r: u32,
+    text: &mut SideText,
+) -> Result<(), WriteFault>
     requires { IsFrom 1 (length net.now.reactions) r }
     ensures { Wrote (reaction_text net.now r) (K.seen sink.old) (K.seen sink.new) result }
 {
     let place = r as usize - 1;
-    put_arrow(sink, net, net.reactant(place), net.product(place))
+    put_arrow(sink, net, net.reactant(place), net.product(place), text)
 }

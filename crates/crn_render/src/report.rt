@@ -13,6 +13,7 @@ use crate::words::put_question_line;
 use crn_cert::{Verdict, Verdicts, question_number};
 use crn_io::{Sink, WriteFault, put_all, put_between};
 use crn_net::Network;
+use crn_text::SideText;
 
 // The names of all species.
 fn put_names<K: Sink>(sink: &mut K, net: &Network) -> Result<(), WriteFault>
@@ -39,11 +40,16 @@ fn put_species_line<K: Sink>(sink: &mut K, net: &Network) -> Result<(), WriteFau
     put_all(sink, b"\n")
 }
 
-fn put_complexes_line<K: Sink>(sink: &mut K, net: &Network) -> Result<(), WriteFault>
+// The text is a buffer.
+fn put_complexes_line<K: Sink>(
+    sink: &mut K,
+    net: &Network,
+    text: &mut SideText,
+) -> Result<(), WriteFault>
     ensures { Wrote (complexes_line net.now) (K.seen sink.old) (K.seen sink.new) result }
 {
     put_number(sink, b"complexes ", net.complexes(), b": ")?;
-    put_complexes(sink, net)?;
+    put_complexes(sink, net, text)?;
     put_all(sink, b"\n")
 }
 
@@ -54,21 +60,27 @@ fn put_reactions_line<K: Sink>(sink: &mut K, net: &Network) -> Result<(), WriteF
     put_number(sink, b"reactions ", net.reactions(), b"\n")
 }
 
-fn put_head<K: Sink>(sink: &mut K, net: &Network) -> Result<(), WriteFault>
+// The text is a buffer.
+fn put_head<K: Sink>(
+    sink: &mut K,
+    net: &Network,
+    text: &mut SideText,
+) -> Result<(), WriteFault>
     ensures { Wrote (head net.now) (K.seen sink.old) (K.seen sink.new) result }
 {
     put_first_line(sink)?;
     put_species_line(sink, net)?;
-    put_complexes_line(sink, net)?;
+    put_complexes_line(sink, net, text)?;
     put_reactions_line(sink, net)
 }
 
-// The lines of the question at a place, counted from 0.
+// The lines of the question at a place, counted from 0. The text is a buffer.
 fn put_question<K: Sink>(
     sink: &mut K,
     net: &Network,
     place: usize,
     verdict: &Verdict,
+    text: &mut SideText,
 ) -> Result<(), WriteFault>
     requires place { place < 15 }
     requires inside { IsReadable net.now verdict.now }
@@ -76,14 +88,15 @@ fn put_question<K: Sink>(
         (K.seen sink.old) (K.seen sink.new) result }
 {
     put_question_line(sink, place, verdict)?;
-    put_details(sink, net, place, verdict)
+    put_details(sink, net, place, verdict, text)
 }
 
-// The lines of all questions.
+// The lines of all questions. The text is a buffer.
 fn put_questions<K: Sink>(
     sink: &mut K,
     net: &Network,
     verdicts: &Verdicts,
+    text: &mut SideText,
 ) -> Result<(), WriteFault>
     requires { AreFormedVerdicts net.now [] built verdicts.now }
     ensures { Wrote (all_lines net.now built verdicts.now)
@@ -91,7 +104,7 @@ fn put_questions<K: Sink>(
 {
     for place in 0..verdicts.len() {
         let asked = question_number(place + 1) - 1;
-        put_question(sink, net, asked, verdicts.get(place + 1))?;
+        put_question(sink, net, asked, verdicts.get(place + 1), text)?;
     }
     Ok(())
 }
@@ -134,7 +147,8 @@ pub fn write_report<K: Sink>(
     ensures { Wrote (render built net.now verdicts.now)
         (K.seen sink.old) (K.seen sink.new) result }
 {
-    put_head(sink, net)?;
-    put_questions(sink, net, verdicts)?;
+    let mut text = SideText::new();
+    put_head(sink, net, &mut text)?;
+    put_questions(sink, net, verdicts, &mut text)?;
     put_open_line(sink, open_questions(verdicts))
 }
