@@ -41,26 +41,38 @@ fn add_multiple(sums: &mut Sums, number: &i128, vector: &[i128], skips: &[u8], m
     }
 }
 
-// The combination of the base with the numbers after the first.
-fn combination(net: &Network, base: &[u32], skips: &[Skips], comb: &[i128]) -> Sums
+// Puts the combination of the base with the numbers after the first into the sums, whatever was in them.
+fn put_combination(
+    net: &Network,
+    base: &[u32],
+    skips: &[Skips],
+    comb: &[i128],
+    sums: &mut Sums,
+)
     requires base { IsBase net.now base.now }
     requires skips { AreSkipsOf net.now base.now skips.now }
     requires comb { AreFree (suc (length base.now)) comb.now }
     ensures { (s : ℕ) → s < length net.now.names
-        → entry result s ≡ combination_at (drop 1 comb.now) (vectors_of net.now base.now) s }
+        → entry sums.new s ≡ combination_at (drop 1 comb.now) (vectors_of net.now base.now) s }
 {
-    let mut sums = [0; MAX_SPECIES];
+    *sums = [0; MAX_SPECIES];
     for j in 0..base.len() {
         if !is_nought(&comb[j + 1]) {
             let places = skips_at(net, base, skips, j);
-            add_multiple(&mut sums, &comb[j + 1], vector_of(net, base[j]), &places, j);
+            add_multiple(sums, &comb[j + 1], vector_of(net, base[j]), &places, j);
         }
     }
-    sums
 }
 
-// Whether a list combines the base to a positive multiple of a reaction's vector.
-fn is_comb(net: &Network, base: &[u32], skips: &[Skips], reaction: u32, comb: &[i128]) -> bool
+// Whether a list combines the base to a positive multiple of a reaction's vector. The sums are room for the combination.
+fn is_comb(
+    net: &Network,
+    base: &[u32],
+    skips: &[Skips],
+    reaction: u32,
+    comb: &[i128],
+    sums: &mut Sums,
+) -> bool
     requires base { IsBase net.now base.now }
     requires skips { AreSkipsOf net.now base.now skips.now }
     requires comb { AreFree (suc (length base.now)) comb.now }
@@ -71,7 +83,7 @@ fn is_comb(net: &Network, base: &[u32], skips: &[Skips], reaction: u32, comb: &[
     if comb[0] < 1 {
         return false;
     }
-    let sums = combination(net, base, skips, comb);
+    put_combination(net, base, skips, comb, sums);
     let vector = vector_of(net, reaction);
     for s in 0..vector.len() {
         if times(&comb[0], &vector[s]) != sums[s] {
@@ -106,11 +118,12 @@ pub(crate) fn check_combs(
     ensures { Judges (comb_tests net.now (vectors_of net.now base.now) first
         (outside base.now (members_of net.now members.now)) combs.now) result }
 {
+    let mut sums = [0; MAX_SPECIES];
     let mut done = 0;
     for r in 0..net.reactions() {
         let reaction = r as u32 + 1;
         if members.has(net, r) && !is_in(base, reaction) {
-            if !is_comb(net, base, skips, reaction, combs.row(done)) {
+            if !is_comb(net, base, skips, reaction, combs.row(done), &mut sums) {
                 let part = first + done as u32;
                 return Err(CheckFault { code: 34, part });
             }

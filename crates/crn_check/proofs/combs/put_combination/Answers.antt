@@ -1,7 +1,7 @@
 use Rattle.crn_check.proofs.Prelude.{◌≡◌, ◌<◌, ◌*◌, ◌+◌, ◌∙◌, ℕ, List, suc, length, take, drop, ap, ap₂, sym, subst, arith, take_all, ℤ, pos, ◌+ℤ◌, ◌*ℤ◌, get_or-drop, length-drop, AreWithin, dot, column, entry, MAX_AMOUNT, WIDE_SOLUTION, dot_step, entry-column, length-column, entry_of_zeros, nought_adds, within_more, zeros_within, vector_of, vectors_of}
 use Rattle.crn_check.proofs.RankParts.{vector_at, length_vectors}
-use Rattle.crn_check.proofs.combs.combination.Goals.{then-not-is_nought, else-not-is_nought}
-use Rattle.crn_check.proofs.combs.combination.Goals as goal
+use Rattle.crn_check.proofs.combs.put_combination.Goals.{then-not-is_nought, else-not-is_nought}
+use Rattle.crn_check.proofs.combs.put_combination.Goals as goal
 
 pub loop-j-init : goal.loop-j-init
 loop-j-init c = record { each = λ s lt. entry_of_zeros 60 s; within = zeros_within 0 60 }

@@ -1,5 +1,5 @@
 use Rattle.crn_check.proofs.Prelude.{◌≡◌, ◌<◌, ◌*◌, ℕ, length, take, drop, AreWithin, dot, column, entry, MAX_AMOUNT, WIDE_SOLUTION, vectors_of}
-use Rattle.crn_check.proofs.combs.combination.Given as goal
+use Rattle.crn_check.proofs.combs.put_combination.Given as goal
 
 -- the sums over the members so far, and their bound
 abbrev pub invariant-loop-j : goal.invariant-loop-j
