@@ -42,13 +42,7 @@ fn add_multiple(sums: &mut Sums, number: &i128, vector: &[i128], skips: &[u8], m
 }
 
 // Puts the combination of the base with the numbers after the first into the sums, whatever was in them.
-fn put_combination(
-    net: &Network,
-    base: &[u32],
-    skips: &[Skips],
-    comb: &[i128],
-    sums: &mut Sums,
-)
+fn put_combination(net: &Network, base: &[u32], skips: &[Skips], comb: &[i128], sums: &mut Sums)
     requires base { IsBase net.now base.now }
     requires skips { AreSkipsOf net.now base.now skips.now }
     requires comb { AreFree (suc (length base.now)) comb.now }

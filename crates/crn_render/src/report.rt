@@ -61,11 +61,7 @@ fn put_reactions_line<K: Sink>(sink: &mut K, net: &Network) -> Result<(), WriteF
 }
 
 // The text is a buffer.
-fn put_head<K: Sink>(
-    sink: &mut K,
-    net: &Network,
-    text: &mut SideText,
-) -> Result<(), WriteFault>
+fn put_head<K: Sink>(sink: &mut K, net: &Network, text: &mut SideText) -> Result<(), WriteFault>
     ensures { Wrote (head net.now) (K.seen sink.old) (K.seen sink.new) result }
 {
     put_first_line(sink)?;
