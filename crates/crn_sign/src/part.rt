@@ -41,9 +41,10 @@ impl Part {
         requires { solver.matrix ≡ matrix.now }
         ensures { IfOk result (λ made. IsPart matrix.now made) }
     {
+        let past_cuts = empty_cuts(alloc, matrix, choices)?;
         Ok(Part {
             finder: Finder::new(alloc, matrix, solver)?,
-            past_cuts: empty_cuts(alloc, matrix, choices)?,
+            past_cuts,
             has_decided: false,
         })
     }

@@ -8,7 +8,7 @@ ghost use Rattle.crn_vec.specs.Problems.{IsFull, IsFeasible, IsLawful, IsPrefix}
 ghost use Rattle.crn_vec.specs.declared.signs.Sign.{Sign};
 ghost use Rattle.crn_sign.specs.Search.{IsOutcome, IsSearchStop};
 ghost use Rattle.crn_sign.specs.Inner.Walk.{EndsAt, EndsBelow, HasTree, IsEndOf, IsFoundAt, IsLeafAt, IsLeafOrNone, IsWideA, IsWideB, split_node};
-ghost use Rattle.crn_sign.specs.Inner.Parts.{IsRuling};
+ghost use Rattle.crn_sign.specs.Inner.Parts.{IsPart, IsRuling};
 ghost use Rattle.crn_sign.specs.Inner.Places.{IsAsked, IsHere, IsPlace};
 ghost use Rattle.crn_sign.specs.Inner.Ready.{AreAround, AreAsked, AreFor, AreMarked, AreRooms, AreRoomsBelow, HasRooms, HasSums, IsLevel, IsReady, SamePlace};
 
@@ -22,7 +22,7 @@ use crate::problem::SignProblem;
 use crate::signs::Signs;
 use crn_cert::{Tree, TreeNode};
 use crn_farkas::{Solver, Stop};
-use crn_vec::{Ints, NoMemory, Sign, is_all_zero};
+use crn_vec::{Ints, Matrix, NoMemory, Sign, is_all_zero};
 use std::alloc::Global;
 use std::rc::Rc;
 
@@ -518,6 +518,14 @@ pub(crate) fn walk<P: SignProblem>(
     Ok(end)
 }
 
+// A part of this matrix, with a solver of its own.
+fn part_of(alloc: Global, matrix: &Matrix, choices: usize) -> Result<Part, NoMemory>
+    ensures { IfOk result (λ made. IsPart matrix.now made) }
+{
+    let solver = Solver::new(alloc, matrix)?;
+    Part::new(alloc, matrix, solver, choices)
+}
+
 // What a search begins with.
 pub(crate) fn start<P: SignProblem>(
     alloc: Global,
@@ -536,11 +544,12 @@ pub(crate) fn start<P: SignProblem>(
     let matrix_a = problem.matrix_a();
     let matrix_b = problem.matrix_b();
     let prefix = Vec::with_capacity(alloc, choices)?;
-    let solver_a = Solver::new(alloc, matrix_a)?;
+    let b = Part::new(alloc, matrix_b, solver_b, choices)?;
+    let a = part_of(alloc, matrix_a, choices)?;
     Ok(Progress {
         alloc,
-        a: Part::new(alloc, matrix_a, solver_a, choices)?,
-        b: Part::new(alloc, matrix_b, solver_b, choices)?,
+        a,
+        b,
         prefix,
         left: budget,
     })
@@ -604,6 +613,28 @@ fn end_of(end: Ending, nodes: Vec<TreeNode>, keeps: bool) -> SearchEnd
     }
 }
 
+// How the visits end that are left to a search, the first of which is that of the prefix with no choice. What it works with
+// is borrowed, as each way out drops what is owned.
+fn visit_from<P: SignProblem>(
+    alloc: Global,
+    problem: &P,
+    search: &mut Progress,
+    listing: &mut Listing,
+) -> Result<Ending, SearchStop>
+    requires ready { IsReady (P.signed problem.now) search.old }
+    requires prefix { search.old.prefix.items ≡ [] }
+    ensures { MatchResult result
+        (λ e. EndsAt (P.signed problem.now) [] search.old.left search.new.left
+        listing.old listing.new e)
+        (λ s. IsSearchStop (P.signed problem.now) s) }
+{
+    let above = first_level(alloc, problem)?;
+    let mut first = first_level(alloc, problem)?;
+    let mut levels = rooms(alloc, problem)?;
+    let end = walk(problem, search, &above, &mut first, &mut levels, listing)?;
+    Ok(end)
+}
+
 // How at most this many visits end, the first of which is that of the prefix with no choice.
 fn visit_all<P: SignProblem>(
     alloc: Global,
@@ -619,17 +650,7 @@ fn visit_all<P: SignProblem>(
         (λ s. IsSearchStop (P.signed problem.now) s) }
 {
     let mut search = start(alloc, problem, solver_b, budget)?;
-    let above = first_level(alloc, problem)?;
-    let mut first = first_level(alloc, problem)?;
-    let mut levels = rooms(alloc, problem)?;
-    let end = walk(
-        problem,
-        &mut search,
-        &above,
-        &mut first,
-        &mut levels,
-        listing,
-    )?;
+    let end = visit_from(alloc, problem, &mut search, listing)?;
     Ok(end)
 }
 
