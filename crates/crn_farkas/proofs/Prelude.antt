@@ -9,7 +9,7 @@ pub use Rattle.crn_farkas.specs.declared.fault.Stop.TheVariants.{NoMemory, Wide}
 pub use Rattle.crn_farkas.specs.declared.goal.Part.{Part}
 pub use Rattle.crn_farkas.specs.declared.view.View.{View}
 pub use Rattle.crn_farkas.specs.declared.view.View.TheVariants.{Column, Row}
-pub use Rattle.crn_tab.proofs.CallerLemmas.{as_row, column_at, exchanged_list, found, isIn_or, one_column, one_row, proportional_by, sign_carried, sign_put, sign_some, wide_shown}
+pub use Rattle.crn_tab.proofs.CallerLemmas.{as_row, column_at, exchanged_list, found, isIn_or, one_column, one_row, proportional_by, sign_carried, sign_some, wide_shown}
 pub use Rattle.crn_tab.specs.Tableau.{AreRight, AreWrongAt, IsColumnOfSign, IsNumbered, IsRefused, IsRowOfSign, KeptTableau, NamesRows, RulesBelow}
 pub use Rattle.crn_vec.proofs.CallerLemmas.{Zero as AllZero, Quiet, any_default, assoc, at_in, cuts_exclude_solutions, dot-comm, dot-plus, dot-scale, dot-scale-right, dot-zero, dot_single, entry-plus, entry-scale, entry-zeros, eq_or, held, if_ok, kind_from, kind_takes, kind_weighs, kinds_at, length-plus, length-scale, length-zeros, look_at, lt_or, mul-neg, no_zero, one-mul, orthogonal, part, past_end, plus, positive_some, product_some, same_members, settled_dual, settled_row, sum_some, sum_within, take-scale, take_sum, take_zero, weigh_zero, weights_decide_cuts, within_from, within_take, zeros, zip_from}
 pub use Rattle.crn_vec.specs.Elementary.{InDualSpace, InRowSpace, IsElementary, IsNamed, IsNamedColumn, IsNamedRow, IsWideMatrix, NamesWide, WideAt, width}

@@ -1,8 +1,7 @@
 ghost use Rattle.std.specs.Prelude.{◌≡◌, ◌≤◌, ◌<◌, ℕ, ℤ, List, true, length, slice_index_or, vec_capacity, IfOk, IfErr};
 ghost use Rattle.crn_vec.specs.Vectors.{entry, HasSign};
 ghost use Rattle.crn_vec.specs.declared.signs.Sign.TheVariants.{Zero};
-ghost use Rattle.crn_vec.specs.Lists.{IsIn};
-ghost use Rattle.crn_vec.specs.Elementary.{width, IsNamedColumn};
+ghost use Rattle.crn_vec.specs.Elementary.{width};
 ghost use Rattle.crn_vec.specs.Systems.{kind_at, is_signed};
 ghost use Rattle.crn_farkas.specs.Solver.{IsAlternative, IsRefusedStop};
 ghost use Rattle.crn_farkas.specs.Inner.Views.{IsSeen, IsView};
@@ -10,7 +9,7 @@ ghost use Rattle.crn_farkas.specs.Inner.Views.{IsSeen, IsView};
 use crate::cut::Cut;
 use crate::fault::Stop;
 use crate::goal::{settled_cut, settled_view};
-use crate::level::{Order, column_sign, seen_lead};
+use crate::level::{Order, seen_lead};
 use crate::targets::put_order;
 use crate::view::View;
 use crn_tab::Tableau;
@@ -23,20 +22,6 @@ pub enum Alternative {
     Witness,
     /// A vector (-uA, u) that rules the system out, and is not 0 at the coordinate.
     Cut(Cut),
-}
-
-// Puts the signs of the vectors that the basis names by its member b, if they have this sign at b.
-fn put_column_signs(tableau: &Tableau, b: usize, lead: Sign, signs: &mut [Sign])
-    requires member { IsIn b tableau.now.basis }
-    requires signs { length signs.old ≡ width tableau.now.matrix }
-    ensures count { length signs.new ≡ length signs.old }
-    ensures signs { (y : List ℤ) → IsNamedColumn tableau.now.matrix tableau.now.basis b y
-        → HasSign lead (entry y b) → (k : ℕ) → k < width tableau.now.matrix
-        → HasSign (slice_index_or signs.new k Zero) (entry y k) }
-{
-    for c in 0..signs.len() {
-        signs[c] = column_sign(tableau, b, lead, c);
-    }
 }
 
 // Puts the signs of the vectors that a view shows.
@@ -54,7 +39,7 @@ fn put_signs(tableau: &Tableau, view: View, kinds: &[Kind], g: usize, signs: &mu
     let lead = seen_lead(tableau, view, kinds[g], g);
     match view {
         View::Row => tableau.put_signs(g, lead, signs),
-        View::Column(b) => put_column_signs(tableau, b, lead, signs),
+        View::Column(b) => tableau.put_column_signs(b, lead, signs),
     }
 }
 

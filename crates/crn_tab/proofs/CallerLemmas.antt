@@ -6,7 +6,7 @@ pub use Rattle.crn_tab.proofs.EnteredRank.{found}
 -- Numbers and their signs: a factor that is not 0 cancels, and a sign goes over to a multiple.
 pub use Rattle.crn_tab.proofs.Columns.{cancel_left}
 pub use Rattle.crn_tab.proofs.CutScans.{sign_some}
-pub use Rattle.crn_tab.proofs.OwnSign.{sign_carried, sign_put}
+pub use Rattle.crn_tab.proofs.OwnSign.{sign_carried}
 -- The vectors that a basis names: one for each coordinate, up to a factor, in the rows or in the columns.
 pub use Rattle.crn_tab.proofs.Signs.{one_row}
 pub use Rattle.crn_tab.proofs.Columns.{one_column}

@@ -20,7 +20,7 @@ pub use Rattle.crn_vec.specs.declared.signs.Kind.{Kind}
 pub use Rattle.crn_vec.specs.declared.signs.Kind.TheVariants.{Pos}
 pub use Rattle.crn_vec.specs.declared.signs.Sign.{Sign}
 pub use Rattle.crn_vec.specs.declared.signs.Sign.TheVariants.{Minus, Plus, Zero}
-pub use Rattle.std.proofs.Common.{Bool, Global, List, Vec, [], add-one, ap, append_assoc, arith, below_more, drop, false, get_or, inl, inr, length, lit<, map, nat_eq, nat_lt, of_z, refl, rules, set, subst, suc, sym, take, to_z, true, vec_capacity, vec_len, zero, ℕ, ◌%◌, ◌*◌, ◌++◌, ◌+◌, ◌-◌, ◌/◌, ◌<◌, ◌^◌, ◌∙◌, ◌∷◌, ◌≡◌, ◌≢◌, ◌≤◌, ◌⊎◌}
+pub use Rattle.std.proofs.Common.{Bool, Global, List, Vec, [], add-one, ap, append_assoc, arith, below_more, drop, false, get_or, inl, inr, length, lit<, map, nat_eq, nat_lt, of_z, refl, replicate, rules, set, subst, suc, sym, take, to_z, true, vec_capacity, vec_len, zero, ℕ, ◌%◌, ◌*◌, ◌++◌, ◌+◌, ◌-◌, ◌/◌, ◌<◌, ◌^◌, ◌∙◌, ◌∷◌, ◌≡◌, ◌≢◌, ◌≤◌, ◌⊎◌}
 pub use Rattle.std.proofs.Math.IntN.{negsuc-*ℤ-pos}
 pub use Rattle.std.proofs.Math.ListN.{length-set as length-put, length-set}
 pub use Rattle.std.proofs.Math.Nat.{div-add-mod, div-lt_iff_lt-mul, div-mul_cancel, dvd-add, dvd-mul_left, dvd-mul_left_of_dvd, dvd-mul_right, dvd-sub, dvd_of_mul-dvd-mul_right, eq-one_of_dvd-one, eq_of_mul-eq-mul_left, mul-dvd-mul_right, mul-le-mul, mul-le-mul_right, mul_assoc, mul_comm, one-dvd, one-le-mul, pos_of_dvd_of_pos, suc-mul}
@@ -29,7 +29,7 @@ pub use Rattle.std.proofs.lemmas.Bool.{false≢true}
 pub use Rattle.std.proofs.lemmas.Bool.Decides.{nat_tests}
 pub use Rattle.std.proofs.lemmas.Grind.{common_steps}
 pub use Rattle.std.proofs.lemmas.Int.{fits_signed_from_abs, fits_signed_mul, int_wrap_fits, ints, quot_fits, quot_is, to_z-of_z, unsigned_abs-mul, wrapping_mul_is}
-pub use Rattle.std.proofs.lemmas.List.{append-nil, ext_get_or, get_or-append-add, get_or-drop, get_or-set_other, get_or-set_same, get_or-take, get_or_append_left, length-append, length-drop, length-take, length-take-le, map-append}
+pub use Rattle.std.proofs.lemmas.List.{append-nil, ext_get_or, get_or-append-add, get_or-drop, get_or-replicate, get_or-set_other, get_or-set_same, get_or-take, get_or_append_left, length-append, length-drop, length-replicate, length-take, length-take-le, map-append}
 pub use Rattle.std.proofs.lemmas.List.FromFn.{get_or-range_with_len, length-range_with_len}
 pub use Rattle.std.proofs.lemmas.Nat.Gcd.{IsGcd-from_mod, IsGcd-from_zero, IsGcd-swap, dvd-zero, dvd_antisymm, dvd_refl, dvd_trans, le_of_dvd}
 pub use Rattle.std.specs.Int.{IsGcd, w128, w32, w64, ◌∣◌}

@@ -4,14 +4,15 @@ ghost use Rattle.crn_vec.specs.declared.signs.Sign.TheVariants.{Zero};
 ghost use Rattle.crn_vec.specs.Lists.{IsIn};
 ghost use Rattle.crn_vec.specs.Elementary.{width, IsNamedRow};
 ghost use Rattle.crn_tab.specs.Slots.{basis_of, IsTableau};
-ghost use Rattle.crn_tab.specs.Tableau.{IsRowOfSign, NamesRows};
+ghost use Rattle.crn_tab.specs.Tableau.{IsColumnOfSign, IsRowOfSign, NamesRows};
 
 use crate::fields::Fields;
 use crate::fill::part;
 use crate::number::number_at;
 use crate::row::slot_of;
 use crate::tableau::Tableau;
-use crn_vec::{Sign, product, sign_of};
+use crate::wrong::follower;
+use crn_vec::{Sign, opposite, product, sign_of};
 
 // The sign of an entry of the vector that a coordinate outside the basis names, positive at that coordinate.
 fn sign_at(fields: &Fields, row: usize, col: usize) -> Sign
@@ -48,6 +49,31 @@ fn put_row_signs(fields: &Fields, row: usize, sign: Sign, signs: &mut [Sign])
     }
 }
 
+// The signs of the vectors that a member of the basis names, if they have this one there.
+fn put_signs_over_rows(fields: &Fields, col: usize, sign: Sign, signs: &mut [Sign])
+    requires tableau { IsTableau fields.now.matrix.now fields.now.at.now fields.now.order.now
+        fields.now.rows.now }
+    requires member { IsIn col (basis_of fields.now.matrix.now.cols fields.now.at.now) }
+    requires room { length signs.old ≡ width fields.now.matrix.now }
+    ensures count { length signs.new ≡ length signs.old }
+    ensures signs { (y : List ℤ)
+        → IsColumnOfSign fields.now.matrix.now
+        (basis_of fields.now.matrix.now.cols fields.now.at.now) col sign y → (k : ℕ)
+        → k < width fields.now.matrix.now → HasSign (slice_index_or signs.new k Zero) (entry y k) }
+{
+    let n = fields.matrix.cols();
+    let m = fields.matrix.rows();
+    let place = fields.at[col];
+    let other = opposite(sign);
+    signs.fill(Sign::Zero);
+    signs[col] = sign;
+    for i in 0..m {
+        let c = fields.order[n + i];
+        let kept = part(fields.rows, i, n + 1);
+        signs[c] = follower(other, &kept[place]);
+    }
+}
+
 // What the slots and rows of a tableau say of its basis.
 fn slots_name_rows(_fields: &Fields)
     requires tableau { IsTableau _fields.now.matrix.now _fields.now.at.now _fields.now.order.now
@@ -80,6 +106,19 @@ impl Tableau {
             → HasSign (slice_index_or signs.new k Zero) (entry w k) }
     {
         put_row_signs(&self.fields(), row, sign, signs);
+    }
+
+    /// Writes the signs of the vectors that the basis names by a coordinate in it, and of this sign there, into a list of their length.
+    /// It goes over the rows once, and takes no memory.
+    pub fn put_column_signs(&self, col: usize, sign: Sign, signs: &mut [Sign])
+        requires member { IsIn col self.now.basis }
+        requires room { length signs.old ≡ width self.now.matrix }
+        ensures count { length signs.new ≡ length signs.old }
+        ensures signs { (y : List ℤ) → IsColumnOfSign self.now.matrix self.now.basis col sign y
+            → (k : ℕ) → k < width self.now.matrix
+            → HasSign (slice_index_or signs.new k Zero) (entry y k) }
+    {
+        put_signs_over_rows(&self.fields(), col, sign, signs);
     }
 
     /// What a tableau keeps as its basis is a basis, and names a vector without a wide entry by each coordinate outside it.
