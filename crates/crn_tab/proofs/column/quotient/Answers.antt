@@ -1,4 +1,4 @@
-use Rattle.crn_tab.proofs.Prelude.{◌≡◌, ◌*◌, ◌^◌, ◌<◌, ℕ, refl, ◌∙◌, arith, to_z, of_z, ℤ, pos, ◌-ℤ◌, ◌*ℤ◌, neg_ℤ, FitsSigned, unsigned_abs, w64, w128, ints, to_z-of_z, fits_signed_from_abs, unsigned_abs-mul, WIDE_ENTRY, minus, abs_minus, neg-mul, ap, sym, rules, ◌≤◌}
+use Rattle.crn_tab.proofs.Prelude.{subst, ◌≡◌, ◌*◌, ◌^◌, ◌<◌, ℕ, refl, ◌∙◌, arith, to_z, of_z, ℤ, pos, ◌-ℤ◌, ◌*ℤ◌, neg_ℤ, FitsSigned, unsigned_abs, w64, w128, ints, to_z-of_z, fits_signed_from_abs, unsigned_abs-mul, WIDE_ENTRY, minus, abs_minus, neg-mul, ap, sym, rules, ◌≤◌, ◌∣◌}
 use Rattle.crn_tab.proofs.Cross.{read, widened, narrowed, product_small}
 use Rattle.crn_tab.proofs.ColumnList.{nothing}
 use Rattle.crn_tab.proofs.column.quotient.Goals as goal
@@ -60,3 +60,21 @@ pub returns-then-num-eq0 : goal.returns-then-num-eq0
 returns-then-num-eq0 c =
     let zero : c.args.num.now ≡ pos 0 = sym (read c.args.num.now c.requires.num_small) ∙ ap (to_z w64) c.if-num-eq0.true in
     (nothing c.args.num.now c.args.den.now c.args.l.now zero, omega arith)
+
+-- where the product is small
+pub over-requires-clause-divides : goal.over-requires-clause-divides
+over-requires-clause-divides c =
+    let num = c.args.num.now in
+    let l = c.args.l.now in
+    let D : ℕ → Type 0 = λ k. unsigned_abs c.args.den.now ∣ k in
+    subst D (sym (ap unsigned_abs (read c.in-Some.product c.in-Some.ensures.1 ∙ c.in-Some.ensures.0) ∙ unsigned_abs-mul num (pos l))) c.requires.divides
+
+pub returns-in-Some : goal.returns-in-Some
+returns-in-Some c =
+    let num = c.args.num.now in
+    let den = c.args.den.now in
+    let l = c.args.l.now in
+    let x = c.over.result in
+    let small : unsigned_abs x < WIDE_ENTRY = c.over.ensures.small in
+    let fits : unsigned_abs (neg_ℤ x) < WIDE_ENTRY = omega (arith, ints, small) in
+    rw (read x small, minus x, read (neg_ℤ x) fits) (neg-mul x den ∙ ap neg_ℤ (c.over.ensures.value ∙ read c.in-Some.product c.in-Some.ensures.1 ∙ c.in-Some.ensures.0), fits)
