@@ -1,4 +1,4 @@
-ghost use Rattle.std.specs.Prelude.{◌≡◌, ◌≤◌, ◌<◌, ◌⊎◌, ◌↔◌, ℕ, ℤ, IsTrue, false, length, slice_index, slice_index_or};
+ghost use Rattle.std.specs.Prelude.{◌≡◌, ◌≤◌, ◌<◌, ◌⊎◌, ℕ, ℤ, IsTrue, false, length, slice_index, slice_index_or};
 ghost use Rattle.crn_vec.specs.Vectors.{HasSign};
 ghost use Rattle.crn_vec.specs.declared.signs.Kind.TheVariants.{Pos};
 ghost use Rattle.crn_vec.specs.Lists.{IsIn};
@@ -11,7 +11,9 @@ ghost use Rattle.crn_tab.specs.Slots.{basis_of, IsTableau};
 use crate::fields::Fields;
 use crate::fill::part;
 use crate::tableau::Tableau;
-use crn_vec::{Kind, Sign, is_minus_sign, is_plus_sign, may_weigh, opposite, product, sign_of};
+use crn_vec::{
+    Kind, Sign, is_minus_sign, is_plus_sign, may_take, may_weigh, opposite, product, sign_of,
+};
 
 // The sign of a number, times this sign.
 pub(crate) fn follower(sign: Sign, x: &i64) -> Sign
@@ -76,15 +78,27 @@ fn wrong_at(
     least_wrong(sign, x, kinds[c], level[c], from, best)
 }
 
-// The kind whose weights are what a part of a solution may have at a coordinate of the given kind.
-fn dual(kind: Kind) -> Kind
-    ensures { (x : ℤ) → MayTake kind x ↔ MayWeigh result x }
+// Whether numbers of a sign may not be in a part of a solution. It takes no branch either.
+fn is_refused(kind: Kind, sign: Sign) -> bool
+    ensures yes { IsTrue result → (x : ℤ) → HasSign sign x → MayTake kind x → ⊥ }
+    ensures no { result ≡ false → (x : ℤ) → HasSign sign x → MayTake kind x }
 {
-    match kind {
-        Kind::Zero => Kind::Free,
-        Kind::Free => Kind::Zero,
-        _ => kind,
-    }
+    let bars_plus = !may_take(kind, Sign::Plus);
+    let bars_minus = !may_take(kind, Sign::Minus);
+    (is_plus_sign(sign) & bars_plus) | (is_minus_sign(sign) & bars_minus)
+}
+
+// The least level so far of a coordinate at which a part of a solution would be wrong.
+fn least_refused(sign: Sign, x: &i64, kind: Kind, level: usize, from: usize, best: usize) -> usize
+    ensures lower { result ≤ best }
+    ensures from { from ≤ best → from ≤ result }
+    ensures right { (y : ℤ) → Follows sign x.now y → from ≤ level → level < result
+        → MayTake kind y }
+    ensures wrong { (result ≡ best)
+        ⊎ ((result ≡ level) × ((y : ℤ) → Follows sign x.now y → MayTake kind y → ⊥)) }
+{
+    let wrong = is_refused(kind, follower(sign, x));
+    lower_level(best, level, wrong & (from <= level))
 }
 
 // The least level of a coordinate at which the vectors of one outside the basis are wrong.
@@ -125,8 +139,9 @@ fn wrong_row(
     best
 }
 
-// The least level of a coordinate at which the vectors of a member of the basis are wrong.
-fn wrong_column(
+// The least level of a coordinate at which the vectors of a member of the basis are wrong. Each sign has a copy of this loop.
+#[inline(always)]
+fn scan_column(
     fields: &Fields,
     col: usize,
     sign: Sign,
@@ -157,13 +172,48 @@ fn wrong_column(
     let m = fields.matrix.rows();
     let place = fields.at[col];
     let other = opposite(sign);
-    let mut best = least_wrong(sign, &1, dual(kinds[col]), level[col], from, end);
+    let mut best = least_refused(sign, &1, kinds[col], level[col], from, end);
     for i in 0..m {
         let c = fields.order[n + i];
         let kept = part(fields.rows, i, n + 1);
-        best = least_wrong(other, &kept[place], dual(kinds[c]), level[c], from, best);
+        best = least_refused(other, &kept[place], kinds[c], level[c], from, best);
     }
     best
+}
+
+// The least level of a coordinate at which the vectors of a member of the basis are wrong.
+fn wrong_column(
+    fields: &Fields,
+    col: usize,
+    sign: Sign,
+    kinds: &[Kind],
+    level: &[usize],
+    from: usize,
+    end: usize,
+) -> usize
+    requires tableau { IsTableau fields.now.matrix.now fields.now.at.now fields.now.order.now
+        fields.now.rows.now }
+    requires member { IsIn col (basis_of fields.now.matrix.now.cols fields.now.at.now) }
+    requires kinds { length kinds.now ≡ width fields.now.matrix.now }
+    requires level { length level.now ≡ width fields.now.matrix.now }
+    requires range { from ≤ end }
+    ensures low { from ≤ result }
+    ensures high { result ≤ end }
+    ensures right { AreRight
+        (IsColumnOfSign fields.now.matrix.now
+        (basis_of fields.now.matrix.now.cols fields.now.at.now) col sign) MayTake kinds.now
+        level.now (width fields.now.matrix.now) from result }
+    ensures wrong { (result ≡ end)
+        ⊎ AreWrongAt
+        (IsColumnOfSign fields.now.matrix.now
+        (basis_of fields.now.matrix.now.cols fields.now.at.now) col sign) MayTake kinds.now
+        level.now (width fields.now.matrix.now) result }
+{
+    match sign {
+        Sign::Plus => scan_column(fields, col, Sign::Plus, kinds, level, from, end),
+        Sign::Minus => scan_column(fields, col, Sign::Minus, kinds, level, from, end),
+        Sign::Zero => scan_column(fields, col, Sign::Zero, kinds, level, from, end),
+    }
 }
 
 impl Tableau {

@@ -1,7 +1,7 @@
 use Rattle.crn_tab.proofs.Prelude.{◌≡◌, ◌<◌, ◌⊎◌, inl, inr, ℕ, ◌+◌, List, length, refl, ap, subst, arith, ℤ, slice_index, Pos, width, entry, MayTake, kind_at, IsColumnOfSign, AreWrongAt, basis_of, row_at}
 use Rattle.crn_tab.proofs.BasisPlace.{has_place}
 use Rattle.crn_tab.proofs.Scans.{ColumnRight, wrong_more, column_all, column_first, column_first_wrong, column_stepped, column_wrong}
-use Rattle.crn_tab.proofs.wrong.wrong_column.Goals as goal
+use Rattle.crn_tab.proofs.wrong.scan_column.Goals as goal
 
 pub offset_bounds-fields-col : goal.offset_bounds-fields-col
 offset_bounds-fields-col c =
@@ -36,15 +36,15 @@ loop-i-init c =
     let sign = c.args.sign in
     let h = has_place a at c.args.fields.now.order.now c.args.fields.now.rows.now b c.requires.tableau c.requires.member in
     let b_lt : b < length kinds = omega (arith, h.inside, c.requires.tableau.placed.at_long, c.requires.kinds) in
-    let first = c.least_wrong-best in
+    let first = c.least_refused-best in
     record {
       low = first.ensures.from c.requires.range;
       high = first.ensures.lower;
-      right = column_first a at c.args.fields.now.order.now b sign kinds level c.args.from first.result Pos c.dual.result b_lt (λ x. (c.dual.ensures x).1) first.ensures.right;
+      right = column_first a at c.args.fields.now.order.now b sign kinds level c.args.from first.result Pos b_lt first.ensures.right;
       wrong = elim first.ensures.wrong as (λ _. (first.result ≡ c.args.end) ⊎ AreWrongAt (IsColumnOfSign a (basis_of a.cols at) b sign) MayTake kinds level (width a) first.result) [
         | inl same ↦ inl same
         | inr new ↦ wrong_more (IsColumnOfSign a (basis_of a.cols at) b sign) MayTake kinds level (width a) c.args.end c.args.end first.result b (inl refl) (omega (arith, b_lt, c.requires.kinds))
-            (inr (new.0, column_first_wrong a at b sign kinds Pos c.dual.result b_lt (λ x. (c.dual.ensures x).0) new.1))
+            (inr (new.0, column_first_wrong a at b sign kinds Pos b_lt new.1))
       ];
     }
 
@@ -74,17 +74,17 @@ loop-i-preserved c =
     let is = taken a.cols c.cols-n.result i c.args.fields.now.rows.now c.part-kept.result.now c.cols-n.ensures.count c.part-kept.ensures in
     let i_lt : i < length a.rows = omega (arith, c.loop-i-test.true, c.rows-m.ensures.count) in
     let place_is : place ≡ slice_index order (a.cols + i) = ap (λ k. slice_index order (k + i)) c.cols-n.ensures.count in
-    let next = c.least_wrong-best-in-loop-i in
+    let next = c.least_refused-best-in-loop-i in
     record {
       low = next.ensures.from c.loop-i.invariant.low;
       high = omega (arith, next.ensures.lower, c.loop-i.invariant.high);
-      right = column_stepped a at order c.args.fields.now.rows.now c.part-kept.result.now b sign other kinds level c.args.from c.loop-i.best next.result i place Pos c.dual-in-loop-i.result
-          c.requires.tableau c.requires.member c.requires.kinds i_lt c.opposite-other.ensures is place_is c.loop-i.invariant.right next.ensures.lower (λ x. (c.dual-in-loop-i.ensures x).1) next.ensures.right;
+      right = column_stepped a at order c.args.fields.now.rows.now c.part-kept.result.now b sign other kinds level c.args.from c.loop-i.best next.result i place Pos
+          c.requires.tableau c.requires.member c.requires.kinds i_lt c.opposite-other.ensures is place_is c.loop-i.invariant.right next.ensures.lower next.ensures.right;
       wrong = wrong_more (IsColumnOfSign a (basis_of a.cols at) b sign) MayTake kinds level (width a) c.args.end c.loop-i.best next.result place c.loop-i.invariant.wrong
           (omega (arith, place_is, c.requires.tableau.placed.order_below (a.cols + i) (omega (arith, i_lt))))
           (elim next.ensures.wrong as (λ _. (next.result ≡ c.loop-i.best) ⊎ ((next.result ≡ slice_index level place) × ((y : List ℤ) → IsColumnOfSign a (basis_of a.cols at) b sign y → MayTake (kind_at kinds place) (entry y place) → ⊥))) [
             | inl same ↦ inl same
-            | inr new ↦ inr (new.0, column_wrong a at order c.args.fields.now.rows.now c.part-kept.result.now b sign other kinds i place Pos c.dual-in-loop-i.result c.requires.tableau c.requires.member c.requires.kinds i_lt c.opposite-other.ensures is place_is (λ x. (c.dual-in-loop-i.ensures x).0) new.1)
+            | inr new ↦ inr (new.0, column_wrong a at order c.args.fields.now.rows.now c.part-kept.result.now b sign other kinds i place Pos c.requires.tableau c.requires.member c.requires.kinds i_lt c.opposite-other.ensures is place_is new.1)
           ]);
     }
 

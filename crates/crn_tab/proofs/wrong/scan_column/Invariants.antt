@@ -1,6 +1,6 @@
 use Rattle.crn_tab.proofs.Prelude.{◌≡◌, ◌≤◌, ◌⊎◌, width, MayTake, IsColumnOfSign, AreWrongAt, basis_of}
 use Rattle.crn_tab.proofs.Scans.{ColumnRight}
-use Rattle.crn_tab.proofs.wrong.wrong_column.Given as goal
+use Rattle.crn_tab.proofs.wrong.scan_column.Given as goal
 
 abbrev pub invariant-loop-i : goal.invariant-loop-i
 invariant-loop-i l = record {
