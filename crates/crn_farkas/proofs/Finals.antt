@@ -1,6 +1,5 @@
 -- From the parts of a decision to what it says.
-use Rattle.crn_farkas.proofs.Prelude.{◌≡◌, ◌≢◌, ℕ, zero, suc, ◌+◌, ◌-◌, ◌<◌, ◌≤◌, ◌⊎◌, ◌↔◌, inl, inr, List, [], ◌∷◌, length, get_or, take, refl, sym, ap, subst, ◌∙◌, add-one, arith, replicate, ℤ, pos, unsigned_abs, Bool, true, false, Result, Ok, Err, MatchResult, ints, get_or-drop, get_or-replicate, length-replicate, false≢true, MAX_SIGNED, Kind, Pos, Neg, NonNeg, Free, Mat, entry, IsIn, width, IsNamedRow, HasKind, MayTake, kind_at, HasOneRowCut, signed_count, HasSigned, lt_or, past_end, zip_from, kind_from, take_zero, dot-zero, AllZero, Stop, Wide, NoMemory, Decision, is_early_kind, level_of, level_count, HasKeptCut, IsNearStop, IsRuledOut, IsSmallSolution, IsDecision, IsTargetStop, IsStop, IsPartSum, AreZeros, IsGoalStop}
-use Rattle.crn_vec.specs.declared.signs.Kind.TheVariants.{Zero}
+use Rattle.crn_farkas.proofs.Prelude.{◌≡◌, ◌≢◌, ℕ, zero, suc, ◌+◌, ◌-◌, ◌<◌, ◌≤◌, ◌↔◌, inl, inr, List, [], ◌∷◌, length, get_or, take, refl, sym, ap, subst, ◌∙◌, arith, replicate, ℤ, pos, unsigned_abs, Result, Ok, Err, MatchResult, ints, get_or-drop, get_or-replicate, length-replicate, MAX_SIGNED, Kind, Free, Mat, entry, IsIn, width, IsNamedRow, HasKind, MayTake, kind_at, HasOneRowCut, signed_count, HasSigned, lt_or, past_end, zip_from, kind_from, take_zero, dot-zero, AllZero, Stop, Wide, NoMemory, Decision, HasKeptCut, IsNearStop, IsRuledOut, IsSmallSolution, IsDecision, IsTargetStop, IsStop, IsPartSum, AreZeros, IsGoalStop}
 use Rattle.crn_farkas.proofs.PartSums.{part_bound}
 
 -- a list filled with zeros
@@ -36,59 +35,6 @@ solution_from a kinds v x long few p e = record {
   };
   small = λ k. omega (arith, part_bound a kinds (length kinds) v p few k);
 }
-
--- ---- the order of settling
-
-pub early_or : (κ : Kind) → (is_early_kind κ ≡ true) ⊎ (is_early_kind κ ≡ false)
-early_or Pos = inr refl
-early_or Neg = inr refl
-early_or NonNeg = inr refl
-early_or Zero = inl refl
-early_or Free = inl refl
-
--- ---- how many coordinates are early, and how many are not
-
-pub level_is : (early e : Bool) → e ≡ early → level_of early e ≡ 1
-level_is true true h = refl
-level_is true false h = absurd (false≢true h)
-level_is false true h = absurd (false≢true (sym h))
-level_is false false h = refl
-
-pub level_not : (early e : Bool) → ¬ (e ≡ early) → level_of early e ≡ 0
-level_not true true h = absurd (h refl)
-level_not true false h = refl
-level_not false true h = refl
-level_not false false h = absurd (h refl)
-
-level_suc : (early : Bool) (kinds : List Kind) (c : ℕ) → c < length kinds → level_count early (take (suc c) kinds) ≡ level_count early (take c kinds) + level_of early (is_early_kind (kind_at kinds c))
-level_suc early [] c h = absurd (omega arith)
-level_suc early (κ ∷ kinds) zero h = omega arith
-level_suc early (κ ∷ kinds) (suc c) h = omega (arith, level_suc early kinds c (omega arith))
-
--- one more coordinate
-pub level_step : (early : Bool) (kinds : List Kind) (c : ℕ) → c < length kinds → level_count early (take (c + 1) kinds) ≡ level_count early (take c kinds) + level_of early (is_early_kind (kind_at kinds c))
-level_step early kinds c h = rw add-one (level_suc early kinds c h)
-
-pub level_prefix : (early : Bool) (kinds : List Kind) (c : ℕ) → level_count early (take c kinds) ≤ level_count early kinds
-level_prefix early [] zero = omega arith
-level_prefix early [] (suc c) = omega arith
-level_prefix early (κ ∷ kinds) zero = omega arith
-level_prefix early (κ ∷ kinds) (suc c) = omega (arith, level_prefix early kinds c)
-
-pub level_all : (early : Bool) (kinds : List Kind) (c : ℕ) → length kinds ≤ c → level_count early (take c kinds) ≡ level_count early kinds
-level_all early [] zero h = refl
-level_all early [] (suc c) h = refl
-level_all early (κ ∷ kinds) zero h = absurd (omega arith)
-level_all early (κ ∷ kinds) (suc c) h = ap (λ (n : ℕ). level_of early (is_early_kind κ) + n) (level_all early kinds c (omega arith))
-
-pub one_level : (e : Bool) → level_of true e + level_of false e ≡ 1
-one_level true = refl
-one_level false = refl
-
--- each coordinate is early or not
-pub both_levels : (kinds : List Kind) → level_count true kinds + level_count false kinds ≡ length kinds
-both_levels [] = refl
-both_levels (κ ∷ kinds) = omega (arith, one_level (is_early_kind κ), both_levels kinds)
 
 -- ---- what stops a decision
 

@@ -2,13 +2,12 @@ mod Pairs
 mod Seen
 mod SignRules
 mod ReadSigns
+mod Levels
 mod Steps
 mod Ruling
 mod Witnesses
 mod PartSums
 mod Finals
-mod Levels
-mod Placing
 mod Marks
 mod Witnessing
 mod WideStops

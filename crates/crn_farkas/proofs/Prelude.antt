@@ -1,7 +1,7 @@
 -- What this crate's proofs use of other crates and of its specs.
 pub use Rattle.crn_farkas.specs.Decision.{IsDecision, IsSmallCut, IsSmallSolution, IsStop, IsTargetStop, WitnessesMakeSolutions, factor}
 pub use Rattle.crn_farkas.specs.Inner.Sums.{AreZeros, HasPartSum, IsGoalStop, IsPart, IsPartSum, IsWitness}
-pub use Rattle.crn_farkas.specs.Inner.Views.{AgreeBeyond, AreLevels, HasCrossed, IsFirstWrong, IsOrder, IsRight, IsRightBetween, IsRightEverywhere, IsSeen, IsSettled, IsSwapped, IsView, IsViewed, IsWrongHere, is_early_kind, lead_at, level_count, level_of}
+pub use Rattle.crn_farkas.specs.Inner.Views.{AgreeBeyond, AreLevels, HasCrossed, IsFirstWrong, IsRight, IsRightBetween, IsRightEverywhere, IsSeen, IsSettled, IsSwapped, IsView, IsViewed, IsWrongHere, lead_at}
 pub use Rattle.crn_farkas.specs.Solver.{AreCutSigns, AreNamedMultipliers, AreSignsOf, AreWitnessSigns, CutsBy, HasKeptCut, IsNamedCut, IsNear, IsNearStop, IsRefusedStop, IsRuledOut, IsUnsolvable}
 pub use Rattle.crn_farkas.specs.declared.decision.Decision.{Decision}
 pub use Rattle.crn_farkas.specs.declared.fault.Stop.{Stop}
@@ -9,9 +9,9 @@ pub use Rattle.crn_farkas.specs.declared.fault.Stop.TheVariants.{NoMemory, Wide}
 pub use Rattle.crn_farkas.specs.declared.goal.Part.{Part}
 pub use Rattle.crn_farkas.specs.declared.view.View.{View}
 pub use Rattle.crn_farkas.specs.declared.view.View.TheVariants.{Column, Row}
-pub use Rattle.crn_tab.proofs.CallerLemmas.{as_row, column_at, exchanged_list, found, isIn_or, one_column, one_row, proportional_by, sign_carried, sign_some, wide_shown}
+pub use Rattle.crn_tab.proofs.CallerLemmas.{as_row, column_at, exchanged_list, isIn_or, one_column, one_row, proportional_by, sign_carried, sign_some, wide_shown}
 pub use Rattle.crn_tab.specs.Tableau.{AreRight, AreWrongAt, IsColumnOfSign, IsNumbered, IsRefused, IsRowOfSign, KeptTableau, NamesRows, RulesBelow}
-pub use Rattle.crn_vec.proofs.CallerLemmas.{Zero as AllZero, Quiet, any_default, assoc, at_in, cuts_exclude_solutions, dot-comm, dot-plus, dot-scale, dot-scale-right, dot-zero, dot_single, entry-plus, entry-scale, entry-zeros, eq_or, held, if_ok, kind_from, kind_takes, kind_weighs, kinds_at, length-plus, length-scale, length-zeros, look_at, lt_or, mul-neg, no_zero, one-mul, orthogonal, part, past_end, plus, positive_some, product_some, same_members, settled_dual, settled_row, sum_some, sum_within, take-scale, take_sum, take_zero, weigh_zero, weights_decide_cuts, within_from, within_take, zeros, zip_from}
+pub use Rattle.crn_vec.proofs.CallerLemmas.{Zero as AllZero, Quiet, any_default, assoc, cuts_exclude_solutions, dot-comm, dot-plus, dot-scale, dot-scale-right, dot-zero, dot_single, entry-plus, entry-scale, entry-zeros, eq_or, held, if_ok, kind_from, kind_takes, kind_weighs, kinds_at, length-plus, length-scale, length-zeros, look_at, lt_or, mul-neg, no_zero, one-mul, orthogonal, part, past_end, plus, positive_some, product_some, same_members, settled_dual, settled_row, sum_some, sum_within, take-scale, take_sum, take_zero, weigh_zero, weights_decide_cuts, within_from, within_take, zeros, zip_from}
 pub use Rattle.crn_vec.specs.Elementary.{InDualSpace, InRowSpace, IsElementary, IsNamed, IsNamedColumn, IsNamedRow, IsWideMatrix, NamesWide, WideAt, width}
 pub use Rattle.crn_vec.specs.Kept.{KeptInts}
 pub use Rattle.crn_vec.specs.Lists.{IsIn}

@@ -1,7 +1,7 @@
 -- What a solver's answers say of the basis that it keeps, and what it keeps.
 -- Shapes: `kinds`, `marks` and `signs` have a member for each coordinate; a basis is ascending and counted from 0, `numbers` from 1.
 use Rattle.std.specs.List.{AllZip}
-use Rattle.std.specs.Prelude.{Bool, Err, List, Ok, Result, drop, length, map, suc, ℕ, ℤ, ◌<◌, ◌≡◌, ◌≢◌, ◌≤◌, ◌⊎◌}
+use Rattle.std.specs.Prelude.{Bool, Err, List, Ok, Result, drop, length, map, suc, ℕ, ℤ, ◌<◌, ◌≡◌, ◌≢◌, ◌⊎◌}
 use Rattle.crn_farkas.specs.Decision.{IsSmallCut}
 use Rattle.crn_farkas.specs.declared.alternative.Alternative.{Alternative}
 use Rattle.crn_farkas.specs.declared.alternative.Alternative.TheVariants.{Cut, Witness}
@@ -148,8 +148,7 @@ IsAlternative a basis kinds g signs Witness = AreWitnessSigns a basis kinds g si
 IsAlternative a basis kinds g signs (Cut cut) = (cut.row ≡ g) × IsCutBy a basis kinds cut.row cut.sign × AreCutSigns a basis g cut.sign signs
 
 -- each working list has room for all coordinates of the matrix
-pub record HasRoom (a : Mat) (room : ℕ) (level : List ℕ) (sum work : List ℤ) (marks : List Bool) : Type 0 where
-  pub order_room : width a ≤ room
+pub record HasRoom (a : Mat) (level : List ℕ) (sum work : List ℤ) (marks : List Bool) : Type 0 where
   pub level_long : length level ≡ width a
   pub sum_long : length sum ≡ width a
   pub work_long : length work ≡ width a

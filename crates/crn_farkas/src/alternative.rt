@@ -1,4 +1,4 @@
-ghost use Rattle.std.specs.Prelude.{◌≡◌, ◌≤◌, ◌<◌, ℕ, ℤ, List, true, length, slice_index_or, vec_capacity, IfOk, IfErr};
+ghost use Rattle.std.specs.Prelude.{◌≡◌, ◌<◌, ℕ, ℤ, List, true, length, slice_index_or, IfOk, IfErr};
 ghost use Rattle.crn_vec.specs.Vectors.{entry, HasSign};
 ghost use Rattle.crn_vec.specs.declared.signs.Sign.TheVariants.{Zero};
 ghost use Rattle.crn_vec.specs.Elementary.{width};
@@ -9,8 +9,8 @@ ghost use Rattle.crn_farkas.specs.Inner.Views.{IsSeen, IsView};
 use crate::cut::Cut;
 use crate::fault::Stop;
 use crate::goal::{settled_cut, settled_view};
-use crate::level::{Order, seen_lead};
-use crate::targets::put_order;
+use crate::level::seen_lead;
+use crate::targets::put_levels;
 use crate::view::View;
 use crn_tab::Tableau;
 use crn_vec::{Kind, Sign};
@@ -47,30 +47,23 @@ fn put_signs(tableau: &Tableau, view: View, kinds: &[Kind], g: usize, signs: &mu
 pub(crate) fn alternative_at(
     tableau: &mut Tableau,
     kinds: &[Kind],
-    order: &mut Vec<usize>,
     level: &mut [usize],
     g: usize,
     signs: &mut [Sign],
 ) -> Result<Alternative, Stop>
     requires kinds { length kinds.now ≡ width tableau.old.matrix }
     requires signs { length signs.old ≡ length kinds.now }
-    requires room { width tableau.old.matrix ≤ vec_capacity order.old }
     requires level { length level.old ≡ width tableau.old.matrix }
     requires goal { g < width tableau.old.matrix }
     requires asked { is_signed (kind_at kinds.now g) ≡ true }
     ensures matrix { tableau.new.matrix ≡ tableau.old.matrix }
-    ensures room { vec_capacity order.new ≡ vec_capacity order.old }
     ensures count { length signs.new ≡ length signs.old }
     ensures answer { IfOk result
         (λ d. IsAlternative tableau.new.matrix tableau.new.basis kinds.now g signs.new d) }
     ensures refused { IfErr result (λ s. IsRefusedStop tableau.new.matrix tableau.new.basis s) }
 {
-    put_order(order, level, kinds);
-    let settling = Order {
-        places: order,
-        levels: level,
-    };
-    let view = settled_view(tableau, kinds, &settling, g)?;
+    put_levels(tableau, level, kinds);
+    let view = settled_view(tableau, kinds, level, g)?;
     tableau.names_rows();
     put_signs(tableau, view, kinds, g, signs);
     match view {

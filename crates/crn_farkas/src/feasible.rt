@@ -1,4 +1,4 @@
-ghost use Rattle.std.specs.Prelude.{◌≡◌, ◌≢◌, ◌≤◌, ◌<◌, ◌+◌, ◌⊎◌, ℕ, ℤ, pos, List, true, false, IsTrue, length, slice_index, slice_index_or, vec_capacity, MatchResult, MatchOption, IfErr};
+ghost use Rattle.std.specs.Prelude.{◌≡◌, ◌≢◌, ◌<◌, ◌+◌, ◌⊎◌, ℕ, ℤ, pos, List, true, false, IsTrue, length, slice_index_or, MatchResult, MatchOption, IfErr};
 ghost use Rattle.crn_vec.specs.Lists.{IsIn};
 ghost use Rattle.crn_vec.specs.Vectors.{entry};
 ghost use Rattle.crn_vec.specs.Elementary.{width};
@@ -6,14 +6,14 @@ ghost use Rattle.crn_vec.specs.Systems.{kind_at, is_signed};
 ghost use Rattle.crn_farkas.specs.Solver.{HasKeptCut, IsCutBy, IsUnsolvable, IsRefusedStop, IsFeasibility};
 ghost use Rattle.crn_farkas.specs.Inner.Sums.{HasPartSum};
 ghost use Rattle.crn_farkas.specs.Decision.{IsTargetStop};
-ghost use Rattle.crn_farkas.specs.Inner.Views.{IsSeen, IsView, IsOrder};
+ghost use Rattle.crn_farkas.specs.Inner.Views.{AreLevels, IsSeen, IsView};
 
 use crate::cut::{Cut, kept_cut};
 use crate::fault::Stop;
 use crate::feasibility::Feasibility;
 use crate::goal::{settled_cut, settled_view};
-use crate::level::{Order, column_sign, lead_sign};
-use crate::targets::put_order;
+use crate::level::{column_sign, lead_sign};
+use crate::targets::put_levels;
 use crate::view::View;
 use crn_tab::Tableau;
 use crn_vec::{Kind, counts, is_asked, sign_asked};
@@ -43,14 +43,14 @@ fn mark(tableau: &Tableau, kinds: &[Kind], marks: &mut [bool], b: usize, g: usiz
 fn settle_at(
     tableau: &mut Tableau,
     kinds: &[Kind],
-    order: &Order,
+    levels: &[usize],
     marks: &mut [bool],
     g: usize,
 ) -> Result<Option<Cut>, Stop>
     requires kinds { length kinds.now ≡ width tableau.old.matrix }
     requires marks { length marks.old ≡ length kinds.now }
     requires goal { g < width tableau.old.matrix }
-    requires order { IsOrder (length kinds.now) order.now.places.now order.now.levels.now }
+    requires levels { AreLevels (length kinds.now) levels.now }
     requires sum { HasPartSum tableau.old.matrix kinds.now g marks.old }
     ensures matrix { tableau.new.matrix ≡ tableau.old.matrix }
     ensures count { length marks.new ≡ length marks.old }
@@ -67,7 +67,7 @@ fn settle_at(
     if marks[g] {
         return Ok(None);
     }
-    match settled_view(tableau, kinds, order, g)? {
+    match settled_view(tableau, kinds, levels, g)? {
         View::Row => Ok(Some(settled_cut(tableau, kinds, g))),
         View::Column(b) => {
             tableau.names_rows();
@@ -81,12 +81,12 @@ fn settle_at(
 fn settle_everywhere(
     tableau: &mut Tableau,
     kinds: &[Kind],
-    order: &Order,
+    levels: &[usize],
     marks: &mut [bool],
 ) -> Result<Option<Cut>, Stop>
     requires kinds { length kinds.now ≡ width tableau.old.matrix }
     requires marks { length marks.old ≡ length kinds.now }
-    requires order { IsOrder (length kinds.now) order.now.places.now order.now.levels.now }
+    requires levels { AreLevels (length kinds.now) levels.now }
     requires sum { HasPartSum tableau.old.matrix kinds.now 0 marks.old }
     ensures matrix { tableau.new.matrix ≡ tableau.old.matrix }
     ensures count { length marks.new ≡ length marks.old }
@@ -98,7 +98,7 @@ fn settle_everywhere(
     ensures refused { IfErr result (λ s. IsRefusedStop tableau.new.matrix tableau.new.basis s) }
 {
     for g in 0..kinds.len() {
-        if let Some(cut) = settle_at(tableau, kinds, order, marks, g)? {
+        if let Some(cut) = settle_at(tableau, kinds, levels, marks, g)? {
             return Ok(Some(cut));
         }
     }
@@ -109,29 +109,22 @@ fn settle_everywhere(
 fn by_signs(
     tableau: &mut Tableau,
     kinds: &[Kind],
-    order: &mut Vec<usize>,
     level: &mut [usize],
     marks: &mut [bool],
 ) -> Result<Feasibility, Stop>
     requires kinds { length kinds.now ≡ width tableau.old.matrix }
-    requires room { width tableau.old.matrix ≤ vec_capacity order.old }
     requires level { length level.old ≡ width tableau.old.matrix }
     requires marks { length marks.old ≡ width tableau.old.matrix }
     ensures matrix { tableau.new.matrix ≡ tableau.old.matrix }
-    ensures room { vec_capacity order.new ≡ vec_capacity order.old }
     ensures count { length marks.new ≡ length marks.old }
     ensures answer { MatchResult result
         (λ d. IsFeasibility tableau.new.matrix tableau.new.basis kinds.now d)
         (λ s. IsTargetStop tableau.new.matrix kinds.now s) }
     ensures refused { IfErr result (λ s. IsRefusedStop tableau.new.matrix tableau.new.basis s) }
 {
-    put_order(order, level, kinds);
+    put_levels(tableau, level, kinds);
     marks.fill(false);
-    let settling = Order {
-        places: order,
-        levels: level,
-    };
-    match settle_everywhere(tableau, kinds, &settling, marks)? {
+    match settle_everywhere(tableau, kinds, level, marks)? {
         Some(cut) => Ok(Feasibility::Unsolvable(cut)),
         None => Ok(Feasibility::Solvable),
     }
@@ -141,16 +134,13 @@ fn by_signs(
 pub(crate) fn feasibility(
     tableau: &mut Tableau,
     kinds: &[Kind],
-    order: &mut Vec<usize>,
     level: &mut [usize],
     marks: &mut [bool],
 ) -> Result<Feasibility, Stop>
     requires kinds { length kinds.now ≡ width tableau.old.matrix }
-    requires room { width tableau.old.matrix ≤ vec_capacity order.old }
     requires level { length level.old ≡ width tableau.old.matrix }
     requires marks { length marks.old ≡ width tableau.old.matrix }
     ensures matrix { tableau.new.matrix ≡ tableau.old.matrix }
-    ensures room { vec_capacity order.new ≡ vec_capacity order.old }
     ensures count { length marks.new ≡ length marks.old }
     ensures answer { MatchResult result
         (λ d. IsFeasibility tableau.new.matrix tableau.new.basis kinds.now d)
@@ -161,6 +151,6 @@ pub(crate) fn feasibility(
 {
     match kept_cut(tableau, kinds) {
         Some(cut) => Ok(Feasibility::Unsolvable(cut)),
-        None => by_signs(tableau, kinds, order, level, marks),
+        None => by_signs(tableau, kinds, level, marks),
     }
 }

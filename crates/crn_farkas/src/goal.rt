@@ -1,16 +1,15 @@
-ghost use Rattle.std.specs.Prelude.{◌≡◌, ◌<◌, ℕ, ℤ, true, length, slice_index, MatchResult, IfOk, IfErr, OnOk};
+ghost use Rattle.std.specs.Prelude.{◌≡◌, ◌<◌, ℕ, ℤ, true, length, MatchResult, IfOk, IfErr, OnOk};
 ghost use Rattle.crn_vec.specs.Lists.{IsIn};
 ghost use Rattle.crn_vec.specs.Elementary.{width};
 ghost use Rattle.crn_vec.specs.Systems.{HasKind, kind_at, is_signed};
 ghost use Rattle.crn_vec.specs.Vectors.{HasSign};
 ghost use Rattle.crn_farkas.specs.Solver.{IsCutBy, IsRefusedStop};
 ghost use Rattle.crn_farkas.specs.Inner.Sums.{IsGoalStop, IsPart};
-ghost use Rattle.crn_farkas.specs.Inner.Views.{IsView, IsOrder, IsRightEverywhere};
+ghost use Rattle.crn_farkas.specs.Inner.Views.{AreLevels, IsView, IsRightEverywhere};
 ghost use Rattle.crn_tab.specs.Tableau.{IsRefused};
 
 use crate::cut::{Cut, multipliers, stays};
 use crate::fault::Stop;
-use crate::level::Order;
 use crate::settle::settle;
 use crate::view::View;
 use crn_tab::{Refused, Tableau};
@@ -57,17 +56,17 @@ fn witness(
     Ok(Part::Witness { stays })
 }
 
-// Settles the whole order for one coordinate that has to be positive or negative, and gives the view that is settled.
+// Settles all coordinates for one that has to be positive or negative, and gives the view that is settled.
 pub(crate) fn settled_view(
     tableau: &mut Tableau,
     kinds: &[Kind],
-    order: &Order,
+    levels: &[usize],
     g: usize,
 ) -> Result<View, Stop>
     requires kinds { length kinds.now ≡ width tableau.old.matrix }
     requires goal { g < width tableau.old.matrix }
     requires asked { is_signed (kind_at kinds.now g) ≡ true }
-    requires order { IsOrder (length kinds.now) order.now.places.now order.now.levels.now }
+    requires levels { AreLevels (length kinds.now) levels.now }
     ensures matrix { tableau.new.matrix ≡ tableau.old.matrix }
     ensures view { IfOk result (λ view. IsView tableau.new.matrix tableau.new.basis view g) }
     ensures right { IfOk result
@@ -75,7 +74,9 @@ pub(crate) fn settled_view(
     ensures refused { IfErr result (λ s. IsRefusedStop tableau.new.matrix tableau.new.basis s) }
 {
     let mut view = first_view(tableau, g);
-    if let Err(refused) = settle(tableau, &mut view, kinds, order, g, order.places.len()) {
+    tableau.names_rows();
+    let end = kinds.len() + kinds.len();
+    if let Err(refused) = settle(tableau, &mut view, kinds, levels, g, end) {
         return Err(refused_stop(tableau, &refused));
     }
     Ok(view)
@@ -118,14 +119,14 @@ pub(crate) fn part_of(
     alloc: Global,
     tableau: &mut Tableau,
     kinds: &[Kind],
-    order: &Order,
+    levels: &[usize],
     work: &mut [i128],
     g: usize,
 ) -> Result<Part, Stop>
     requires kinds { length kinds.now ≡ width tableau.old.matrix }
     requires goal { g < width tableau.old.matrix }
     requires asked { is_signed (kind_at kinds.now g) ≡ true }
-    requires order { IsOrder (length kinds.now) order.now.places.now order.now.levels.now }
+    requires levels { AreLevels (length kinds.now) levels.now }
     requires work { length work.old ≡ width tableau.old.matrix }
     ensures matrix { tableau.new.matrix ≡ tableau.old.matrix }
     ensures work { OnOk result (length work.new ≡ length work.old) }
@@ -133,7 +134,7 @@ pub(crate) fn part_of(
         (λ part. IsPart tableau.new.matrix tableau.new.basis kinds.now g work.new part)
         (λ s. IsGoalStop tableau.new.matrix tableau.new.basis s) }
 {
-    match settled_view(tableau, kinds, order, g)? {
+    match settled_view(tableau, kinds, levels, g)? {
         View::Row => {
             let cut = settled_cut(tableau, kinds, g);
             Ok(Part::Cut(multipliers(alloc, tableau, kinds, work, &cut)?))

@@ -3,22 +3,13 @@ ghost use Rattle.crn_vec.specs.Vectors.{entry, HasSign};
 ghost use Rattle.crn_vec.specs.Lists.{IsIn};
 ghost use Rattle.crn_vec.specs.Elementary.{width, IsNamedColumn};
 ghost use Rattle.crn_vec.specs.Systems.{kind_at, is_signed};
-ghost use Rattle.crn_farkas.specs.Inner.Views.{IsView, IsSeen, IsSettled, IsFirstWrong, IsRightBetween, IsWrongHere, lead_at, IsOrder};
+ghost use Rattle.crn_farkas.specs.Inner.Views.{IsView, IsSeen, IsSettled, IsFirstWrong, IsRightBetween, IsWrongHere, lead_at};
 
 use crate::view::View;
 use crn_tab::Tableau;
 use crn_vec::{Kind, Sign, opposite, product, sign_asked};
 
-/// The order of settling: a list of all coordinates, to be read.
-#[derive(Clone, Copy)]
-pub(crate) struct Order<'a> {
-    /// The coordinate at each place.
-    pub places: &'a [usize],
-    /// The level of each coordinate, which is its place.
-    pub levels: &'a [usize],
-}
-
-// The level of a coordinate is its place in the order of settling. The lead sign of a view is the sign of the vectors that it shows
+// The level of a coordinate says when it is settled. The lead sign of a view is the sign of the vectors that it shows
 // at the coordinate from which the signs at all others are read: g for a row, and the member for a column.
 
 // The sign at b of the vectors that the basis names by its member b, if they have this sign at g.
@@ -104,12 +95,12 @@ fn wrong_level(
     }
 }
 
-// The first place of the order, from one on, at which the vectors that a view shows are wrong.
+// The first level, from one on and below another, at whose coordinate the vectors that a view shows are wrong.
 pub(crate) fn first_wrong(
     tableau: &Tableau,
     view: View,
     kinds: &[Kind],
-    order: &Order,
+    levels: &[usize],
     g: usize,
     done: usize,
     k: usize,
@@ -118,17 +109,15 @@ pub(crate) fn first_wrong(
     requires asked { is_signed (kind_at kinds.now g) ≡ true }
     requires kinds { length kinds.now ≡ width tableau.now.matrix }
     requires goal { g < width tableau.now.matrix }
-    requires order { IsOrder (length kinds.now) order.now.places.now order.now.levels.now }
-    requires end { k ≤ length order.now.places.now }
-    requires done { IsSettled tableau.now.matrix tableau.now.basis view g kinds.now
-        order.now.places.now done }
+    requires levels { length levels.now ≡ length kinds.now }
+    requires done { IsSettled tableau.now.matrix tableau.now.basis view g kinds.now levels.now
+        done }
     requires start { done ≤ k }
     ensures { MatchOption result
-        (IsSettled tableau.now.matrix tableau.now.basis view g kinds.now order.now.places.now k)
+        (IsSettled tableau.now.matrix tableau.now.basis view g kinds.now levels.now k)
         (λ j.
-        IsFirstWrong tableau.now.matrix tableau.now.basis view g kinds.now
-        order.now.places.now done k j) }
+        IsFirstWrong tableau.now.matrix tableau.now.basis view g kinds.now levels.now done k j) }
 {
-    let end = wrong_level(tableau, view, kinds, order.levels, g, done, k);
+    let end = wrong_level(tableau, view, kinds, levels, g, done, k);
     if end < k { Some(end) } else { None }
 }

@@ -1,4 +1,4 @@
-ghost use Rattle.std.specs.Prelude.{◌≡◌, ◌≤◌, ◌<◌, ◌↔◌, ℕ, true, length, vec_capacity, MatchResult, IfErr, IfOk, IfSome};
+ghost use Rattle.std.specs.Prelude.{◌≡◌, ◌≤◌, ◌<◌, ◌↔◌, ℕ, true, length, MatchResult, IfErr, IfOk, IfSome};
 ghost use Rattle.crn_vec.specs.Lists.{IsIn};
 ghost use Rattle.crn_vec.specs.Elementary.{width, IsBasis};
 ghost use Rattle.crn_vec.specs.Systems.{HasOneRowCut, is_signed, kind_at, signed_count};
@@ -26,7 +26,6 @@ use std::marker::Model;
 #[derive(Drop)]
 pub struct Solver {
     tableau: Tableau,
-    order: Vec<usize>,
     level: Vec<usize>,
     sum: Vec<i128>,
     work: Vec<i128>,
@@ -34,7 +33,6 @@ pub struct Solver {
 }
 
 impl Model for Solver {
-    ghost use Rattle.std.specs.Prelude.{vec_capacity};
     ghost use Rattle.crn_tab.specs.Tableau.{KeptTableau};
     ghost use Rattle.crn_farkas.specs.Solver.{HasRoom};
 
@@ -42,25 +40,23 @@ impl Model for Solver {
 
     ghost view = { λ s. s.tableau };
 
-    ghost invariant = { λ s. HasRoom s.tableau.matrix (vec_capacity s.order)
+    ghost invariant = { λ s. HasRoom s.tableau.matrix
         s.level.items s.sum.items s.work.items s.marks.items };
 }
 
 // Decides a system by a vector that the basis names, if one rules it out, or else by what a basis shows or by its targets.
 fn answer(
+    alloc: Global,
     tableau: &mut Tableau,
     viewed: Option<Tableau>,
     kinds: &[Kind],
-    order: &mut Vec<usize>,
     level: &mut [usize],
     sum: &mut [i128],
     work: &mut [i128],
 ) -> Result<Decision, Stop>
     requires viewed { IfSome viewed (λ t. t.matrix ≡ tableau.old.matrix) }
-    requires lists { CanDecide tableau.old.matrix kinds.now (vec_capacity order.old)
-        level.old sum.old work.old }
+    requires lists { CanDecide tableau.old.matrix kinds.now level.old sum.old work.old }
     ensures matrix { tableau.new.matrix ≡ tableau.old.matrix }
-    ensures room { vec_capacity order.new ≡ vec_capacity order.old }
     ensures answer { MatchResult result (λ d. IsDecision tableau.new.matrix kinds.now d)
         (λ s. IsTargetStop tableau.new.matrix kinds.now s) }
     ensures kept { HasKeptCut tableau.old.matrix tableau.old.basis kinds.now → IsRuledOut result
@@ -68,10 +64,9 @@ fn answer(
     ensures named { IfOk result (λ d. IsNamedDecision tableau.new.matrix tableau.new.basis d) }
     ensures near { IfErr result (λ s. IsNearStop tableau.new.basis s) }
 {
-    let alloc = *order.allocator();
     match kept_cut(tableau, kinds) {
         Some(cut) => Ok(Decision::Infeasible(multipliers(alloc, tableau, kinds, work, &cut)?)),
-        None => by_view(tableau, viewed, kinds, order, level, sum, work),
+        None => by_view(alloc, tableau, viewed, kinds, level, sum, work),
     }
 }
 
@@ -80,15 +75,12 @@ fn settled_answer(
     alloc: Global,
     tableau: &mut Tableau,
     kinds: &[Kind],
-    order: &mut Vec<usize>,
     level: &mut [usize],
     sum: &mut [i128],
     work: &mut [i128],
 ) -> Result<Decision, Stop>
-    requires lists { CanDecide tableau.old.matrix kinds.now (vec_capacity order.old)
-        level.old sum.old work.old }
+    requires lists { CanDecide tableau.old.matrix kinds.now level.old sum.old work.old }
     ensures matrix { tableau.new.matrix ≡ tableau.old.matrix }
-    ensures room { vec_capacity order.new ≡ vec_capacity order.old }
     ensures answer { MatchResult result (λ d. IsDecision tableau.new.matrix kinds.now d)
         (λ s. IsTargetStop tableau.new.matrix kinds.now s) }
     ensures kept { HasKeptCut tableau.old.matrix tableau.old.basis kinds.now → IsRuledOut result
@@ -98,7 +90,7 @@ fn settled_answer(
 {
     match kept_cut(tableau, kinds) {
         Some(cut) => Ok(Decision::Infeasible(multipliers(alloc, tableau, kinds, work, &cut)?)),
-        None => by_targets(alloc, tableau, kinds, order, level, sum, work),
+        None => by_targets(alloc, tableau, kinds, level, sum, work),
     }
 }
 
@@ -111,7 +103,6 @@ impl Solver {
         let count = matrix.cols() + matrix.rows();
         Ok(Solver {
             tableau: Tableau::new(alloc, matrix)?,
-            order: Vec::with_capacity(alloc, count)?,
             level: vec![in alloc; 0usize; count]?,
             sum: vec![in alloc; 0i128; count]?,
             work: vec![in alloc; 0i128; count]?,
@@ -156,11 +147,12 @@ impl Solver {
         ensures named { IfOk result (λ d. IsNamedDecision self.new.matrix self.new.basis d) }
         ensures near { IfErr result (λ s. IsNearStop self.new.basis s) }
     {
+        let alloc = *self.level.allocator();
         let result = answer(
+            alloc,
             &mut self.tableau,
             viewed,
             kinds,
-            &mut self.order,
             &mut self.level,
             &mut self.sum,
             &mut self.work,
@@ -185,12 +177,11 @@ impl Solver {
         ensures named { IfOk result (λ d. IsNamedDecision self.new.matrix self.new.basis d) }
         ensures near { IfErr result (λ s. IsNearStop self.new.basis s) }
     {
-        let alloc = *self.order.allocator();
+        let alloc = *self.level.allocator();
         let result = settled_answer(
             alloc,
             &mut self.tableau,
             kinds,
-            &mut self.order,
             &mut self.level,
             &mut self.sum,
             &mut self.work,
@@ -216,13 +207,7 @@ impl Solver {
             → HasOneRowCut self.old.matrix kinds.now → IsUnsolvable result }
         ensures refused { IfErr result (λ s. IsRefusedStop self.new.matrix self.new.basis s) }
     {
-        let result = feasibility(
-            &mut self.tableau,
-            kinds,
-            &mut self.order,
-            &mut self.level,
-            &mut self.marks,
-        );
+        let result = feasibility(&mut self.tableau, kinds, &mut self.level, &mut self.marks);
         self.tableau.names_rows();
         result
     }
@@ -247,14 +232,7 @@ impl Solver {
             (λ d. IsAlternative self.new.matrix self.new.basis kinds.now g signs.new d) }
         ensures refused { IfErr result (λ s. IsRefusedStop self.new.matrix self.new.basis s) }
     {
-        let result = alternative_at(
-            &mut self.tableau,
-            kinds,
-            &mut self.order,
-            &mut self.level,
-            g,
-            signs,
-        );
+        let result = alternative_at(&mut self.tableau, kinds, &mut self.level, g, signs);
         self.tableau.names_rows();
         result
     }
@@ -276,7 +254,7 @@ impl Solver {
         ensures count { length signs.new ≡ length signs.old }
         ensures signs { IfOk result (λ u. AreSignsOf self.new.matrix u.list signs.new) }
     {
-        let alloc = *self.order.allocator();
+        let alloc = *self.level.allocator();
         self.tableau.put_signs(cut.row, cut.sign, signs);
         multipliers(alloc, &self.tableau, kinds, &mut self.work, cut)
     }

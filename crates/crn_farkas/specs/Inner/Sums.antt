@@ -8,7 +8,7 @@ use Rattle.crn_farkas.specs.declared.goal.Part.{Part}
 use Rattle.crn_farkas.specs.declared.goal.Part.TheVariants.{Cut as PartCut, Witness as PartWitness}
 use Rattle.crn_farkas.specs.declared.fault.Stop.{Stop}
 use Rattle.crn_farkas.specs.declared.fault.Stop.TheVariants.{NoMemory, Wide}
-use Rattle.crn_farkas.specs.Inner.Views.{IsOrder}
+use Rattle.crn_farkas.specs.Inner.Views.{AreLevels}
 use Rattle.crn_vec.specs.Elementary.{InRowSpace, NamesWide, width}
 use Rattle.crn_vec.specs.Systems.{MayTake, is_signed, kind_at, signed_count}
 use Rattle.crn_vec.specs.Vectors.{Mat, entry, scale}
@@ -47,19 +47,18 @@ pub record HasPartSum (a : Mat) (kinds : List Kind) (g : ℕ) (marks : List Bool
   pub some : (k : ℕ) → (k < g) ⊎ IsTrue (slice_index_or marks k false) → is_signed (kind_at kinds k) ≡ true → entry v k ≢ pos 0
 
 -- a list of kinds for a decision, with room in each list that it works in
-pub record CanDecide (a : Mat) (kinds : List Kind) (room : ℕ) (level : List ℕ) (sum work : List ℤ) : Type 0 where
+pub record CanDecide (a : Mat) (kinds : List Kind) (level : List ℕ) (sum work : List ℤ) : Type 0 where
   pub kinds_long : length kinds ≡ width a
   pub few : signed_count kinds ≤ MAX_SIGNED
-  pub order_room : width a ≤ room
   pub level_long : length level ≡ width a
   pub sum_long : length sum ≡ width a
   pub work_long : length work ≡ width a
 
--- what a decision has before coordinate g: the kinds, the order of settling, the sum so far and a list to work in
-pub record IsDeciding (a : Mat) (kinds : List Kind) (places levels : List ℕ) (g : ℕ) (sum work : List ℤ) : Type 0 where
+-- what a decision has before coordinate g: the kinds, the levels, the sum so far and a list to work in
+pub record IsDeciding (a : Mat) (kinds : List Kind) (levels : List ℕ) (g : ℕ) (sum work : List ℤ) : Type 0 where
   pub kinds_long : length kinds ≡ width a
   pub few : signed_count kinds ≤ MAX_SIGNED
-  pub order : IsOrder (length kinds) places levels
+  pub levels_are : AreLevels (length kinds) levels
   pub part : IsPartSum a kinds g sum
   pub work_long : length work ≡ length kinds
 

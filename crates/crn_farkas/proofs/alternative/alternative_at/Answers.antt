@@ -1,12 +1,7 @@
-use Rattle.crn_farkas.proofs.Prelude.{◌≡◌, ◌<◌, ◌∙◌, ℕ, List, length, get_or, sym, ap, subst, Zero, width, kind_at, Mat, entry, HasSign, View, IsOrder, IsView, IsSeen, IsRightEverywhere}
+use Rattle.crn_farkas.proofs.Prelude.{◌≡◌, ◌<◌, ◌∙◌, ℕ, List, length, get_or, sym, ap, subst, Zero, width, kind_at, Mat, entry, HasSign, View, IsView, IsSeen, IsRightEverywhere}
 use Rattle.std.proofs.Common.{ℤ}
 use Rattle.crn_farkas.proofs.Witnessing.{witness_signs, cut_signs}
 use Rattle.crn_farkas.proofs.alternative.alternative_at.Goals as goal
-
-pub settled_view-requires-clause-order : goal.settled_view-requires-clause-order
-settled_view-requires-clause-order c =
-    let levels = c.put_order.new.level in
-    subst (λ (l : List ℕ). IsOrder (length c.args.kinds.now) l levels) (sym c.deref.ensures.value) c.put_order.ensures.order
 
 pub returns-in-Row-clause-answer : goal.returns-in-Row-clause-answer
 returns-in-Row-clause-answer c =

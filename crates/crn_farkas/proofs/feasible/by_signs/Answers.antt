@@ -1,11 +1,6 @@
-use Rattle.crn_farkas.proofs.Prelude.{◌∙◌, ℕ, List, length, ap, subst, sym, rules, width, IsOrder, HasPartSum}
+use Rattle.crn_farkas.proofs.Prelude.{◌∙◌, length, ap, sym, rules, width, HasPartSum}
 use Rattle.crn_farkas.proofs.Marks.{marks_none, solution_by_marks}
 use Rattle.crn_farkas.proofs.feasible.by_signs.Goals as goal
-
-pub settle_everywhere-requires-clause-order : goal.settle_everywhere-requires-clause-order
-settle_everywhere-requires-clause-order c =
-    let levels = c.put_order.new.level in
-    subst (λ (l : List ℕ). IsOrder (length c.args.kinds.now) l levels) (sym c.deref.ensures.value) c.put_order.ensures.order
 
 pub settle_everywhere-requires-clause-sum : goal.settle_everywhere-requires-clause-sum
 settle_everywhere-requires-clause-sum c = marks_none c.args.tableau.now.matrix c.args.kinds.now (length c.args.marks.now) c.fill.new.self c.requires.kinds (c.fill.ensures.after (λ y e. e))

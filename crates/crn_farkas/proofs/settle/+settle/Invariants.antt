@@ -8,8 +8,8 @@ abbrev pub invariant-loop-j : goal.invariant-loop-j
 invariant-loop-j l = record {
   matrix : l.tableau.matrix ≡ l.fn.tableau.matrix;
   view : IsView l.tableau.matrix l.tableau.basis l.view l.g;
-  settled : IsSettled l.tableau.matrix l.tableau.basis l.view l.g l.kinds l.order.places.now l.done;
-  agree : AgreeBeyond l.order.places.now l.g l.k l.fn.tableau.basis l.fn.view l.tableau.basis l.view;
+  settled : IsSettled l.tableau.matrix l.tableau.basis l.view l.g l.kinds l.levels l.done;
+  agree : AgreeBeyond l.levels l.g l.k l.fn.tableau.basis l.fn.view l.tableau.basis l.view;
   low : l.done ≤ l.k;
 }
 
