@@ -68,6 +68,17 @@ zero_fits e c d le lc ld = below_two (λ (n : ℕ). Fits 1 1 n c d)
 pub fits : (a b e c d : ℕ) → a < 2 → b < 2 → e < 2 → c < 2 → d < 2 → Fits a b e c d
 fits a b e c d la lb le lc ld = two_bits (λ (x y : ℕ). Fits x y e c d) (λ z x h. tt) (neg_fits e c d le lc ld) (pos_fits e c d le lc ld) (zero_fits e c d le lc ld) a b la lb
 
+-- bits that do not differ
+pub same_bits : (a b : ℕ) → a < 2 → b < 2 → (a + b) % 2 ≡ 0 → a ≡ b
+same_bits = two_bits (λ (x y : ℕ). (x + y) % 2 ≡ 0 → x ≡ y) (λ e. refl) (bad _) (bad _) (λ e. refl)
+
+-- neither bit is set
+pub neither : (x y : ℕ) → max x y ≡ 0 → (x ≡ 0) × (y ≡ 0)
+neither zero zero e = (refl, refl)
+neither zero (suc y) e = absurd (omega (arith, e))
+neither (suc x) zero e = absurd (omega (arith, e))
+neither (suc x) (suc y) e = absurd (omega (arith, e))
+
 -- ---- words, one after another
 
 -- the marks of the words before w are made by f, and the rest are still the old ones
@@ -147,7 +158,7 @@ bits_put old k x asked lt plus minus others =
 pub word_put : (old : List ℕ) (k x : ℕ) → k < length old * 64 → bit_at x (k % 64) ≡ 1 → bit_of (set old (k / 64) x) k ≡ 1
 word_put old k x lt here = ap (λ (b : ℕ). bit_at b (k % 64)) (get_or-set_same old (k / 64) x 0 (omega (arith, lt))) ∙ here
 
-pub other_bits : (old : List ℕ) (k x : ℕ) → k < length old * 64 → ((i : ℕ) → i ≢ k % 64 → bit_at x i ≡ bit_at (word_of old (k / 64)) i) → (j : ℕ) → j ≢ k → bit_of (set old (k / 64) x) j ≡ bit_of old j
+pub other_bits : (old : List ℕ) (k x : ℕ) → k < length old * 64 → ((i : ℕ) → i < 64 → i ≢ k % 64 → bit_at x i ≡ bit_at (word_of old (k / 64)) i) → (j : ℕ) → j ≢ k → bit_of (set old (k / 64) x) j ≡ bit_of old j
 other_bits old k x lt others j ne =
     let w = k / 64 in
     let inside : w < length old = omega (arith, lt) in
@@ -155,7 +166,7 @@ other_bits old k x lt others j ne =
       | inl e ↦
           let i = j % 64 in
           ap (λ (v : ℕ). bit_at (word_of (set old w x) v) i) e ∙ ap (λ (b : ℕ). bit_at b i) (get_or-set_same old w x 0 inside)
-          ∙ others i (λ d. ne (omega (arith, e, d)))
+          ∙ others i (omega arith) (λ d. ne (omega (arith, e, d)))
           ∙ ap (λ (v : ℕ). bit_at (word_of old v) i) (sym e)
       | inr apart ↦ ap (λ (b : ℕ). bit_at b (j % 64)) (get_or-set_other old w (j / 64) x 0 apart)
     ]

@@ -8,6 +8,7 @@ pub use Rattle.crn_farkas.proofs.CallerLemmas.{drop-scale, dual_scaled, row_plus
 pub use Rattle.crn_farkas.specs.Decision.{IsSmallCut, factor}
 pub use Rattle.crn_farkas.specs.Solver.{AreSignsOf}
 pub use Rattle.crn_sign.specs.Inner.Bits.{IsMarked, mark_at, mark_in, mark_of, none, word_at, word_count}
+pub use Rattle.crn_sign.specs.Inner.Kinds.{AreKept}
 pub use Rattle.crn_sign.specs.Inner.Marks.{AreMadeBy, AreMet, AreOpposite, AreRowMarks, AreSuited, HasMark, Suits, kind_of_mark, kind_there, laid, negative, sign_mark, sign_there, united}
 unfoldable pub use Rattle.crn_sign.specs.Inner.Marks.{kinds_of}
 pub use Rattle.crn_sign.specs.Inner.Parts.{IsFinder, IsRuling}
@@ -31,7 +32,7 @@ pub use Rattle.crn_sign.specs.declared.walk.Ending.{Ending}
 pub use Rattle.crn_sign.specs.declared.walk.Ending.TheVariants.{Found, Refuted, Spent}
 pub use Rattle.crn_sign.specs.declared.walk.Level.{Level}
 pub use Rattle.crn_sign.specs.declared.walk.Listing.{Listing}
-pub use Rattle.crn_vec.proofs.CallerLemmas.{below_two, cuts_exclude_solutions, dot-zeros, entry-plus, entry-scale, entry-zeros, eq_or, length-scale, length-zeros, lt_or, passes_at, passes_first, passes_then, plus, positive_some, range_more, take-zeros, visits_ended, visits_then, weigh_zero, written, zeros, zip_at, zip_from, zip_long}
+pub use Rattle.crn_vec.proofs.CallerLemmas.{any_default, below_two, cuts_exclude_solutions, dot-zeros, entry-plus, entry-scale, entry-zeros, eq_or, length-scale, length-zeros, lt_or, passes_at, passes_first, passes_then, plus, positive_some, range_more, take-zeros, visits_ended, visits_then, weigh_zero, written, zeros, zip_at, zip_from, zip_long}
 pub use Rattle.crn_vec.specs.Concordance.{row_kinds}
 pub use Rattle.crn_vec.specs.Elementary.{InRowSpace, width}
 pub use Rattle.crn_vec.specs.Kept.{KeptInts}
@@ -47,7 +48,7 @@ pub use Rattle.crn_vec.specs.declared.signs.Sign.TheVariants.{Minus as MinusSign
 pub use Rattle.std.proofs.Common.{Bool, List, [], add-one, ap, ap₂, arith, bit_and, drop, drop-cons, false, get_or, inl, inr, length, map, max, min, refl, replicate, rules, set, subst, suc, sym, take, true, w64, zero, ℕ, ℤ, ◌%◌, ◌*◌, ◌++◌, ◌+◌, ◌-◌, ◌/◌, ◌<◌, ◌∙◌, ◌∷◌, ◌≡◌, ◌≢◌, ◌≤◌}
 pub use Rattle.std.proofs.lemmas.Bool.{false≢true}
 pub use Rattle.std.proofs.lemmas.Int.{ints, to_z-of_z}
-pub use Rattle.std.proofs.lemmas.List.{append-nil, append_assoc, drop_all, ext_get_or, get_or-map, get_or-replicate, get_or-set_other, get_or-set_same, get_or_past, length-append, length-map, length-replicate, length-set, map-append, take-append-le, take_all}
+pub use Rattle.std.proofs.lemmas.List.{append-nil, append_assoc, drop_all, ext_get_or, get_or-map, get_or-set_other, get_or-set_same, get_or_past, length-append, length-map, length-replicate, length-set, map-append, take-append-le, take_all}
 pub use Rattle.std.proofs.lemmas.List.FromFn.{fill_by_all, get_or-range_with_len, length-range_with_len}
 pub use Rattle.std.proofs.lemmas.Nat.{and_le_l, and_le_r}
 pub use Rattle.std.proofs.lemmas.Nat.Bits.{bit_at-lt, bit_at-trailing_zeros, bit_at-zero, bit_at_and, bit_at_clear_other, bit_at_clear_same, bit_at_or, bit_at_set_other, bit_at_set_same, bit_at_xor}

@@ -2,6 +2,7 @@ pub mod Walk
 pub mod Ready
 pub mod RowSigns
 pub mod Bits
+pub mod Kinds
 pub mod Marks
 pub mod Pools
 pub mod Places

@@ -63,8 +63,8 @@ pub(crate) fn without_bit(word: u64, i: usize) -> u64
     word & !(1 << i)
 }
 
-// The marks of 64 coordinates with another one at one of them.
-fn with_mark(bits: Bits, i: usize, mark: Mark) -> Bits
+/// The marks of 64 coordinates with another one at one of them.
+pub(crate) fn with_mark(bits: Bits, i: usize, mark: Mark) -> Bits
     requires { i < 64 }
     ensures here { mark_in result i ≡ mark }
     ensures others { (j : ℕ) → j < 64 → j ≢ i → mark_in result j ≡ mark_in bits j }

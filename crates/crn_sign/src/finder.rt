@@ -11,7 +11,8 @@ ghost use Rattle.crn_sign.specs.Inner.Marks.{AreRowMarks, kinds_of};
 ghost use Rattle.crn_sign.specs.Inner.Parts.{IsFinder};
 
 use crate::bits::{Bits, NONE};
-use crate::marks::{kinds_of, put_opposites, put_signs, word_count};
+use crate::kinds::KeptKinds;
+use crate::marks::{put_opposites, put_signs, word_count};
 use crate::pool::Pool;
 use crn_farkas::{Alternative, Cut, Solver, Stop};
 use crn_vec::{Kind, Matrix, NoMemory, Sign};
@@ -30,6 +31,8 @@ pub(crate) struct Finder {
     // The coordinates at which a marked vector does not suit, and what is required of one that changes these.
     pub misfit_coordinates: Vec<usize>,
     pub required_of_change: Vec<Bits>,
+    // The kinds that were last asked for.
+    pub kinds: KeptKinds,
 }
 
 impl Finder {
@@ -49,6 +52,7 @@ impl Finder {
             negative_marks: vec![in alloc; NONE; words]?,
             misfit_coordinates: Vec::new(alloc),
             required_of_change: vec![in alloc; NONE; words]?,
+            kinds: KeptKinds::new(alloc, matrix)?,
         })
     }
 
@@ -84,8 +88,11 @@ impl Finder {
             (kinds_of matrix.now weak.now asked.now) cut.row cut.sign))
             (λ s. IsTargetStop matrix.now (kinds_of matrix.now weak.now asked.now) s) }
     {
-        let kinds = kinds_of(self.alloc, matrix, weak, asked)?;
-        match self.solver.alternative(&kinds, g, &mut self.witness_signs) {
+        self.kinds.ask(matrix, weak, asked);
+        match self
+            .solver
+            .alternative(&self.kinds.kinds, g, &mut self.witness_signs)
+        {
             Ok(Alternative::Cut(cut)) => Ok(Some(cut)),
             Ok(Alternative::Witness) => {
                 self.keep_witness(matrix)?;
@@ -112,9 +119,12 @@ impl Finder {
             → AreRowMarks matrix.now self.new.witness_marks.items) }
         ensures stop { IfErr result (λ s. (kinds : List Kind) → IsTargetStop matrix.now kinds s) }
     {
-        let mut kinds = kinds_of(self.alloc, matrix, weak, &self.required_of_change)?;
-        kinds[g] = kind;
-        match self.solver.alternative(&kinds, g, &mut self.witness_signs) {
+        self.kinds.ask(matrix, weak, &self.required_of_change);
+        self.kinds.ask_signed(matrix, g, kind);
+        match self
+            .solver
+            .alternative(&self.kinds.kinds, g, &mut self.witness_signs)
+        {
             Ok(Alternative::Witness) => {
                 self.keep_witness(matrix)?;
                 Ok(true)

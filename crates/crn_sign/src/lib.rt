@@ -8,6 +8,7 @@ mod finder;
 mod fitting;
 mod given_signs;
 mod kept_signs;
+mod kinds;
 mod marks;
 mod misfits;
 mod part;

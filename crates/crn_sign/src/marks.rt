@@ -1,16 +1,13 @@
-ghost use Rattle.std.specs.Prelude.{◌≡◌, ◌≢◌, ◌<◌, ◌≤◌, ◌+◌, ◌*◌, ◌/◌, ℕ, length, true, IsTrue, IfOk};
+ghost use Rattle.std.specs.Prelude.{◌≡◌, ◌<◌, ℕ, length, IsTrue};
 ghost use Rattle.std.specs.Int.{bit_at};
 ghost use Rattle.crn_vec.specs.Elementary.{width};
-ghost use Rattle.crn_vec.specs.Systems.{kind_at};
-ghost use Rattle.crn_vec.specs.declared.signs.Kind.{Kind};
 ghost use Rattle.crn_sign.specs.Inner.RowSigns.{AreRowSigns};
-ghost use Rattle.crn_sign.specs.Inner.Bits.{mark_at, mark_in, none, word_at, word_count};
+ghost use Rattle.crn_sign.specs.Inner.Bits.{mark_in, word_count};
 ghost use Rattle.crn_sign.specs.Options.{weakened};
-ghost use Rattle.crn_sign.specs.Inner.Marks.{AreMadeBy, AreMet, AreOpposite, AreRowMarks, Suits, united, kind_of_mark, kinds_of, laid, negative, sign_mark, sign_there};
+ghost use Rattle.crn_sign.specs.Inner.Marks.{AreMadeBy, AreMet, AreOpposite, AreRowMarks, Suits, united, kind_of_mark, laid, negative, sign_mark};
 
-use crate::bits::{Bits, NONE, bit_in, mark_at, mark_in, put_mark, without_bit, word_of};
-use crn_vec::{Kind, Matrix, NoMemory, Sign};
-use std::alloc::Global;
+use crate::bits::{Bits, NONE, mark_at, put_mark, word_of};
+use crn_vec::{Matrix, Sign};
 
 /// What is known of the sign of a number.
 #[derive(Clone, Copy, PartialEq, Eq)]
@@ -150,92 +147,6 @@ pub(crate) fn put_signs(_matrix: &Matrix, signs: &[Sign], into: &mut [Bits])
     for k in 0..signs.len() {
         put_mark(into, k, mark_of_sign(signs[k]));
     }
-}
-
-// The kind that a mark requires.
-fn kind_of_mark(mark: Mark) -> Kind
-    ensures { result ≡ kind_of_mark mark }
-{
-    match mark {
-        Mark::Zero => Kind::Free,
-        Mark::Plus => Kind::Pos,
-        Mark::Minus => Kind::Neg,
-        Mark::Any => Kind::Zero,
-    }
-}
-
-// The kind of a coordinate that may be weak.
-fn weakened(kind: Kind, weak: u64) -> Kind
-    ensures { result ≡ weakened kind weak }
-{
-    match kind {
-        Kind::Zero => Kind::Zero,
-        Kind::Pos => match weak {
-            0 => Kind::Pos,
-            _ => Kind::NonNeg,
-        },
-        Kind::Neg => Kind::Neg,
-        Kind::NonNeg => Kind::NonNeg,
-        Kind::Free => Kind::Free,
-    }
-}
-
-// The places of 64 at which something is required.
-fn asked_places(bits: Bits) -> u64
-    ensures { (i : ℕ) → bit_at result i ≡ 0 → kind_of_mark (mark_in bits i) ≡ Kind.Free }
-{
-    bits.plus | bits.minus
-}
-
-// Puts the kind of a coordinate, if there is such a coordinate.
-fn put_kind(kinds: &mut Vec<Kind>, k: usize, kind: Kind)
-    ensures count { length kinds.new.items ≡ length kinds.old.items }
-    ensures here { k < length kinds.old.items → kind_at kinds.new.items k ≡ kind }
-    ensures others { (j : ℕ) → j ≢ k → kind_at kinds.new.items j ≡ kind_at kinds.old.items j }
-{
-    if k < kinds.len() {
-        kinds[k] = kind;
-    }
-}
-
-// Puts the kinds that are required of the coordinates of a word, which are free so far.
-fn put_kinds(kinds: &mut Vec<Kind>, bits: Bits, weak: u64, w: usize)
-    requires word { w ≤ 1024 }
-    requires free { (i : ℕ) → i < 64 → 64 * w + i < length kinds.old.items
-        → kind_at kinds.old.items (64 * w + i) ≡ Kind.Free }
-    ensures count { length kinds.new.items ≡ length kinds.old.items }
-    ensures here { (i : ℕ) → i < 64 → 64 * w + i < length kinds.old.items
-        → kind_at kinds.new.items (64 * w + i)
-        ≡ weakened (kind_of_mark (mark_in bits i)) (bit_at weak i) }
-    ensures others { (k : ℕ) → k / 64 ≢ w
-        → kind_at kinds.new.items k ≡ kind_at kinds.old.items k }
-{
-    let mut rest = asked_places(bits);
-    'bits: while rest != 0 {
-        let i = rest.trailing_zeros() as usize;
-        let kind = weakened(kind_of_mark(mark_in(bits, i)), bit_in(weak, i));
-        put_kind(kinds, 64 * w + i, kind);
-        rest = without_bit(rest, i);
-    }
-}
-
-/// The kinds that are required.
-pub(crate) fn kinds_of(
-    alloc: Global,
-    matrix: &Matrix,
-    weak: &[u64],
-    asked: &[Bits],
-) -> Result<Vec<Kind>, NoMemory>
-    requires { length asked.now ≡ word_count matrix.now }
-    ensures kinds { IfOk result (λ made. made.items ≡ kinds_of matrix.now weak.now asked.now) }
-    ensures long { IfOk result (λ made. length made.items ≡ width matrix.now) }
-{
-    let count = matrix.cols() + matrix.rows();
-    let mut kinds = vec![in alloc; Kind::Free; count]?;
-    for w in 0..asked.len() {
-        put_kinds(&mut kinds, asked[w], word_of(weak, w), w);
-    }
-    Ok(kinds)
 }
 
 /// Adds a great multiple of a vector of these marks to the vector that is marked.

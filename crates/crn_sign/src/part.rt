@@ -12,7 +12,6 @@ ghost use Rattle.crn_sign.specs.Inner.Places.{IsPlace};
 
 use crate::bits::Bits;
 use crate::finder::Finder;
-use crate::marks::kinds_of;
 use crate::past::{Past, PastCuts, empty_cuts, first_again, keep_cut, share};
 use crate::place::{Place, is_met};
 use crn_farkas::{Cut, Decision, Feasibility, Solver, Stop};
@@ -87,12 +86,13 @@ impl Part {
         ensures cut { IfOk result
             (λ u. IsSmallCut matrix.now (kinds_of matrix.now weak.now asked.now) u.value.list) }
     {
-        let kinds = kinds_of(self.finder.alloc, matrix, weak, asked)?;
         let finder = &mut self.finder;
+        finder.kinds.ask(matrix, weak, asked);
+        let kinds = &finder.kinds.kinds;
         let u = finder
             .solver
-            .multipliers(&kinds, cut, &mut finder.witness_signs)?;
-        let past = Past::new(finder.alloc, matrix, &kinds, &finder.witness_signs, u)?;
+            .multipliers(kinds, cut, &mut finder.witness_signs)?;
+        let past = Past::new(finder.alloc, matrix, kinds, &finder.witness_signs, u)?;
         let u = share(&past.multipliers)?;
         keep_cut(&mut self.past_cuts, matrix, past, depth)?;
         Ok(u)
@@ -129,8 +129,8 @@ impl Part {
             *suits = true;
             return Ok(None);
         }
-        let kinds = kinds_of(self.finder.alloc, matrix, weak, asked)?;
-        match self.finder.solver.feasibility(&kinds)? {
+        self.finder.kinds.ask(matrix, weak, asked);
+        match self.finder.solver.feasibility(&self.finder.kinds.kinds)? {
             Feasibility::Solvable => Ok(None),
             Feasibility::Unsolvable(cut) => {
                 Ok(Some(self.keep_multipliers(matrix, weak, asked, &cut, depth)?))
@@ -216,9 +216,9 @@ impl Part {
             (λ x. IsSmallSolution matrix.now (kinds_of matrix.now weak.now asked.now) x.list)
             (λ s. IsTargetStop matrix.now (kinds_of matrix.now weak.now asked.now) s) }
     {
-        let kinds = kinds_of(self.finder.alloc, matrix, weak, asked)?;
+        self.finder.kinds.ask(matrix, weak, asked);
         cuts_exclude_solutions();
-        match self.finder.solver.decide(&kinds) {
+        match self.finder.solver.decide(&self.finder.kinds.kinds) {
             Ok(Decision::Feasible(x)) => Ok(x),
             Ok(Decision::Infeasible(_)) => unreachable!(),
             Err(stop) => Err(stop),

@@ -124,21 +124,26 @@ impl Finder {
         }
     }
 
-    // Makes the marked vector 0 at a misfit that has to be. The answer is whether there are vectors for it.
+    // Makes the marked vector 0 at a misfit, if it has to be. The answer is whether there are vectors for it.
     fn make_misfit_zero(
         &mut self,
         matrix: &Matrix,
         weak: &[u64],
+        asked: &[Bits],
         marks: &mut [Bits],
         g: usize,
     ) -> Result<bool, Stop>
         requires finder { IsFinder matrix.now self.old }
+        requires long { length asked.now ≡ word_count matrix.now }
         requires marks { AreRowMarks matrix.now marks.old }
         requires goal { g < width matrix.now }
         ensures finder { OnOk result (IsFinder matrix.now self.new) }
         ensures marks { OnOk result (AreRowMarks matrix.now marks.new) }
         ensures stop { IfErr result (λ s. (kinds : List Kind) → IsTargetStop matrix.now kinds s) }
     {
+        if !has_to_be_zero(weak, asked, g) {
+            return Ok(true);
+        }
         if !self.make_zero(matrix, weak, marks, g)? {
             return Ok(false);
         }
@@ -165,8 +170,8 @@ impl Finder {
         for i in 0..self.misfit_coordinates.len() {
             if i < self.misfit_coordinates.len() {
                 let g = self.misfit_coordinates[i];
-                if g < self.witness_signs.len() && has_to_be_zero(weak, asked, g) {
-                    if !self.make_misfit_zero(matrix, weak, marks, g)? {
+                if g < self.witness_signs.len() {
+                    if !self.make_misfit_zero(matrix, weak, asked, marks, g)? {
                         return Ok(false);
                     }
                 }

@@ -12,6 +12,7 @@ use Rattle.crn_farkas.specs.Decision.{IsSmallCut}
 use Rattle.crn_sign.specs.declared.part.Part.{Part}
 use Rattle.crn_sign.specs.declared.finder.Finder.{Finder}
 use Rattle.crn_sign.specs.Inner.Bits.{word_count}
+use Rattle.crn_sign.specs.Inner.Kinds.{AreKept}
 use Rattle.crn_sign.specs.Inner.PastCuts.{ArePastCuts}
 use Rattle.crn_sign.specs.Inner.Pools.{IsPool}
 
@@ -23,6 +24,7 @@ pub record IsFinder (a : Mat) (f : Finder) : Type 0 where
   pub witness : length f.witness_marks.items ≡ word_count a
   pub negative : length f.negative_marks.items ≡ word_count a
   pub required : length f.required_of_change.items ≡ word_count a
+  pub kinds : AreKept a f.kinds
 
 -- what was found is of this matrix
 pub record IsPart (a : Mat) (p : Part) : Type 0 where

@@ -10,5 +10,5 @@ returns c =
     record {
       count = length-set old (k / 64) x;
       here = word_put old k x c.requires c.with_bit.ensures.set;
-      others = other_bits old k x c.requires c.with_bit.ensures.others;
+      others = other_bits old k x c.requires (λ i lt ne. c.with_bit.ensures.others i ne);
     }

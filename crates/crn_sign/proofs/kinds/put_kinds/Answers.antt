@@ -1,12 +1,12 @@
-use Rattle.crn_sign.proofs.Prelude.{◌≡◌, ◌≢◌, ◌+◌, ◌*◌, ℕ, inl, inr, refl, sym, ap, ap₂, ◌∙◌, w64, arith, bit_at, trailing_zeros, bit_at-zero, bit_at-trailing_zeros, Kind, kind_at, eq_or, weakened, mark_in, kind_of_mark}
-use Rattle.crn_sign.proofs.marks.put_kinds.Goals as goal
+use Rattle.crn_sign.proofs.Prelude.{◌≡◌, ◌≢◌, ◌+◌, ◌*◌, ℕ, inl, inr, refl, sym, ap, ap₂, ◌∙◌, w64, arith, bit_at, trailing_zeros, bit_at-zero, bit_at-trailing_zeros, Kind, kind_at, eq_or, weakened, Mark, mark_in, kind_of_mark}
+use Rattle.crn_sign.proofs.kinds.put_kinds.Goals as goal
 
 pub bits-init : goal.bits-init
 bits-init c = record {
-  fits = c.asked_places-rest.type_inv;
+  fits = c.changed_places-rest.type_inv;
   count = refl;
   others = λ k ne. refl;
-  done = λ i lt z inside. c.requires.free i lt inside ∙ sym (ap (λ (t : Kind). weakened t (bit_at c.args.weak i)) (c.asked_places-rest.ensures i z));
+  done = λ i lt z inside. c.requires.kept i lt inside ∙ ap₂ (λ (m : Mark) (e : ℕ). weakened (kind_of_mark m) e) (c.changed_places-rest.ensures.marks i z) (c.changed_places-rest.ensures.weak i z);
 }
 
 pub mark_in-requires : goal.mark_in-requires

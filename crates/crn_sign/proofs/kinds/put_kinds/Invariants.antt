@@ -1,5 +1,5 @@
 use Rattle.crn_sign.proofs.Prelude.{◌≡◌, ◌≢◌, ◌<◌, ◌+◌, ◌*◌, ◌/◌, ℕ, length, bit_at, kind_at, weakened, mark_in, kind_of_mark}
-use Rattle.crn_sign.proofs.marks.put_kinds.Given as goal
+use Rattle.crn_sign.proofs.kinds.put_kinds.Given as goal
 
 abbrev pub invariant-bits : goal.invariant-bits
 invariant-bits l = record {
