@@ -1,8 +1,9 @@
-ghost use Rattle.std.specs.Prelude.{◌≡◌, ◌<◌, ℕ, length, IsTrue};
+ghost use Rattle.std.specs.Prelude.{◌≡◌, ◌<◌, ◌*◌, ℕ, length, IsTrue};
 ghost use Rattle.std.specs.Int.{bit_at};
 ghost use Rattle.crn_vec.specs.Elementary.{width};
 ghost use Rattle.crn_sign.specs.Inner.RowSigns.{AreRowSigns};
-ghost use Rattle.crn_sign.specs.Inner.Bits.{mark_in, word_count};
+ghost use Rattle.crn_sign.specs.declared.marks.Mark.TheVariants.{Zero};
+ghost use Rattle.crn_sign.specs.Inner.Bits.{IsMarked, mark_at, mark_in, word_count};
 ghost use Rattle.crn_sign.specs.Options.{weakened};
 ghost use Rattle.crn_sign.specs.Inner.Marks.{AreMadeBy, AreMet, AreOpposite, AreRowMarks, Suits, united, kind_of_mark, laid, negative, sign_mark};
 
@@ -117,24 +118,34 @@ pub(crate) fn put_opposites(_matrix: &Matrix, one: &[Bits], into: &mut [Bits])
     }
 }
 
-/// Puts the marks of the vector 0.
-pub(crate) fn put_zeros(_matrix: &Matrix, marks: &mut [Bits])
-    requires { length marks.old ≡ word_count _matrix.now }
-    ensures { AreRowMarks _matrix.now marks.new }
+// Makes each mark zero.
+fn clear(marks: &mut [Bits])
+    ensures count { length marks.new ≡ length marks.old }
+    ensures none { (k : ℕ) → k < length marks.old * 64 → mark_at marks.new k ≡ Zero }
 {
     for w in 0..marks.len() {
         marks[w] = NONE;
     }
 }
 
-/// The mark of a number of this sign.
-pub(crate) fn mark_of_sign(sign: Sign) -> Mark
-    ensures { result ≡ sign_mark sign }
+/// Puts the marks of the vector 0.
+pub(crate) fn put_zeros(_matrix: &Matrix, marks: &mut [Bits])
+    requires { length marks.old ≡ word_count _matrix.now }
+    ensures { AreRowMarks _matrix.now marks.new }
+{
+    clear(marks);
+}
+
+// Puts the mark of a number of this sign at a coordinate whose mark is zero.
+fn put_sign(marks: &mut [Bits], k: usize, sign: Sign)
+    requires inside { k < length marks.old * 64 }
+    requires none { mark_at marks.old k ≡ Zero }
+    ensures { IsMarked marks.old k (sign_mark sign) marks.new }
 {
     match sign {
-        Sign::Zero => Mark::Zero,
-        Sign::Plus => Mark::Plus,
-        Sign::Minus => Mark::Minus,
+        Sign::Zero => {}
+        Sign::Plus => put_mark(marks, k, Mark::Plus),
+        Sign::Minus => put_mark(marks, k, Mark::Minus),
     }
 }
 
@@ -144,8 +155,9 @@ pub(crate) fn put_signs(_matrix: &Matrix, signs: &[Sign], into: &mut [Bits])
     requires room { length into.old ≡ word_count _matrix.now }
     ensures { AreRowMarks _matrix.now into.new }
 {
+    clear(into);
     for k in 0..signs.len() {
-        put_mark(into, k, mark_of_sign(signs[k]));
+        put_sign(into, k, signs[k]);
     }
 }
 
