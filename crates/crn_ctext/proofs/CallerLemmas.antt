@@ -41,7 +41,7 @@ pub use Rattle.crn_ctext.proofs.AnswersApart.{zip_long}
 pub use Rattle.crn_ctext.proofs.Forms.{numbers_of, head_record, head, yes, no, no_by, none_by, open_by, wide, wide_signal, rests, spent, last_forms, spent_place, rests_place, given_back, all_same}
 pub use Rattle.crn_ctext.proofs.BlocksSaid.{turn_is}
 pub use Rattle.crn_ctext.proofs.RanksLinked.{record_is}
-pub use Rattle.crn_ctext.proofs.TreesAlike.{gives_parts}
+pub use Rattle.crn_ctext.proofs.TreesAlike.{gives_parts, fails_parts}
 -- A record that fits a form of a question's heads is that of a head of the table.
 pub use Rattle.crn_ctext.proofs.RecordsTyped.{head_typed}
 -- Records that fit the forms of a question, and after which no tree is due, are those of a formed answer.
@@ -88,7 +88,7 @@ pub use Rattle.crn_ctext.proofs.AnswersLinked.{formed_by, valid_by, back_by}
 pub use Rattle.crn_ctext.proofs.RecordsLinked.{answers_by}
 pub use Rattle.crn_ctext.proofs.WrittenAnswers.{sees_first, sees_second, sees_rank, alone_records}
 -- Documents of a part.
-pub use Rattle.crn_ctext.proofs.PartsRead.{IsAnswered, read_is_document, document_is_read, documents_are_judged, part_document_short}
+pub use Rattle.crn_ctext.proofs.PartsRead.{IsAnswered, after_lines, after_opening, read_is_document, document_is_read, documents_are_judged, part_document_short}
 -- Lines that are written one after another.
 pub use Rattle.crn_ctext.proofs.Pieces.{stops_first, stops_later, ends_with, wrote_as}
 pub use Rattle.crn_ctext.proofs.WrittenLines.{line_of_word, word_then, lines_append, lines_two, lines_three}

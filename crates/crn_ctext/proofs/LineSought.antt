@@ -1,5 +1,5 @@
 -- All forms that are due, tried on a line: the first test of the line that fails, or the record that it is.
-use Rattle.crn_ctext.proofs.Prelude.{◌≡◌, ◌⊎◌, ◌≤◌, ◌<◌, ◌+◌, ◌++◌, ◌∷◌, ◌&&◌, ℕ, zero, suc, Bool, true, false, List, [], length, take, refl, sym, ap, ap₂, subst, ◌∙◌, inl, inr, lit≤, arith, ℤ, not, slice_index_or, cases_Bool, take_more, list_any, bytes_eq, IsIn, KeptInts, in_left, in_right, in_push, and_cases, Question, Q1, Q2, Q3, Q4, Q5, Q6, Q7, Q8, Q9, Q10, Q11, Q12, Q13, Q14, Q15, Record, Form, Field, Says, BeginsWith, IsShaped, Fits, Takes, AreOf, kind_of, row_words, tree_words, known_words, Sizes, heads, Gives, FailsFirst, text_of, question_of, forms_of, due_forms, misplaced, is_after, tag_of, MayBeDue, IsExpectable, IsReadAs, IsRefusedBy, IsForm, no_form, tag, FitFields, IsTried, AreTried, IsNotShaped, IsNotFit, worst_of, Due, Expect, GivenForm, Tried, fault_number, WrongOrder}
+use Rattle.crn_ctext.proofs.Prelude.{◌≡◌, ◌⊎◌, ◌≤◌, ◌<◌, ◌+◌, ◌++◌, ◌∷◌, ◌&&◌, ℕ, zero, suc, Bool, true, false, List, [], length, take, refl, sym, ap, ap₂, subst, ◌∙◌, inl, inr, lit≤, arith, ℤ, not, slice_index_or, cases_Bool, take_more, list_any, bytes_eq, IsIn, KeptInts, in_left, in_right, in_push, and_cases, Question, Q13, Record, Form, Field, Says, BeginsWith, IsShaped, Fits, Takes, AreOf, kind_of, row_words, tree_words, known_words, Sizes, heads, Gives, FailsFirst, text_of, question_of, forms_of, due_forms, misplaced, is_after, tag_of, MayBeDue, IsExpectable, IsReadAs, IsRefusedBy, IsForm, no_form, tag, FitFields, IsTried, AreTried, IsNotShaped, IsNotFit, worst_of, Due, Expect, GivenForm, Tried, fault_number, WrongOrder}
 use Rattle.std.specs.Prelude.{◌==◌}
 use Rattle.crn_ctext.specs.Expect.{sizes_of}
 use Rattle.crn_ctext.proofs.LinesRead.{word_one}
@@ -128,27 +128,19 @@ MayBe d v b w = IsIn w (known_words v) × (is_after d b ≡ true → IsIn w (tre
 due_1 : (d : Due) (b : Bool) (z : Sizes) → MayBeDue d 1 → (form : Form) → IsIn form (due_forms d 1 z) → MayBe d 1 b (kind_of form)
 unfolding all_ordinary is_ordinary all_known
 due_1 (due.Head k) b z m form i = let o = ordinary_in 1 (heads (question_of k) z) form (heads_ordinary_1 (question_of k) z) i in (o.0, λ e. o.1)
-due_1 (due.Base count members) b z m form i = let o = ordinary_in 1 (due_forms (due.Base count members) 1 z) form refl i in (o.0, λ e. o.1)
-due_1 (due.Side reaction) b z m form i = let o = ordinary_in 1 (due_forms (due.Side reaction) 1 z) form refl i in (o.0, λ e. o.1)
-due_1 due.Walk b z m form i = let o = ordinary_in 1 (due_forms due.Walk 1 z) form refl i in (o.0, λ e. o.1)
 due_1 (due.Part word count least greatest) b z m form i = let o = row_in 1 row_words (text_of word) rows_1 m.0 in one_form (λ f. MayBe (due.Part word count least greatest) 1 b (kind_of f)) (slice_index_or (due_forms (due.Part word count least greatest) 1 z) 0 no_form) form (o.0, λ e. o.1) i
 due_1 (due.Node count_a count_b shared) b z m form i = (known_in 1 (due_forms (due.Node count_a count_b shared) 1 z) form refl i, λ e. absurd cc)
-due_1 due.Finish b z m form i = let o = ordinary_in 1 (due_forms due.Finish 1 z) form refl i in (o.0, λ e. o.1)
 due_1 (due.Section k) b z m form i = absurd (omega (arith, m.0))
-due_1 d b z m form i = absurd (omega (arith, m))
+due_1 due.Table b z m form i = absurd (omega (arith, m))
+due_1 due.Vector b z m form i = absurd (omega (arith, m))
+due_1 d b z m form i = let o = ordinary_in 1 (due_forms d 1 z) form refl i in (o.0, λ e. o.1)
 
 due_2 : (d : Due) (b : Bool) (z : Sizes) → MayBeDue d 2 → (form : Form) → IsIn form (due_forms d 2 z) → MayBe d 2 b (kind_of form)
 unfolding all_ordinary is_ordinary all_known
 due_2 (due.Head k) b z m form i = let o = ordinary_in 2 (heads (question_of k) z) form (heads_ordinary_2 (question_of k) z) i in (o.0, λ e. o.1)
-due_2 (due.Base count members) b z m form i = let o = ordinary_in 2 (due_forms (due.Base count members) 2 z) form refl i in (o.0, λ e. o.1)
-due_2 (due.Side reaction) b z m form i = let o = ordinary_in 2 (due_forms (due.Side reaction) 2 z) form refl i in (o.0, λ e. o.1)
-due_2 due.Walk b z m form i = let o = ordinary_in 2 (due_forms due.Walk 2 z) form refl i in (o.0, λ e. o.1)
 due_2 (due.Part word count least greatest) b z m form i = let o = row_in 2 row_words (text_of word) rows_2 m.0 in one_form (λ f. MayBe (due.Part word count least greatest) 2 b (kind_of f)) (slice_index_or (due_forms (due.Part word count least greatest) 2 z) 0 no_form) form (o.0, λ e. o.1) i
 due_2 (due.Node count_a count_b shared) b z m form i = (known_in 2 (due_forms (due.Node count_a count_b shared) 2 z) form refl i, λ e. absurd cc)
-due_2 due.Finish b z m form i = let o = ordinary_in 2 (due_forms due.Finish 2 z) form refl i in (o.0, λ e. o.1)
-due_2 due.Table b z m form i = let o = ordinary_in 2 (due_forms due.Table 2 z) form refl i in (o.0, λ e. o.1)
-due_2 due.Vector b z m form i = let o = ordinary_in 2 (due_forms due.Vector 2 z) form refl i in (o.0, λ e. o.1)
-due_2 (due.Section k) b z m form i = let o = ordinary_in 2 (due_forms (due.Section k) 2 z) form refl i in (o.0, λ e. o.1)
+due_2 d b z m form i = let o = ordinary_in 2 (due_forms d 2 z) form refl i in (o.0, λ e. o.1)
 
 may_be : (d : Due) (v : ℕ) (b : Bool) (z : Sizes) → (v ≡ 1) ⊎ (v ≡ 2) → MayBeDue d v → (form : Form) → IsIn form (due_forms d v z) → MayBe d v b (kind_of form)
 may_be d v b z (inl one) m form i = subst (λ k. MayBe d k b (kind_of form)) (sym one) (due_1 d b z (subst (MayBeDue d) one m) form (subst (λ k. IsIn form (due_forms d k z)) one i))

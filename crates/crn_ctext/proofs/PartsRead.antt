@@ -128,10 +128,10 @@ part_document_short name net rs title is plain few =
     omega (arith, whole, length-append (ended head) (ended tail), last, length-append (ended said) (ended (codes "end" ∷ [])), four, opened, many, some, weighed, plain_weight rs plain, few)
 
 -- what follows the opening, and what follows the part's lines
-abbrev after_lines : {Read : Type 0} → Part Read → Net → ℕ × Read → Course (Net × Read)
+abbrev pub after_lines : {Read : Type 0} → Part Read → Net → ℕ × Read → Course (Net × Read)
 after_lines p net after = part_ending p.words after.0 (net, after.1)
 
-abbrev after_opening : {Read : Type 0} → Part Read → Net × ℕ → Course (Net × Read)
+abbrev pub after_opening : {Read : Type 0} → Part Read → Net × ℕ → Course (Net × Read)
 after_opening p opened = (let each = p.lines in each opened.0 opened.1) >>= after_lines p opened.0
 
 at_end : {A : Type 0} (read : A) → IsEnded (ends >>= (λ x. Give read))

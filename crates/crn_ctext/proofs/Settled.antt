@@ -100,9 +100,7 @@ leaf_then own p prefix n node d = settled_then own (leaf p prefix n node) (λ x.
 
 goes_on_settled : (own : ℕ → Type 0) (p : Problem) (prefix : List Sign) (n : ℕ) (node : Node) (children : Course ℕ) → IsDecidedProblem p → IsSettled own children → IsSettled own (goes_on p prefix n node children)
 goes_on_settled own p prefix n Split children d c = c
-goes_on_settled own p prefix n Flat children d c = leaf_then own p prefix n Flat d
-goes_on_settled own p prefix n (CutA shared u) children d c = leaf_then own p prefix n (CutA shared u) d
-goes_on_settled own p prefix n (CutB shared u) children d c = leaf_then own p prefix n (CutB shared u) d
+goes_on_settled own p prefix n node children d c = leaf_then own p prefix n node d
 
 pub either_settled : {A : Type 0} (own : ℕ → Type 0) (t : Bool) (this that : Course A) → IsSettled own this → IsSettled own that → IsSettled own (either t this that)
 either_settled own true this that p q = p

@@ -25,10 +25,7 @@ gives_parts (Test n c X P next) f at after y p = let q = gives_parts (next p.0) 
 gives_parts (End next) f at after y p = let q = gives_parts next f at after y p.1 in (q.0, q.1, (p.0, q.2), q.3)
 
 -- what fails in both, in the first or after it
-abbrev FailsIn : {A B : Type 0} → Course A → (A → Course B) → Place → (n code : ℕ) → Type 0
-FailsIn {A} c f at n code = FailsFirst c at n code ⊎ ((x : A) × (mid : Place) × Gives c at x mid × FailsFirst (f x) mid n code)
-
-fails_parts : {A B : Type 0} (c : Course A) (f : A → Course B) (at : Place) (n code : ℕ) → FailsFirst (c >>= f) at n code → FailsIn c f at n code
+pub fails_parts : {A B : Type 0} (c : Course A) (f : A → Course B) (at : Place) (n code : ℕ) → FailsFirst (c >>= f) at n code → FailsFirst c at n code ⊎ ((x : A) × (mid : Place) × Gives c at x mid × FailsFirst (f x) mid n code)
 unfolding Gives FailsFirst
 fails_parts (Give x) f at n code p = inr (x, at, (refl, refl), p)
 fails_parts (Line node next) f at n code (inl p) = inl (inl p)
@@ -48,35 +45,28 @@ fails_parts (End next) f at n code (inr p) = elim (fails_parts next f at n code 
 ]
 
 -- one course after another
-gives_both : {A B : Type 0} (c d : Course A) (f g : A → Course B) → IsLike c d → ((x : A) → IsLike (f x) (g x)) → (at after : Place) (y : B) → Gives (c >>= f) at y after → Gives (d >>= g) at y after
-gives_both c d f g first second at after y p =
-    let q = gives_parts c f at after y p in
-    let s = second q.0 in
-    gives_then d g at q.1 after q.0 y (let h = first.gives in h at q.1 q.0 q.2) (let h = s.gives in h q.1 after y q.3)
-
-fails_both : {A B : Type 0} (c d : Course A) (f g : A → Course B) → IsLike c d → ((x : A) → IsLike (f x) (g x)) → (at : Place) (n code : ℕ) → FailsIn c f at n code → FailsFirst (d >>= g) at n code
-fails_both c d f g first second at n code (inl q) = fails_before d g at n code (let h = first.fails in h at n code q)
-fails_both c d f g first second at n code (inr q) =
-    let s = second q.0 in
-    fails_then d g at q.1 q.0 n code (let h = first.gives in h at q.1 q.0 q.2) (let h = s.fails in h q.1 n code q.3)
-
-awaits_both : {A B : Type 0} (c d : Course A) (f g : A → Course B) → IsLike c d → ((x : A) → IsLike (f x) (g x)) → (at : Place) → Awaits (c >>= f) at → Awaits (d >>= g) at
-awaits_both c d f g first second at p = elim (awaits_parts c f at p) [
-  | inl q ↦ awaits_before d g at (let h = first.awaits in h at q)
-  | inr q ↦
-      let s = second q.0 in
-      awaits_then d g at q.1 q.0 (let h = first.gives in h at q.1 q.0 q.2) (let h = s.awaits in h q.1 q.3)
-]
-
 pub like_then : {A B : Type 0} (c d : Course A) (f g : A → Course B) → IsLike c d → ((x : A) → IsLike (f x) (g x)) → IsLike (c >>= f) (d >>= g)
 like_then c d f g first second = record {
-  gives = λ at after y p. gives_both c d f g first second at after y p;
-  fails = λ at n code p. fails_both c d f g first second at n code (fails_parts c f at n code p);
-  awaits = λ at p. awaits_both c d f g first second at p;
+  gives = λ at after y p.
+      let q = gives_parts c f at after y p in
+      let s = second q.0 in
+      gives_then d g at q.1 after q.0 y (let h = first.gives in h at q.1 q.0 q.2) (let h = s.gives in h q.1 after y q.3);
+  fails = λ at n code p. elim (fails_parts c f at n code p) [
+    | inl q ↦ fails_before d g at n code (let h = first.fails in h at n code q)
+    | inr q ↦
+        let s = second q.0 in
+        fails_then d g at q.1 q.0 n code (let h = first.gives in h at q.1 q.0 q.2) (let h = s.fails in h q.1 n code q.3)
+  ];
+  awaits = λ at p. elim (awaits_parts c f at p) [
+    | inl q ↦ awaits_before d g at (let h = first.awaits in h at q)
+    | inr q ↦
+        let s = second q.0 in
+        awaits_then d g at q.1 q.0 (let h = first.gives in h at q.1 q.0 q.2) (let h = s.awaits in h q.1 q.3)
+  ];
 }
 
 -- two tests that hold together
-pub like_test : (n : ℕ) (fault : Fault) (P Q : Type 0) → P ↔ Q → IsLike (test n fault P) (test n fault Q)
+like_test : (n : ℕ) (fault : Fault) (P Q : Type 0) → P ↔ Q → IsLike (test n fault P) (test n fault Q)
 unfolding Gives FailsFirst Awaits
 like_test n fault P Q same = record {
   gives = λ at after y p. (p.0, same.0 p.1, p.2);
@@ -120,9 +110,7 @@ leaf_then c a b H K same prefix n node =
 node_then : (c a b : ℕ) (H K : List Sign → Said → Type 0) → HoldTogether H K → (prefix : List Sign) (n : ℕ) (children others : Course ℕ) → IsLike children others → (node : Node)
     → IsLike (goes_on (problem_with c a b H) prefix n node children) (goes_on (problem_with c a b K) prefix n node others)
 node_then c a b H K same prefix n children others like Split = like
-node_then c a b H K same prefix n children others like Flat = leaf_then c a b H K same prefix n Flat
-node_then c a b H K same prefix n children others like (CutA shared u) = leaf_then c a b H K same prefix n (CutA shared u)
-node_then c a b H K same prefix n children others like (CutB shared u) = leaf_then c a b H K same prefix n (CutB shared u)
+node_then c a b H K same prefix n children others like node = leaf_then c a b H K same prefix n node
 
 -- the children of a node, whose trees these are
 abbrev children_of : List Sign → (n : ℕ) → (tree : Sign → ℕ → Course ℕ) → Course ℕ

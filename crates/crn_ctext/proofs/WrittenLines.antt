@@ -1,8 +1,6 @@
 -- The lines of records, as they are written: words, then numbers.
-use Rattle.crn_ctext.proofs.Prelude.{◌≡◌, ℕ, zero, suc, slice_get, add-one, ◌+◌, ◌<◌, ◌≤◌, List, [], ◌∷◌, ◌++◌, length, map, take, drop, get_or, refl, sym, ap, ◌∙◌, append_assoc, arith, ap₂, take-append-drop, decimal_digit, flat_map, join_with_byte, signed_decimal, digits, append-nil, flat_map-append, SinkSeen, WroteAll, WroteAll-none, flat_map_step, flat_map_whole, Net, canonical, Question, Wide, Budget, Verdict, Unknown, RankProof, Record, record_text, number_text, numbers_text, line, head_of, head_with, small_record, rank_records, side_records, head_word, record_lines, one_word, opening, table_records, part_head, words_text, question_at, head_words, head_numbers, pair_at}
+use Rattle.crn_ctext.proofs.Prelude.{◌≡◌, ℕ, zero, suc, slice_get, add-one, ◌+◌, ◌<◌, ◌≤◌, List, [], ◌∷◌, ◌++◌, length, map, take, drop, get_or, refl, sym, ap, ◌∙◌, append_assoc, arith, ap₂, take-append-drop, decimal_digit, flat_map, join_with_byte, signed_decimal, digits, append-nil, flat_map-append, SinkSeen, WroteAll, WroteAll-none, flat_map_step, flat_map_whole, Net, canonical, Question, Wide, Verdict, Unknown, RankProof, Record, record_text, number_text, numbers_text, line, head_of, head_with, small_record, rank_records, side_records, head_word, record_lines, one_word, opening, table_records, part_head, words_text, question_at, head_words, head_numbers, pair_at}
 use Rattle.std.proofs.Common.{Some, ℤ, pos, codes, decimal}
-use Rattle.crn_cert.specs.declared.answer.Gap.TheVariants.{Rests}
-use Rattle.crn_cert.specs.declared.answer.Verdict.TheVariants.{Classes, Strong, Rank, Deficiency, Yes, YesWeak, YesVec, YesSignal, No, NoReaction, NoVec, NoNumber, NoTerminal, NoClass, NoSum, NoDependence, NoCycle, NoPair, NotRegular, OnlyZero, Plane, NotApplicable}
 
 pieces : (a v n b d t : List ℕ) → (((a ++ v) ++ n) ++ (((b ++ d) ++ n) ++ [])) ++ t ≡ ((((a ++ v) ++ (n ++ b)) ++ d) ++ n) ++ t
 pieces a v n b d t = simp (append_assoc, append-nil)
@@ -78,14 +76,10 @@ pub zeros_text : numbers_text (pos 0 ∷ pos 0 ∷ pos 0 ∷ pos 0 ∷ []) ≡ 3
 zeros_text = ap (λ (t : List ℕ). t ++ (t ++ (t ++ (t ++ [])))) zero_text
 
 pub are_four : (zs : List ℤ) → length zs ≡ 4 → get_or zs 0 (pos 0) ≡ pos 0 → get_or zs 1 (pos 0) ≡ pos 0 → get_or zs 2 (pos 0) ≡ pos 0 → get_or zs 3 (pos 0) ≡ pos 0 → zs ≡ pos 0 ∷ pos 0 ∷ pos 0 ∷ pos 0 ∷ []
-are_four [] n e f g h = absurd (omega (arith, n))
-are_four (a ∷ []) n e f g h = absurd (omega (arith, n))
-are_four (a ∷ b ∷ []) n e f g h = absurd (omega (arith, n))
-are_four (a ∷ b ∷ d ∷ []) n e f g h = absurd (omega (arith, n))
 are_four (a ∷ b ∷ d ∷ x ∷ []) n e f g h =
     let Add : ℤ → List ℤ → List ℤ = λ y l. y ∷ l in
     ap₂ Add e (ap₂ Add f (ap₂ Add g (ap (λ (y : ℤ). y ∷ []) h)))
-are_four (a ∷ b ∷ d ∷ x ∷ y ∷ zs) n e f g h = absurd (omega (arith, n))
+are_four zs n e f g h = absurd (omega (arith, n))
 
 -- the natural numbers before one, that one, and those after it
 pub naturals_whole : (ns : List ℕ) (i : ℕ) → i < length ns → (rest : List ℕ) × (numbers_text (map pos ns) ≡ (numbers_text (map pos (take i ns)) ++ number_text (pos (get_or ns i 0))) ++ rest)
