@@ -8,33 +8,33 @@ pub record IsNumberedTo (labels : List ℕ) (i most : ℕ) : Type 0 where
   pub numbered : (y k : ℕ) → y < i → 1 ≤ k → k < get_or labels y 0 → (x : ℕ) × (x < y) × (get_or labels x 0 ≡ k)
   pub each : (k : ℕ) → 1 ≤ k → k ≤ most → (y : ℕ) × (y < i) × (get_or labels y 0 ≡ k)
 
+at : (i y : ℕ) → y < i + 1 → i ≤ y → i ≡ y
+at i y lt le = omega arith
+
 -- a label that has appeared
 pub numbered_old : (labels : List ℕ) (i most : ℕ) → IsNumberedTo labels i most → 1 ≤ get_or labels i 0 → get_or labels i 0 ≤ most → IsNumberedTo labels (i + 1) most
 numbered_old labels i most h one le = record {
-  some = λ y lt. elim (cases_lt y i) [ inl early ↦ h.some y early | inr late ↦ subst (λ (x : ℕ). 1 ≤ get_or labels x 0) (at y lt late) one ];
-  within = λ y lt. elim (cases_lt y i) [ inl early ↦ h.within y early | inr late ↦ subst (λ (x : ℕ). get_or labels x 0 ≤ most) (at y lt late) le ];
+  some = λ y lt. elim (cases_lt y i) [ inl early ↦ h.some y early | inr late ↦ subst (λ (x : ℕ). 1 ≤ get_or labels x 0) (at i y lt late) one ];
+  within = λ y lt. elim (cases_lt y i) [ inl early ↦ h.within y early | inr late ↦ subst (λ (x : ℕ). get_or labels x 0 ≤ most) (at i y lt late) le ];
   numbered = λ y k lt some less. elim (cases_lt y i) [
     | inl early ↦ h.numbered y k early some less
     | inr late ↦
-        let less : k < get_or labels i 0 = subst (λ (x : ℕ). k < get_or labels x 0) (sym (at y lt late)) less in
+        let less : k < get_or labels i 0 = subst (λ (x : ℕ). k < get_or labels x 0) (sym (at i y lt late)) less in
         let f = h.each k some (omega (arith, less, le)) in
         (f.0, omega (arith, f.1, late), f.2)
   ];
   each = λ k some few. let f = h.each k some few in (f.0, omega (arith, f.1), f.2);
 }
-  where
-    at : (y : ℕ) → y < i + 1 → i ≤ y → i ≡ y
-    at y lt le = omega arith
 
 -- the next label
 pub numbered_new : (labels : List ℕ) (i most : ℕ) → IsNumberedTo labels i most → get_or labels i 0 ≡ most + 1 → IsNumberedTo labels (i + 1) (most + 1)
 numbered_new labels i most h e = record {
-  some = λ y lt. elim (cases_lt y i) [ inl early ↦ h.some y early | inr late ↦ subst (λ (x : ℕ). 1 ≤ get_or labels x 0) (at y lt late) (omega (arith, e)) ];
-  within = λ y lt. elim (cases_lt y i) [ inl early ↦ let w = h.within y early in omega arith | inr late ↦ subst (λ (x : ℕ). get_or labels x 0 ≤ most + 1) (at y lt late) (omega (arith, e)) ];
+  some = λ y lt. elim (cases_lt y i) [ inl early ↦ h.some y early | inr late ↦ subst (λ (x : ℕ). 1 ≤ get_or labels x 0) (at i y lt late) (omega (arith, e)) ];
+  within = λ y lt. elim (cases_lt y i) [ inl early ↦ let w = h.within y early in omega arith | inr late ↦ subst (λ (x : ℕ). get_or labels x 0 ≤ most + 1) (at i y lt late) (omega (arith, e)) ];
   numbered = λ y k lt some less. elim (cases_lt y i) [
     | inl early ↦ h.numbered y k early some less
     | inr late ↦
-        let less : k < get_or labels i 0 = subst (λ (x : ℕ). k < get_or labels x 0) (sym (at y lt late)) less in
+        let less : k < get_or labels i 0 = subst (λ (x : ℕ). k < get_or labels x 0) (sym (at i y lt late)) less in
         let f = h.each k some (omega (arith, less, e)) in
         (f.0, omega (arith, f.1, late), f.2)
   ];
@@ -43,9 +43,6 @@ numbered_new labels i most h e = record {
     | inr old ↦ let f = h.each k some old in (f.0, omega (arith, f.1), f.2)
   ];
 }
-  where
-    at : (y : ℕ) → y < i + 1 → i ≤ y → i ≡ y
-    at y lt le = omega arith
 
 -- a label that leaves one out
 pub numbered_gap : (labels : List ℕ) (i most count : ℕ) → IsNumberedTo labels i most → i < length labels → most + 1 < get_or labels i 0 → AreNumbered labels count → ⊥
