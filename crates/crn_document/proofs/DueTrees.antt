@@ -1,6 +1,6 @@
 -- The tree of a prefix is its node and the trees of the prefixes that the node leaves due.
-use Rattle.crn_document.proofs.Prelude.{◌≡◌, ◌≢◌, ◌+◌, ◌-◌, ◌<◌, ◌++◌, ℕ, zero, suc, Bool, true, false, List, [], ◌∷◌, length, map, refl, sym, subst, arith, Ok, Result, ℤ, length-append, Sign, Zero, Plus, Minus, all_zero, children, options_below, root, SourceSeen, Course, Give, ◌>>=◌, test, Problem, Node, Split, Flat, CutA, CutB, asks_leaf, asks_tree, either, goes_on, leaf, StepGives, first, rest, Reading, CheckStop, StopIs, StepIs, after_node, asks_due, asks_one, node_test, step_gives, step_then_is, stop_first, NodeNotAllowed}
-use Rattle.crn_document.proofs.CoursesFollowed.{Follows, follows_on, follows_after, to_right, to_left, none_after, test_holds, test_breaks, step_follows, stop_follows}
+use Rattle.crn_document.proofs.Prelude.{◌≡◌, ◌≢◌, ◌+◌, ◌-◌, ◌<◌, ◌++◌, ℕ, zero, suc, Bool, true, false, List, [], ◌∷◌, length, map, refl, sym, subst, arith, Ok, Result, ℤ, length-append, Sign, Zero, Plus, Minus, all_zero, children, options_below, root, SourceSeen, Course, Give, ◌>>=◌, test, Problem, Node, Split, asks_leaf, asks_tree, either, goes_on, leaf, StepGives, first, rest, Reading, CheckStop, StopIs, StepIs, after_node, asks_due, asks_one, node_test, step_gives, step_then_is, stop_first, NodeNotAllowed, IsLike, like_itself, like_then}
+use Rattle.crn_document.proofs.CoursesFollowed.{follows_on, to_right, to_left, none_after, test_holds, test_breaks, step_follows, stop_follows}
 
 -- ---- prefixes
 
@@ -13,78 +13,61 @@ first_and_rest (p ∷ due) some = refl
 
 -- ---- the children of a prefix
 
-two_parts : (t₀ t₁ r : ℕ → Course ℕ) (n : ℕ) → Follows (t₀ n >>= (λ k. t₁ k >>= r)) ((t₀ n >>= (λ k. t₁ k >>= (λ m. Give m))) >>= r)
-two_parts t₀ t₁ r n =
-    follows_on (t₀ n >>= (λ k. t₁ k >>= r)) (t₀ n >>= (λ k. (t₁ k >>= (λ m. Give m)) >>= r)) ((t₀ n >>= (λ k. t₁ k >>= (λ m. Give m))) >>= r)
-    (follows_after (t₀ n) (λ k. t₁ k >>= r) (λ k. (t₁ k >>= (λ m. Give m)) >>= r) (λ k. to_left (t₁ k) (λ m. Give m) r))
-    (to_left (t₀ n) (λ k. t₁ k >>= (λ m. Give m)) r)
-
-three_parts : (t₀ t₁ t₂ r : ℕ → Course ℕ) (n : ℕ) → Follows (t₀ n >>= (λ k. t₁ k >>= (λ m. t₂ m >>= r))) ((t₀ n >>= (λ k. t₁ k >>= t₂)) >>= r)
+three_parts : (t₀ t₁ t₂ r : ℕ → Course ℕ) (n : ℕ) → IsLike (t₀ n >>= (λ k. t₁ k >>= (λ m. t₂ m >>= r))) ((t₀ n >>= (λ k. t₁ k >>= t₂)) >>= r)
 three_parts t₀ t₁ t₂ r n =
     follows_on (t₀ n >>= (λ k. t₁ k >>= (λ m. t₂ m >>= r))) (t₀ n >>= (λ k. (t₁ k >>= t₂) >>= r)) ((t₀ n >>= (λ k. t₁ k >>= t₂)) >>= r)
-    (follows_after (t₀ n) (λ k. t₁ k >>= (λ m. t₂ m >>= r)) (λ k. (t₁ k >>= t₂) >>= r) (λ k. to_left (t₁ k) t₂ r))
+    (like_then (t₀ n) (t₀ n) (λ k. t₁ k >>= (λ m. t₂ m >>= r)) (λ k. (t₁ k >>= t₂) >>= r) (like_itself (t₀ n)) (λ k. to_left (t₁ k) t₂ r))
     (to_left (t₀ n) (λ k. t₁ k >>= t₂) r)
 
 -- the trees of the children, with so many choices still to make in each
-abbrev children_course : (version : ℕ) → List (List ℤ) → Problem → (more : Sign → ℕ) → Bool → List Sign → (line : ℕ) → Course ℕ
-children_course version table p more none prefix n =
-    asks_tree version table p (more Zero) (prefix ++ Zero ∷ []) (n + 1) >>= (λ k.
-    asks_tree version table p (more Plus) (prefix ++ Plus ∷ []) k >>= (λ m.
-    either none (Give m) (asks_tree version table p (more Minus) (prefix ++ Minus ∷ []) m)))
-
-children_by : (version : ℕ) (table : List (List ℤ)) (p : Problem) (none : Bool) (prefix : List Sign) (due : List (List Sign)) (n : ℕ)
-    → Follows (asks_due version table p (map (λ s. prefix ++ s ∷ []) (options_below none) ++ due) (n + 1)) (children_course version table p (λ s. p.choices - length (prefix ++ s ∷ [])) none prefix n >>= (λ m. asks_due version table p due m))
-unfolding asks_due
-children_by version table p true prefix due n =
-    two_parts (asks_tree version table p (p.choices - length (prefix ++ Zero ∷ [])) (prefix ++ Zero ∷ [])) (asks_tree version table p (p.choices - length (prefix ++ Plus ∷ [])) (prefix ++ Plus ∷ []))
-    (λ m. asks_due version table p due m) (n + 1)
-children_by version table p false prefix due n =
-    three_parts (asks_tree version table p (p.choices - length (prefix ++ Zero ∷ [])) (prefix ++ Zero ∷ [])) (asks_tree version table p (p.choices - length (prefix ++ Plus ∷ [])) (prefix ++ Plus ∷ []))
-    (asks_tree version table p (p.choices - length (prefix ++ Minus ∷ [])) (prefix ++ Minus ∷ [])) (λ m. asks_due version table p due m) (n + 1)
-
--- the course of the children as that of a tree has it
 abbrev split_course : (version : ℕ) → List (List ℤ) → Problem → (zeros pluses minuses : ℕ) → Bool → List Sign → (line : ℕ) → Course ℕ
 split_course version table p i j k none prefix n =
     asks_tree version table p i (prefix ++ Zero ∷ []) (n + 1) >>= (λ l.
     asks_tree version table p j (prefix ++ Plus ∷ []) l >>= (λ m.
     either none (Give m) (asks_tree version table p k (prefix ++ Minus ∷ []) m)))
 
+children_by : (version : ℕ) (table : List (List ℤ)) (p : Problem) (none : Bool) (prefix : List Sign) (due : List (List Sign)) (n : ℕ)
+    → IsLike (asks_due version table p (map (λ s. prefix ++ s ∷ []) (options_below none) ++ due) (n + 1)) (split_course version table p (p.choices - length (prefix ++ Zero ∷ [])) (p.choices - length (prefix ++ Plus ∷ [])) (p.choices - length (prefix ++ Minus ∷ [])) none prefix n >>= (λ m. asks_due version table p due m))
+unfolding asks_due
+children_by version table p true prefix due n =
+    three_parts (asks_tree version table p (p.choices - length (prefix ++ Zero ∷ [])) (prefix ++ Zero ∷ [])) (asks_tree version table p (p.choices - length (prefix ++ Plus ∷ [])) (prefix ++ Plus ∷ []))
+    (λ m. Give m) (λ m. asks_due version table p due m) (n + 1)
+children_by version table p false prefix due n =
+    three_parts (asks_tree version table p (p.choices - length (prefix ++ Zero ∷ [])) (prefix ++ Zero ∷ [])) (asks_tree version table p (p.choices - length (prefix ++ Plus ∷ [])) (prefix ++ Plus ∷ []))
+    (asks_tree version table p (p.choices - length (prefix ++ Minus ∷ [])) (prefix ++ Minus ∷ [])) (λ m. asks_due version table p due m) (n + 1)
+
 children_follow : (version : ℕ) (table : List (List ℤ)) (p : Problem) (more : ℕ) (prefix : List Sign) (due : List (List Sign)) (n : ℕ) → p.choices - length prefix ≡ suc more
-    → Follows (asks_due version table p (children prefix ++ due) (n + 1)) (split_course version table p more more more (all_zero prefix) prefix n >>= (λ m. asks_due version table p due m))
+    → IsLike (asks_due version table p (children prefix ++ due) (n + 1)) (split_course version table p more more more (all_zero prefix) prefix n >>= (λ m. asks_due version table p due m))
 children_follow version table p more prefix due n e =
     let c = asks_due version table p (children prefix ++ due) (n + 1) in
     let r = λ (m : ℕ). asks_due version table p due m in
     let left = λ (s : Sign). p.choices - length (prefix ++ s ∷ []) in
-    subst (λ (k : ℕ). Follows c (split_course version table p more more k (all_zero prefix) prefix n >>= r)) (child_more p.choices more prefix Minus e)
-    (subst (λ (k : ℕ). Follows c (split_course version table p more k (left Minus) (all_zero prefix) prefix n >>= r)) (child_more p.choices more prefix Plus e)
-    (subst (λ (k : ℕ). Follows c (split_course version table p k (left Plus) (left Minus) (all_zero prefix) prefix n >>= r)) (child_more p.choices more prefix Zero e)
+    subst (λ (k : ℕ). IsLike c (split_course version table p more more k (all_zero prefix) prefix n >>= r)) (child_more p.choices more prefix Minus e)
+    (subst (λ (k : ℕ). IsLike c (split_course version table p more k (left Minus) (all_zero prefix) prefix n >>= r)) (child_more p.choices more prefix Plus e)
+    (subst (λ (k : ℕ). IsLike c (split_course version table p k (left Plus) (left Minus) (all_zero prefix) prefix n >>= r)) (child_more p.choices more prefix Zero e)
     (children_by version table p (all_zero prefix) prefix due n)))
 
 -- ---- a node and what it leaves due
 
 -- what follows a node at a full prefix
 full_node : (version : ℕ) (table : List (List ℤ)) (p : Problem) (prefix : List Sign) (due : List (List Sign)) (n : ℕ) → p.choices - length prefix ≡ 0 → (node : Node)
-    → Follows (node_test p prefix n node >>= (λ x. asks_due version table p (after_node prefix due node) (n + 1))) ((leaf p prefix n node >>= (λ x. Give (n + 1))) >>= (λ m. asks_due version table p due m))
+    → IsLike (node_test p prefix n node >>= (λ x. asks_due version table p (after_node prefix due node) (n + 1))) ((leaf p prefix n node >>= (λ x. Give (n + 1))) >>= (λ m. asks_due version table p due m))
 full_node version table p prefix due n e Split = test_breaks n NodeNotAllowed (length prefix < p.choices) ⊥ (asks_due version table p (children prefix ++ due) (n + 1)) (asks_due version table p due (n + 1)) (λ lt. omega (arith, e, lt)) (λ x. x)
-full_node version table p prefix due n e Flat = to_left (leaf p prefix n Flat) (λ x. Give (n + 1)) (λ m. asks_due version table p due m)
-full_node version table p prefix due n e (CutA shared u) = to_left (leaf p prefix n (CutA shared u)) (λ x. Give (n + 1)) (λ m. asks_due version table p due m)
-full_node version table p prefix due n e (CutB shared u) = to_left (leaf p prefix n (CutB shared u)) (λ x. Give (n + 1)) (λ m. asks_due version table p due m)
+full_node version table p prefix due n e node = to_left (leaf p prefix n node) (λ x. Give (n + 1)) (λ m. asks_due version table p due m)
 
 -- and at another one
 inner_node : (version : ℕ) (table : List (List ℤ)) (p : Problem) (more : ℕ) (prefix : List Sign) (due : List (List Sign)) (n : ℕ) → p.choices - length prefix ≡ suc more → (node : Node)
-    → Follows (node_test p prefix n node >>= (λ x. asks_due version table p (after_node prefix due node) (n + 1))) (goes_on p prefix n node (split_course version table p more more more (all_zero prefix) prefix n) >>= (λ m. asks_due version table p due m))
+    → IsLike (node_test p prefix n node >>= (λ x. asks_due version table p (after_node prefix due node) (n + 1))) (goes_on p prefix n node (split_course version table p more more more (all_zero prefix) prefix n) >>= (λ m. asks_due version table p due m))
 inner_node version table p more prefix due n e Split =
     let c = asks_due version table p (children prefix ++ due) (n + 1) in
     follows_on (test n NodeNotAllowed (length prefix < p.choices) >>= (λ x. c)) c (split_course version table p more more more (all_zero prefix) prefix n >>= (λ m. asks_due version table p due m))
     (test_holds n NodeNotAllowed (length prefix < p.choices) c (omega (arith, e))) (children_follow version table p more prefix due n e)
-inner_node version table p more prefix due n e Flat = to_left (leaf p prefix n Flat) (λ x. Give (n + 1)) (λ m. asks_due version table p due m)
-inner_node version table p more prefix due n e (CutA shared u) = to_left (leaf p prefix n (CutA shared u)) (λ x. Give (n + 1)) (λ m. asks_due version table p due m)
-inner_node version table p more prefix due n e (CutB shared u) = to_left (leaf p prefix n (CutB shared u)) (λ x. Give (n + 1)) (λ m. asks_due version table p due m)
+inner_node version table p more prefix due n e node = to_left (leaf p prefix n node) (λ x. Give (n + 1)) (λ m. asks_due version table p due m)
 
 -- a node, and then what is as its course has it
 node_in : (version : ℕ) (table : List (List ℤ)) (p : Problem) (prefix : List Sign) (due : List (List Sign)) (n : ℕ) (g : Node → Course ℕ)
-    → ((node : Node) → Follows (node_test p prefix n node >>= (λ x. asks_due version table p (after_node prefix due node) (n + 1))) (g node >>= (λ m. asks_due version table p due m)))
-    → Follows (asks_one version table p prefix n >>= (λ node. asks_due version table p (after_node prefix due node) (n + 1))) ((asks_leaf version table p n >>= g) >>= (λ m. asks_due version table p due m))
+    → ((node : Node) → IsLike (node_test p prefix n node >>= (λ x. asks_due version table p (after_node prefix due node) (n + 1))) (g node >>= (λ m. asks_due version table p due m)))
+    → IsLike (asks_one version table p prefix n >>= (λ node. asks_due version table p (after_node prefix due node) (n + 1))) ((asks_leaf version table p n >>= g) >>= (λ m. asks_due version table p due m))
 node_in version table p prefix due n g h =
     let l = asks_leaf version table p n in
     let t = λ (node : Node). node_test p prefix n node in
@@ -93,25 +76,25 @@ node_in version table p prefix due n g h =
     follows_on (asks_one version table p prefix n >>= k) (l >>= (λ node. (t node >>= (λ x. Give node)) >>= k)) ((l >>= g) >>= r)
     (to_right l (λ node. t node >>= (λ x. Give node)) k)
     (follows_on (l >>= (λ node. (t node >>= (λ x. Give node)) >>= k)) (l >>= (λ node. g node >>= r)) ((l >>= g) >>= r)
-    (follows_after l (λ node. (t node >>= (λ x. Give node)) >>= k) (λ node. g node >>= r) (λ node. follows_on ((t node >>= (λ x. Give node)) >>= k) (t node >>= (λ x. k node)) (g node >>= r) (to_right (t node) (λ x. Give node) k) (h node)))
+    (like_then l l (λ node. (t node >>= (λ x. Give node)) >>= k) (λ node. g node >>= r) (like_itself l) (λ node. follows_on ((t node >>= (λ x. Give node)) >>= k) (t node >>= (λ x. k node)) (g node >>= r) (to_right (t node) (λ x. Give node) k) (h node)))
     (to_left l g r))
 
 -- a node at the first of some prefixes, and what is due then
 pub node_first : (version : ℕ) (table : List (List ℤ)) (p : Problem) (prefix : List Sign) (due : List (List Sign)) (n : ℕ)
-    → Follows (asks_one version table p prefix n >>= (λ node. asks_due version table p (after_node prefix due node) (n + 1))) (asks_due version table p (prefix ∷ due) n)
+    → IsLike (asks_one version table p prefix n >>= (λ node. asks_due version table p (after_node prefix due node) (n + 1))) (asks_due version table p (prefix ∷ due) n)
 unfolding asks_due asks_tree
 node_first version table p prefix due n = by (p.choices - length prefix) refl
   where
-    by : (more : ℕ) → p.choices - length prefix ≡ more → Follows (asks_one version table p prefix n >>= (λ node. asks_due version table p (after_node prefix due node) (n + 1))) (asks_tree version table p more prefix n >>= (λ m. asks_due version table p due m))
+    by : (more : ℕ) → p.choices - length prefix ≡ more → IsLike (asks_one version table p prefix n >>= (λ node. asks_due version table p (after_node prefix due node) (n + 1))) (asks_tree version table p more prefix n >>= (λ m. asks_due version table p due m))
     by zero e = node_in version table p prefix due n (λ node. leaf p prefix n node >>= (λ x. Give (n + 1))) (full_node version table p prefix due n e)
     by (suc more) e = node_in version table p prefix due n (λ node. goes_on p prefix n node (split_course version table p more more more (all_zero prefix) prefix n)) (inner_node version table p more prefix due n e)
 
 -- the tree of the root is all that is due at first
-pub root_tree : (version : ℕ) (table : List (List ℤ)) (p : Problem) (n : ℕ) → Follows (asks_due version table p root n) (asks_tree version table p p.choices [] n)
+pub root_tree : (version : ℕ) (table : List (List ℤ)) (p : Problem) (n : ℕ) → IsLike (asks_due version table p root n) (asks_tree version table p p.choices [] n)
 unfolding asks_due
 root_tree version table p n =
     let e : p.choices - 0 ≡ p.choices = omega arith in
-    subst (λ (k : ℕ). Follows (asks_tree version table p (p.choices - 0) [] n >>= (λ m. Give m)) (asks_tree version table p k [] n)) e (none_after (asks_tree version table p (p.choices - 0) [] n))
+    subst (λ (k : ℕ). IsLike (asks_tree version table p (p.choices - 0) [] n >>= (λ m. Give m)) (asks_tree version table p k [] n)) e (none_after (asks_tree version table p (p.choices - 0) [] n))
 
 -- ---- steps
 

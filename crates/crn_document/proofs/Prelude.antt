@@ -32,10 +32,10 @@ pub use Rattle.crn_check.proofs.CallerLemmas.{answer_treeless, asked_number, bui
 pub use Rattle.crn_check.specs.Check.{AsksForTree, HoldsNeeds, HoldsNoSignal, HoldsNoTree, IsBuilt, IsShapeFor, Judges, shown_by_tree, tree_place}
 pub use Rattle.crn_check.specs.Facts.{AreFactsOf, HoldsNoneFrom, HoldsOn, KeptFacts, asked}
 pub use Rattle.crn_check.specs.declared.fault.CheckFault.{CheckFault}
-pub use Rattle.crn_ctext.proofs.CallerLemmas.{AreShort, HoldTogether, IsLike, all_same, awaited_open, awaits_before, awaits_parts, awaits_then, fails_before, fails_then, fails_with_a_code, given_back, gives_parts, gives_then, head, head_record, head_typed, no, no_by, none_by, numbers_of, open_by, read_true, records_formed, rests, rests_place, settled, spent, spent_place, split_known, step_awaits_like, step_fails_like, step_fails_then, step_gives_like, step_then, text_says, trees_like, turn_is, wide, wide_signal, yes, zip_long}
+pub use Rattle.crn_ctext.proofs.CallerLemmas.{AreShort, HoldTogether, IsLike, all_same, awaited_open, awaits_before, awaits_parts, awaits_then, fails_before, fails_parts, fails_then, fails_with_a_code, given_back, gives_parts, gives_then, head, head_record, head_typed, like_itself, like_then, no, no_by, none_by, numbers_of, open_by, read_true, records_formed, rests, rests_place, settled, spent, spent_place, split_known, step_awaits_like, step_fails_like, step_fails_then, step_gives_like, step_then, text_says, trees_like, turn_is, wide, wide_signal, yes, zip_long}
 pub use Rattle.crn_ctext.specs.Blocks.{AfterBlocks, CutA, CutB, Flat, IsNetworkOf, Node, Problem, ReadOf, Split, after_sections, asks, asks_block, asks_leaf, asks_lines, asks_node, asks_table, below, either, goes_on, has_tree, leaf, lists_of, node_of, place_of, reads, sections, word_of}
 unfoldable pub use Rattle.crn_ctext.specs.Blocks.{asks_all, asks_blocks, asks_tree, asks_trees, claims}
-pub use Rattle.crn_ctext.specs.Course.{Course, End, Give, IsReported, Line, due, find, test, ◌>>=◌}
+pub use Rattle.crn_ctext.specs.Course.{Course, Give, IsReported, due, find, test, ◌>>=◌}
 unfoldable pub use Rattle.crn_ctext.specs.Course.{Gives}
 pub use Rattle.crn_ctext.specs.Courses.{none_own}
 pub use Rattle.crn_ctext.specs.Documents.{IsOneOf}
@@ -46,7 +46,7 @@ pub use Rattle.crn_ctext.specs.Linked.{AreSound}
 pub use Rattle.crn_ctext.specs.Meaning.{Known, class_proofs, has_vector, is_yes, sizes_of as known_sizes, learn_of, lengths, lists, meaning, nums, pairs_of, problem_with, problems_by, proof_by, proof_of, rank_proof, ranks_of, row, shapes_of, signal_problem, signal_problems, sizes_of, verdict_by, verdict_of, verdicts_said}
 pub use Rattle.crn_ctext.specs.Questions.{class_forms, decided, first_number, head_word, heads, kind_at, later_numbers, open_kinds, opens, rank_forms, rows, side_form, words}
 pub use Rattle.crn_ctext.specs.Records.{AreBetween, AreNarrow, AreOf, BeginsWith, ClassWide, CountAndPart, Field, Fits, Form, Free, FreeSeveral, IsShaped, Members, Record, Says, Several, Takes, Turn, TwoOf, kind_of, record_text}
-pub use Rattle.crn_ctext.specs.Steps.{StepFails, StepGives, cut}
+pub use Rattle.crn_ctext.specs.Steps.{StepFails, StepGives}
 unfoldable pub use Rattle.crn_ctext.specs.Steps.{Awaits}
 pub use Rattle.crn_ctext.specs.declared.expect.Due.{Due}
 pub use Rattle.crn_ctext.specs.declared.expect.Due.TheVariants.{Base as DueBase}

@@ -1,18 +1,8 @@
 -- The tree for the vector of question 12 with a turn is the tree over the shape of that vector.
-use Rattle.crn_document.proofs.Prelude.{◌≡◌, ◌+◌, ℕ, Bool, true, false, List, [], ◌∷◌, length, refl, subst, Result, Ok, Err, ℤ, pos, negsuc, SourceSeen, Net, reaction_system, Sign, Shape, signals, HasNoSignal, IsShapeOf, IsRegular, Said, Q2, Q12, on, terminal_of, vector_given, IsTurn, by_turn, HasVector, IsNodeOf, OfVector, Course, Problem, asks_tree, Known, pairs_of, problem_with, signal_problem, signal_problems, HoldTogether, IsLike, step_awaits_like, step_fails_like, step_gives_like, trees_like, signal_nodes, KeptFacts, Reading, CheckStop, known_of, IsKnownFor, vector_or_none, StepIs, StopIs}
+use Rattle.crn_document.proofs.Prelude.{◌≡◌, ◌+◌, ℕ, Bool, true, false, List, [], ◌∷◌, length, refl, subst, Result, ℤ, pos, negsuc, SourceSeen, Net, reaction_system, Sign, Shape, signals, HasNoSignal, IsShapeOf, IsRegular, Said, Q2, Q12, on, terminal_of, vector_given, IsTurn, by_turn, HasVector, IsNodeOf, OfVector, Problem, asks_tree, Known, pairs_of, problem_with, signal_problem, signal_problems, HoldTogether, trees_like, signal_nodes, KeptFacts, Reading, CheckStop, known_of, IsKnownFor, vector_or_none, StepIs}
 use Rattle.crn_cert.specs.Nodes.{Fits}
-use Rattle.crn_reading.specs.declared.fault.CheckStop.TheVariants as stop
+use Rattle.crn_document.proofs.CoursesFollowed.{step_follows}
 use Rattle.crn_document.proofs.SignalsKnown.{of_vector, sizes, some_vector, vector_has, vector_known}
-
--- what a step did by one course it did by a course that gives and fails as the first does
-stop_like : {A : Type 0} (c d : Course A) → IsLike c d → (e : CheckStop) (old : Reading) (before now : SourceSeen) → StopIs c e old before now → StopIs d e old before now
-stop_like c d like (stop.Rejected code line) old before now p = (step_fails_like c d like old.line old.lines before.left now.left line code p.0, p.1)
-stop_like c d like stop.Failed old before now p = (step_awaits_like c d like old.line old.lines before.left now.left p.0, p.1, p.2)
-stop_like c d like stop.NoMemory old before now p = p
-
-step_like : {A T : Type 0} (c d : Course A) → IsLike c d → (Says : T → A → Type 0) (result : Result T CheckStop) (old new : Reading) (before now : SourceSeen) → StepIs c Says result old new before now → StepIs d Says result old new before now
-step_like c d like Says (Ok t) old new before now p = (p.0, p.1, step_gives_like c d like p.0 old.line new.line old.lines new.lines before.left now.left p.2, p.3)
-step_like c d like Says (Err e) old new before now p = stop_like c d like e old before now p
 
 -- the sign problem over a shape, as the course of a document sees it
 abbrev pub shape_problem : Net → Shape → Problem
@@ -36,7 +26,7 @@ as_signal_tree net facts turn s version n table Says result old new before_it no
     let choices = s.count + s.species in
     subst (λ (c : ℕ). StepIs (asks_tree version table (problem_with c (length net.complexes + length (pairs_of (known_of net earlier))) b K) c [] n) Says result old new before_it now) z.choices
     (subst (λ (i : ℕ). StepIs (asks_tree version table (problem_with choices i b K) choices [] n) Says result old new before_it now) z.rows
-    (step_like (asks_tree version table (problem_with choices a b H) choices [] n) (asks_tree version table (problem_with choices a b K) choices [] n) (trees_like version table choices a b H K together choices [] n) Says result old new before_it now p))
+    (step_follows (asks_tree version table (problem_with choices a b H) choices [] n) (asks_tree version table (problem_with choices a b K) choices [] n) Says result old new before_it now (trees_like version table choices a b H K together choices [] n) p))
 
 -- what that tree shows
 pub no_signal_shown : (net : Net) (facts : KeptFacts) (turn : ℤ) (s : Shape) → IsKnownFor net 13 facts → HasVector facts.earlier → OfVector facts.earlier turn (λ g. IsShapeOf net g s) → ((g : List ℤ) → IsRegular net → IsShapeOf net g s → HasNoSignal net g) → OfVector facts.earlier turn (λ g. HasNoSignal net g)

@@ -14,4 +14,4 @@ pub use Rattle.crn_reading.proofs.Whole.{text_read, text_answered}
 -- The lines of a part, and a whole document of it.
 pub use Rattle.crn_reading.proofs.PartLines.{words_named, forms_named, IsGiven, have_places, place_is, placed, own_holds, own_fails}
 unfoldable pub use Rattle.crn_reading.proofs.PartLines.{find}
-pub use Rattle.crn_reading.proofs.PartDocuments.{after_answer, head_stop, answer_stops, head_then, answer_then, document_gives, document_answered}
+pub use Rattle.crn_reading.proofs.PartDocuments.{head_stop, answer_stops, head_then, answer_then, document_gives, document_answered}

@@ -1,36 +1,29 @@
 -- A document of a part, as it is read from its title to its end.
-use Rattle.crn_reading.proofs.Prelude.{◌≡◌, ℕ, [], sym, subst, inl, arith, Result, Net, SourceSeen, beginning, begun_none, Course, ◌>>=◌, IsSettled, Part, part_opening, part_ending, part_course, Awaits, StepGives, LastIs, IsNew, StopIs, ReadingGives, IsAnsweredBy, Reading, CheckStop}
+use Rattle.crn_reading.proofs.Prelude.{◌≡◌, ℕ, [], sym, subst, inl, arith, Result, Net, SourceSeen, beginning, begun_none, ◌>>=◌, IsSettled, Part, part_opening, part_ending, part_course, Awaits, StepGives, LastIs, IsNew, StopIs, ReadingGives, IsAnsweredBy, Reading, CheckStop, after_lines, after_opening}
 use Rattle.crn_reading.proofs.Steps.{stop_first}
 use Rattle.crn_reading.proofs.LastSteps.{last_then}
 use Rattle.crn_reading.proofs.Whole.{text_read, text_answered}
 
--- what follows the lines of the answer, and those of the network
-abbrev pub after_answer : {Read : Type 0} → Part Read → Net → ℕ × Read → Course (Net × Read)
-after_answer p net after = part_ending p.words after.0 (net, after.1)
-
-abbrev after_network : {Read : Type 0} → Part Read → Net × ℕ → Course (Net × Read)
-after_network p opened = p.lines opened.0 opened.1 >>= after_answer p opened.0
-
 pub head_stop : {Read : Type 0} (p : Part Read) (e : CheckStop) (old : Reading) (before now : SourceSeen) → StopIs (part_opening p.name) e old before now → StopIs (part_course p) e old before now
-head_stop p e old before now s = stop_first (part_opening p.name) (after_network p) e old before now s
+head_stop p e old before now s = stop_first (part_opening p.name) (after_opening p) e old before now s
 
-pub answer_stops : {Read : Type 0} (p : Part Read) (net : Net) (e : CheckStop) (mid : Reading) (between now : SourceSeen) → StopIs (p.lines net mid.line) e mid between now → StopIs (p.lines net mid.line >>= after_answer p net) e mid between now
-answer_stops p net e mid between now s = stop_first (p.lines net mid.line) (after_answer p net) e mid between now s
+pub answer_stops : {Read : Type 0} (p : Part Read) (net : Net) (e : CheckStop) (mid : Reading) (between now : SourceSeen) → StopIs (p.lines net mid.line) e mid between now → StopIs (p.lines net mid.line >>= after_lines p net) e mid between now
+answer_stops p net e mid between now s = stop_first (p.lines net mid.line) (after_lines p net) e mid between now s
 
 -- the network was read, and then what follows it to the end
 pub head_then : {Read T : Type 0} (p : Part Read) (Says : T → Net × Read → Type 0) (net : Net) (opened : Net × ℕ) (result : Result T CheckStop) (old mid : Reading) (before between now : SourceSeen) → opened ≡ (net, mid.line)
-    → StepGives (part_opening p.name) opened old.line mid.line old.lines mid.lines before.left between.left → between.faults ≡ before.faults → LastIs (p.lines net mid.line >>= after_answer p net) Says result mid between now → LastIs (part_course p) Says result old before now
+    → StepGives (part_opening p.name) opened old.line mid.line old.lines mid.lines before.left between.left → between.faults ≡ before.faults → LastIs (p.lines net mid.line >>= after_lines p net) Says result mid between now → LastIs (part_course p) Says result old before now
 head_then p Says net opened result old mid before between now is s same t =
-    last_then (part_opening p.name) (after_network p) opened Says result old mid before between now s same
-    (subst (λ (o : Net × ℕ). LastIs (after_network p o) Says result mid between now) (sym is) t)
+    last_then (part_opening p.name) (after_opening p) opened Says result old mid before between now s same
+    (subst (λ (o : Net × ℕ). LastIs (after_opening p o) Says result mid between now) (sym is) t)
 
 -- and the answer
 pub answer_then : {Read T : Type 0} (p : Part Read) (Says : T → Net × Read → Type 0) (net : Net) (read : Read) (y : ℕ × Read) (result : Result T CheckStop) (old mid : Reading) (before between now : SourceSeen) → y ≡ (mid.line, read)
     → StepGives (p.lines net old.line) y old.line mid.line old.lines mid.lines before.left between.left → between.faults ≡ before.faults → LastIs (part_ending p.words mid.line (net, read)) Says result mid between now
-    → LastIs (p.lines net old.line >>= after_answer p net) Says result old before now
+    → LastIs (p.lines net old.line >>= after_lines p net) Says result old before now
 answer_then {Read} p Says net read y result old mid before between now is s same t =
-    last_then (p.lines net old.line) (after_answer p net) y Says result old mid before between now s same
-    (subst (λ (x : ℕ × Read). LastIs (after_answer p net x) Says result mid between now) (sym is) t)
+    last_then (p.lines net old.line) (after_lines p net) y Says result old mid before between now s same
+    (subst (λ (x : ℕ × Read). LastIs (after_lines p net x) Says result mid between now) (sym is) t)
 
 -- ---- a whole text
 

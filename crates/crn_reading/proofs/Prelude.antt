@@ -1,6 +1,6 @@
 -- What this crate's proofs use of other crates and of its specs.
 pub use Rattle.crn_cert.specs.Faults.{BadHeader, BadNetwork, Fault, WrongOrder, fault_number}
-pub use Rattle.crn_ctext.proofs.CallerLemmas.{IsNoLine, first_is_one, gives_counts, gives_one, gives_or_fails, line_is_awaited, line_is_due, line_is_missing, step_awaits_before, step_awaits_then, step_ends_then, step_fails_before, step_fails_then, step_then}
+pub use Rattle.crn_ctext.proofs.CallerLemmas.{IsNoLine, after_lines, after_opening, first_is_one, gives_counts, gives_one, gives_or_fails, line_is_awaited, line_is_due, line_is_missing, step_awaits_before, step_awaits_then, step_ends_then, step_fails_before, step_fails_then, step_then}
 pub use Rattle.crn_ctext.specs.Blocks.{IsNetworkOf, ended, network_line, reads_of, title, word_of}
 unfoldable pub use Rattle.crn_ctext.specs.Blocks.{asks_lines}
 pub use Rattle.crn_ctext.specs.Course.{Course, Give, Test, due, ends, find, test, test_own, ◌>>=◌}

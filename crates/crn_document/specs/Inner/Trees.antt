@@ -99,9 +99,7 @@ problem_in net problem =
 -- the test of a node at a prefix: one that is full is not split
 abbrev pub node_test : Problem → List Sign → (line : ℕ) → Node → Course (Unit {0})
 node_test p prefix n Split = test n NodeNotAllowed (length prefix < p.choices)
-node_test p prefix n Flat = leaf p prefix n Flat
-node_test p prefix n (CutA shared u) = leaf p prefix n (CutA shared u)
-node_test p prefix n (CutB shared u) = leaf p prefix n (CutB shared u)
+node_test p prefix n node = leaf p prefix n node
 
 -- a node is due at a prefix, and this is it
 abbrev pub asks_one : (version : ℕ) → List (List ℤ) → Problem → List Sign → (line : ℕ)
@@ -112,9 +110,7 @@ asks_one version table p prefix n =
 -- the prefixes that are due after a node at the first of some
 abbrev pub after_node : List Sign → List (List Sign) → Node → List (List Sign)
 after_node prefix rest Split = children prefix ++ rest
-after_node prefix rest Flat = rest
-after_node prefix rest (CutA shared u) = rest
-after_node prefix rest (CutB shared u) = rest
+after_node prefix rest node = rest
 
 -- the trees of these prefixes, one after another
 unfoldable pub asks_due : (version : ℕ) → List (List ℤ) → Problem → List (List Sign)
