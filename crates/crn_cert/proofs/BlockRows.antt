@@ -6,27 +6,24 @@ use Rattle.std.proofs.Common.{length-take}
 
 pub free_there : (word : List ℕ) (count width : ℕ) (us : List (List ℤ)) → AllZip FitsRow (replicate count (row word (FreeSeveral width))) (map Ints us) → AreFreeRows count width us
 free_there word zero width [] f = record { long = refl; each = tt }
-free_there word zero width (u ∷ us) f = absurd f
-free_there word (suc n) width [] f = absurd f
 free_there word (suc n) width (u ∷ us) f =
     let more = free_there word n width us f.1 in
     let long = more.long in
     let each = more.each in
     record { long = ap suc long; each = (f.0, each) }
+free_there word count width us f = absurd f
 
 pub free_back : (word : List ℕ) (count width : ℕ) (us : List (List ℤ)) → length us ≡ count → AllByRecursion (AreFree width) us → AllZip FitsRow (replicate count (row word (FreeSeveral width))) (map Ints us)
 free_back word zero width [] e f = tt
-free_back word zero width (u ∷ us) e f = absurd (omega (arith, e))
-free_back word (suc n) width [] e f = absurd (omega (arith, e))
 free_back word (suc n) width (u ∷ us) e f = (f.0, free_back word n width us (omega (arith, e)) f.1)
+free_back word count width us e f = absurd (omega (arith, e))
 
 -- the data of rows of free numbers are lists of whole numbers
 pub free_lists : (word : List ℕ) (count width : ℕ) (us : List Datum) → AllZip FitsRow (replicate count (row word (FreeSeveral width))) us → us ≡ map Ints (map list_in us)
 free_lists word zero width [] f = refl
-free_lists word zero width (u ∷ us) f = absurd f
-free_lists word (suc n) width [] f = absurd f
 free_lists word (suc n) width (Ints zs ∷ us) f = ap (λ (t : List Datum). Ints zs ∷ t) (free_lists word n width us f.1)
 free_lists word (suc n) width (u ∷ us) f = absurd f.0
+free_lists word count width us f = absurd f
 
 pub list_back : (us : List (List ℤ)) → map list_in (map Ints us) ≡ us
 list_back [] = refl
@@ -36,15 +33,13 @@ list_back (u ∷ us) = ap (λ (t : List (List ℤ)). u ∷ t) (list_back us)
 
 pub rows_both : (rs more : List Row) (us vs : List Datum) → AllZip FitsRow rs us → AllZip FitsRow more vs → AllZip FitsRow (rs ++ more) (us ++ vs)
 rows_both [] more [] vs p q = q
-rows_both [] more (u ∷ us) vs p q = absurd p
-rows_both (r ∷ rs) more [] vs p q = absurd p
 rows_both (r ∷ rs) more (u ∷ us) vs p q = (p.0, rows_both rs more us vs p.1 q)
+rows_both rs more us vs p q = absurd p
 
 pub rows_split : (rs more : List Row) (us vs : List Datum) → length us ≡ length rs → AllZip FitsRow (rs ++ more) (us ++ vs) → AllZip FitsRow rs us × AllZip FitsRow more vs
 rows_split [] more [] vs e p = (tt, p)
-rows_split [] more (u ∷ us) vs e p = absurd (omega (arith, e))
-rows_split (r ∷ rs) more [] vs e p = absurd (omega (arith, e))
 rows_split (r ∷ rs) more (u ∷ us) vs e p = let rest = rows_split rs more us vs (omega (arith, e)) p.1 in ((p.0, rest.0), rest.1)
+rows_split rs more us vs e p = absurd (omega (arith, e))
 
 pub cut_rows : (rs more : List Row) (us : List Datum) → AllZip FitsRow (rs ++ more) us → (xs : List Datum) × (ys : List Datum) × (us ≡ xs ++ ys) × AllZip FitsRow rs xs × AllZip FitsRow more ys
 cut_rows [] more us f = ([], us, refl, tt, f)
@@ -129,8 +124,6 @@ class_count net earlier k d = length (class_places net earlier k) - rank_in net 
 
 pub classes_there : (net : Net) (earlier : Earlier) (k : ℕ) (ds : List ℕ) (ps : List RankProof) → AllZip FitsRow (class_rows net earlier k ds) (flat_map rank_data ps) → class_proofs net earlier k ds (flat_map rank_data ps) ≡ map tight_rank ps → AreClassProofs net earlier k ds ps
 classes_there net earlier k [] [] f e = tt
-classes_there net earlier k [] (p ∷ ps) f e = absurd cc
-classes_there net earlier k (d ∷ ds) [] f e = absurd cc
 classes_there net earlier k (d ∷ ds) (p ∷ ps) f e =
     (ranks_there s members r net p duals refl both.0, classes_there net earlier (suc k) ds ps both.1 (subst (λ (t : List Datum). class_proofs net earlier (suc k) ds t ≡ map tight_rank ps) (drop_at (below_base p) rest (r + n) whole) later))
   where
@@ -179,19 +172,17 @@ classes_there net earlier k (d ∷ ds) (p ∷ ps) f e =
 
     both : AllZip FitsRow (rank_rows s r members) (rank_data p) × AllZip FitsRow (class_rows net earlier (suc k) ds) rest
     both = rows_split (rank_rows s r members) (class_rows net earlier (suc k) ds) (rank_data p) rest (ap suc whole ∙ sym (rank_long s r members)) f
+classes_there net earlier k ds ps f e = absurd cc
 
 pub classes_back : (net : Net) (earlier : Earlier) (k : ℕ) (ds : List ℕ) (ps : List RankProof) → AreClassProofs net earlier k ds ps → AllZip FitsRow (class_rows net earlier k ds) (flat_map rank_data ps)
 classes_back net earlier k [] [] f = tt
-classes_back net earlier k [] (p ∷ ps) f = absurd f
-classes_back net earlier k (d ∷ ds) [] f = absurd f
 classes_back net earlier k (d ∷ ds) (p ∷ ps) f =
     rows_both (rank_rows (length net.names) (rank_in net earlier k d) (class_places net earlier k)) (class_rows net earlier (suc k) ds) (rank_data p) (flat_map rank_data ps)
     (ranks_back (length net.names) (class_places net earlier k) (rank_in net earlier k d) net p refl f.0) (classes_back net earlier (suc k) ds ps f.1)
+classes_back net earlier k ds ps f = absurd f
 
 pub classes_again : (net : Net) (earlier : Earlier) (k : ℕ) (ds : List ℕ) (ps : List RankProof) → AreClassProofs net earlier k ds ps → class_proofs net earlier k ds (flat_map rank_data ps) ≡ map tight_rank ps
 classes_again net earlier k [] [] f = refl
-classes_again net earlier k [] (p ∷ ps) f = absurd f
-classes_again net earlier k (d ∷ ds) [] f = absurd f
 classes_again net earlier k (d ∷ ds) (p ∷ ps) f =
     let r = rank_in net earlier k d in
     let n = class_count net earlier k d in
@@ -201,11 +192,9 @@ classes_again net earlier k (d ∷ ds) (p ∷ ps) f =
     let first : rank_proof r (Nums p.base.list ∷ take (r + n) (below_base p ++ rest)) ≡ tight_rank p = ap (λ (t : List Datum). rank_proof r (Nums p.base.list ∷ t)) (take_at (below_base p) rest (r + n) whole) ∙ rank_again r p duals in
     let later : class_proofs net earlier (suc k) ds (drop (r + n) (below_base p ++ rest)) ≡ map tight_rank ps = ap (λ (t : List Datum). class_proofs net earlier (suc k) ds t) (drop_at (below_base p) rest (r + n) whole) ∙ classes_again net earlier (suc k) ds ps f.1 in
     ap₂ (λ (x : RankProof) (xs : List RankProof). x ∷ xs) first later
+classes_again net earlier k ds ps f = absurd f
 
 -- ---- sides
-
-abbrev pub side_row : ℕ → ℕ → Row
-side_row c r = row (codes "side") (Side r c)
 
 pub sides_there : (c : ℕ) (net : Net) (pairs : List ℕ) (sides : List (List ℤ)) → length net.complexes ≡ c → AllZip FitsRow (map (λ r. row (codes "side") (Side r c)) pairs) (side_data pairs sides) → AreSides net pairs sides
 sides_there c net [] [] e f = record { long = refl; each = tt }
@@ -219,15 +208,13 @@ sides_there c net (r ∷ pairs) (m ∷ sides) e f =
 
 pub sides_back : (c : ℕ) (net : Net) (pairs : List ℕ) (sides : List (List ℤ)) → length net.complexes ≡ c → AreSides net pairs sides → AllZip FitsRow (map (λ r. row (codes "side") (Side r c)) pairs) (side_data pairs sides)
 sides_back c net [] [] e f = tt
-sides_back c net [] (m ∷ sides) e f = absurd (let l = f.long in omega (arith, l))
-sides_back c net (r ∷ pairs) [] e f = absurd (let l = f.long in omega (arith, l))
 sides_back c net (r ∷ pairs) (m ∷ sides) e f =
     let long = f.long in
     let each = f.each in
     ((refl, subst (λ (k : ℕ). AreBits k m) e each.0), sides_back c net pairs sides e (record { long = omega (arith, long); each = each.1 }))
+sides_back c net pairs sides e f = absurd (let l = f.long in omega (arith, l))
 
 pub sides_again : (pairs : List ℕ) (sides : List (List ℤ)) → length sides ≡ length pairs → map list_in (side_data pairs sides) ≡ sides
 sides_again [] [] e = refl
-sides_again [] (m ∷ sides) e = absurd (omega (arith, e))
-sides_again (r ∷ pairs) [] e = absurd (omega (arith, e))
 sides_again (r ∷ pairs) (m ∷ sides) e = ap (λ (t : List (List ℤ)). m ∷ t) (sides_again pairs sides (omega (arith, e)))
+sides_again pairs sides e = absurd (omega (arith, e))

@@ -1,5 +1,5 @@
 -- The block of the answer of a block that fits is that block.
-use Rattle.crn_cert.proofs.Prelude.{◌≡◌, ◌≤◌, ◌-◌, ◌++◌, ◌∙◌, ◌==◌, ℕ, zero, suc, Bool, true, false, List, [], ◌∷◌, length, map, take, drop, refl, sym, ap, ap₂, subst, arith, replicate, codes, AllZip, flat_map, range_with_len, length-replicate, take_at, drop_at, zip_long, Net, Earlier, Question, Q1, Q2, Q3, Q4, Q5, Q6, Q7, Q8, Q9, Q10, Q11, Q12, Q13, Q14, Q15, on, Plan, class_places, pair_places, is_yes, HeadKind, No, Datum, Num, Nums, Ints, Marks, Led, FreeSeveral, Side, TreeRow, row, rows, rank_rows, rank_in, class_rows, fields, trees, one_or_two, signal_tree, sizes_of, FitsRow, FitsTree, FitsHead, block_of, verdict_of, proof_of, list_in, one_if, rank_data, rank_proof, class_length, class_proofs, side_data, BlocksAreOfAnswers}
+use Rattle.crn_cert.proofs.Prelude.{◌≡◌, ◌≤◌, ◌-◌, ◌++◌, ◌∙◌, ◌==◌, ℕ, suc, Bool, true, false, List, [], ◌∷◌, length, map, take, drop, refl, sym, ap, ap₂, subst, arith, replicate, codes, AllZip, flat_map, range_with_len, length-replicate, take_at, drop_at, zip_long, Net, Earlier, Question, Q1, Q2, Q3, Q4, Q5, Q6, Q7, Q8, Q9, Q10, Q11, Q12, Q13, Q14, Q15, on, Plan, class_places, pair_places, is_yes, HeadKind, No, Datum, Num, Nums, Ints, Marks, Led, FreeSeveral, Side, TreeRow, row, rows, rank_rows, rank_in, class_rows, fields, trees, one_or_two, signal_tree, sizes_of, FitsRow, FitsTree, FitsHead, block_of, verdict_of, proof_of, list_in, one_if, rank_data, rank_proof, class_length, class_proofs, side_data, BlocksAreOfAnswers}
 use Rattle.crn_cert.specs.declared.head_kind.HeadKind.TheVariants.{Classes, Strong, Rank, Deficiency, Yes, YesWeak, YesVec, OnlyZero}
 use Rattle.crn_cert.proofs.BlockRows.{free_lists, cut_rows, rank_long}
 use Rattle.crn_cert.proofs.DatumShapes.{AllOf, given, fields_in, fields_of, head_back, rows_back}
@@ -78,15 +78,13 @@ classes_made net earlier k (d ∷ ds) us f =
 
 sides_made : (c : ℕ) (pairs : List ℕ) (us : List Datum) → AllZip FitsRow (map (λ r. row (codes "side") (Side r c)) pairs) us → side_data pairs (map list_in us) ≡ us
 sides_made c [] [] f = refl
-sides_made c [] (u ∷ us) f = absurd f
-sides_made c (r ∷ pairs) [] f = absurd f
 sides_made c (r ∷ pairs) (Marks n zs ∷ us) f = ap₂ (λ (k : ℕ) (t : List Datum). Marks k zs ∷ t) (sym f.0.0) (sides_made c pairs us f.1)
 sides_made c (r ∷ pairs) (u ∷ us) f = absurd f.0
+sides_made c pairs us f = absurd f
 
 weak_number : (n : ℕ) → n ≤ 1 → one_if (n == 1) ≡ n
-weak_number zero e = refl
-weak_number (suc zero) e = refl
 weak_number (suc (suc n)) e = absurd (omega (arith, e))
+weak_number n e = refl
 
 -- ---- question by question
 
@@ -130,12 +128,11 @@ by_kind net earlier Q13 No h r t f = alone net earlier Q13 No h r t f.0 f.1 (λ 
   where
     by : (b : Bool) (t : List Plan) → AllZip FitsTree (one_or_two b (signal_tree (sizes_of net earlier))) t → IsAgain net earlier Q13 No [] [] t
     by false [] f = absurd f
-    by false (x ∷ []) f = refl
     by false (x ∷ y ∷ ts) f = absurd f.1
     by true [] f = absurd f
     by true (x ∷ []) f = absurd f.1
-    by true (x ∷ y ∷ []) f = refl
     by true (x ∷ y ∷ z ∷ ts) f = absurd f.1.1
+    by b t f = refl
 by_kind net earlier Q14 Yes h r [] f = absurd f.2
 by_kind net earlier Q14 Yes h r (t ∷ []) f = alone net earlier Q14 Yes h r (t ∷ []) f.0 f.1 (λ a. refl)
 by_kind net earlier Q14 Yes h r (t ∷ u ∷ ts) f = absurd f.2.1

@@ -44,16 +44,16 @@ pub use Rattle.crn_cert.proofs.Known.{weak_yes, weak_no}
 -- Reactions and complexes by their numbers.
 pub use Rattle.crn_cert.proofs.ClassesRight.{named_in, label_inside, goes_at, least_one}
 pub use Rattle.crn_cert.proofs.ShapesExist.{between_back, some_top, widths, tops_below}
-pub use Rattle.crn_cert.proofs.RankLaws.{class_ascending, vector_entry, numbers_alike}
+pub use Rattle.crn_cert.proofs.RankLaws.{class_ascending, vector_entry}
 pub use Rattle.crn_cert.proofs.AllLaws.{same_question}
 -- No signal of one confluence vector, and none of its negative, is no signal at all.
 pub use Rattle.crn_cert.proofs.NoSignals.{none_at_all}
 -- Nodes in preorder are those of one tree.
 pub use Rattle.crn_cert.proofs.Preorders.{same_tree}
 -- A verdict says the same without the spares of its lists.
-pub use Rattle.crn_cert.proofs.Tight.{labels_tight, count_tight, exits_tight, rank_tight, deficiencies_tight, vector_tight, open_tight, yes_tight, no_tight, tight_twice, all_tight_then, is_true_tight, true_tight}
+pub use Rattle.crn_cert.proofs.Tight.{labels_tight, count_tight, exits_tight, rank_tight, vector_tight, open_tight, yes_tight, no_tight, tight_twice, all_tight_then, is_true_tight, true_tight}
 -- What the block of a formed answer tells of its proof, and what makes an answer formed.
-pub use Rattle.crn_cert.proofs.FormedFacts.{bare_formed, same_base, rank_formed, rank_is_formed, classes_formed, classes_are_formed, sides_formed, sides_are_formed, vector_is_formed, zero_is_formed, vector_is_given, vector_is_held, signal_trees_formed, signal_trees_fit}
+pub use Rattle.crn_cert.proofs.FormedFacts.{bare_formed, same_base, rank_formed, rank_is_formed, classes_formed, classes_are_formed, sides_formed, sides_are_formed, vector_is_formed, zero_is_formed, vector_is_given, signal_trees_formed, signal_trees_fit}
 -- The records below a head, by what they prove.
 pub use Rattle.crn_cert.proofs.BlockRows.{free_there, free_back, list_back, ranks_there, ranks_back, rank_again, duals_counted, classes_there, classes_back, classes_again, sides_there, sides_back, sides_again, free_lists, rank_long, below_long, duals_long}
 -- The data of a head and of the records below it, and the block of the answer of a block.

@@ -67,12 +67,11 @@ one_back f d h = absurd h
 
 pub fields_back : (fs : List Field) (ds : List Datum) → AllZip Fits fs ds → (a : AllOf fs) × (ds ≡ given fs a)
 fields_back [] [] f = (tt, refl)
-fields_back [] (d ∷ ds) f = absurd f
-fields_back (field ∷ fs) [] f = absurd f
 fields_back (field ∷ fs) (d ∷ ds) f =
     let one = one_back field d f.0 in
     let more = fields_back fs ds f.1 in
     ((one.0, more.0), ap₂ (λ (x : Datum) (xs : List Datum). x ∷ xs) one.1 more.1)
+fields_back fs ds f = absurd f
 
 -- of a head and of records below it
 
@@ -89,9 +88,8 @@ fields_of rs = map (λ (r : Row). r.field) rs
 
 as_fields : (rs : List Row) (ds : List Datum) → AllZip FitsRow rs ds → AllZip Fits (fields_of rs) ds
 as_fields [] [] f = tt
-as_fields [] (d ∷ ds) f = absurd f
-as_fields (r ∷ rs) [] f = absurd f
 as_fields (r ∷ rs) (d ∷ ds) f = (f.0, as_fields rs ds f.1)
+as_fields rs ds f = absurd f
 
 pub rows_back : (rs : List Row) (ds : List Datum) → AllZip FitsRow rs ds → (a : AllOf (fields_of rs)) × (ds ≡ given (fields_of rs) a)
 rows_back rs ds f = fields_back (fields_of rs) ds (as_fields rs ds f)

@@ -79,10 +79,6 @@ pub vector_is_given : (v : Verdict) → IsSome (vector_given v) → has_vector v
 vector_is_given (YesVec vector) s = refl
 vector_is_given v s = absurd cc
 
-pub vector_is_held : (v : Verdict) → has_vector v ≡ true → IsSome (vector_given v)
-vector_is_held (YesVec vector) e = refl
-vector_is_held v e = absurd cc
-
 -- ---- trees
 
 tree_there : (net : Net) (earlier : Earlier) (w : Verdict) (row : TreeRow) (tree : Plan) → AllZip FitsTree (one_or_two (is_yes w) row) (tree ∷ []) → (IsYes w → ⊥) × FitsTree row tree

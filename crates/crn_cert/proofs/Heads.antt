@@ -1,15 +1,9 @@
 -- The form and the tests of a head look at no list whose records come later.
-use Rattle.crn_cert.proofs.Prelude.{◌≡◌, List, refl, sym, ap, subst, Net, Verdict, Unknown, Earlier, Question, Q3, Q4, Q6, Q9, Q10, Q11, Q12, Q13, head_tests, HeadKind, Datum, sizes_of, FitsHead, head_of, HeadMayBe, Test, AllHold, FailsFirst, bare, HeadsDependOnNoLists}
+use Rattle.crn_cert.proofs.Prelude.{◌≡◌, List, refl, sym, ap, subst, Net, Verdict, Unknown, Earlier, Question, Q3, head_tests, HeadKind, Datum, sizes_of, FitsHead, head_of, HeadMayBe, Test, AllHold, FailsFirst, bare, HeadsDependOnNoLists}
 
 pub tests_by_heads : (net : Net) (earlier : Earlier) (q : Question) (v : Verdict) → head_tests net earlier q v ≡ head_tests net earlier q (bare v)
 tests_by_heads net earlier Q3 (Unknown gap) = refl
-tests_by_heads net earlier Q4 (Unknown gap) = refl
-tests_by_heads net earlier Q6 (Unknown gap) = refl
-tests_by_heads net earlier Q9 (Unknown gap) = refl
-tests_by_heads net earlier Q10 (Unknown gap) = refl
-tests_by_heads net earlier Q11 (Unknown gap) = refl
-tests_by_heads net earlier Q12 (Unknown gap) = refl
-tests_by_heads net earlier Q13 (Unknown gap) = refl
+tests_by_heads net earlier q (Unknown gap) = refl
 tests_by_heads net earlier q v = refl
 
 heads_alike : (v : Verdict) → head_of v ≡ head_of (bare v)

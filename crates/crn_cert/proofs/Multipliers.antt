@@ -12,11 +12,10 @@ falls_more a x p q = let h = pos_pos a (neg_ℤ x) (omega (arith, ints, p)) (ome
 
 sum_falls : (vs : List (List ℤ)) (a u : List ℤ) → IsPositive a → AllByRecursion (λ v. dot u v ≤ℤ pos 0) vs → dot a (dots vs u) ≤ℤ pos 0
 sum_falls [] [] u p h = omega (arith, ints)
-sum_falls [] (b ∷ a) u p h = omega (arith, ints)
-sum_falls (v ∷ vs) [] u p h = omega (arith, ints)
 sum_falls (v ∷ vs) (b ∷ a) u p h =
     let one = falls b (dot u v) p.0 h.0 in
     omega (arith, ints, one, ap (λ (z : ℤ). b *ℤ z) (dot-comm v u), sum_falls vs a u p.1 h.1)
+sum_falls vs a u p h = omega (arith, ints)
 
 sum_falls_more : (vs : List (List ℤ)) (a u v : List ℤ) → length a ≡ length vs → IsPositive a → AllByRecursion (λ w. dot u w ≤ℤ pos 0) vs → IsIn v vs → dot u v ≤ℤ negsuc 0 → dot a (dots vs u) ≤ℤ negsuc 0
 sum_falls_more [] a u v l p h i more = absurd i

@@ -27,7 +27,7 @@ pub use Rattle.crn_cert.specs.TreeLaw.{TestsDecideValidTrees}
 pub use Rattle.crn_cert.specs.TreeSizes.{HasFewNodes, HaveFewNodes}
 pub use Rattle.crn_cert.specs.TreeTests.{tree_tests}
 pub use Rattle.crn_cert.specs.Trees.{AreNarrow, Both, IsFormedTree, IsValid, Level, Plan, RulesA, RulesB, Three, node_count, places}
-pub use Rattle.crn_cert.specs.Valid.{AreClassNumbers, AreValid, HaveOneEach, IsClassNumber, IsFirstLarge, IsFirstSplit, IsLeft, IsSignalNode, OfVector, WithDeficiencies, class_places, class_rank_tests, confluence_head, confluence_rows, conservation_rows, deficiency_head, deficiency_rows, dependence_rows, ends_at, exits, head_tests, is_in_both, is_least_of_pair, is_same_pair, is_terminal_in, is_within_terminal, linkage, linkage_count, linkage_rows, one_head, pair_places, regular_head, regular_rows, reversible_head, reversible_rows, side_tests, signal_head, signal_rows, strong, strong_rows, table_rows, terminals_in, terminals_of, weak_head, zero_head}
+pub use Rattle.crn_cert.specs.Valid.{AreClassNumbers, AreValid, HaveOneEach, IsFirstLarge, IsFirstSplit, IsLeft, IsSignalNode, OfVector, WithDeficiencies, class_places, class_rank_tests, confluence_head, confluence_rows, conservation_rows, deficiency_head, deficiency_rows, dependence_rows, ends_at, exits, head_tests, is_in_both, is_least_of_pair, is_same_pair, is_terminal_in, is_within_terminal, linkage, linkage_count, linkage_rows, one_head, pair_places, regular_head, regular_rows, reversible_head, reversible_rows, side_tests, signal_head, signal_rows, strong, strong_rows, table_rows, terminals_in, terminals_of, weak_head, zero_head}
 pub use Rattle.crn_cert.specs.Verdicts.{all_tight, tight, tight_proof, tight_rank}
 pub use Rattle.crn_cert.specs.declared.answer.Answer.{Answer}
 pub use Rattle.crn_cert.specs.declared.answer.Gap.{Gap}

@@ -1,5 +1,5 @@
 -- The tables of shares: the first distinct lists, one cut after another, and the numbers of lists.
-use Rattle.crn_cert.proofs.Prelude.{Bor, ◌≡◌, ◌⊎◌, ◌≤◌, ◌<◌, inl, inr, ℕ, zero, suc, ◌+◌, ◌-◌, Bool, true, false, ◌||◌, if◌then◌else◌, List, [], ◌∷◌, ◌++◌, length, map, take, get_or, slice_get, refl, sym, ap, ap₂, subst, ◌∙◌, take_all, append_assoc, add-one, arith, ℤ, list_any, position, AllByRecursion, IsDistinct, position-Some, int_eq, pointwise, signed_items, cases_Bool, cases_lt, true≢false, append-nil, map-append, length-append, length-take, take-append-le, take_more, insert_key, IsIn, firsts, firsts_known, firsts_new, firsts_from, firsts_has, any_true, Answer, TreeNode, Plan, Both, Three, RulesA, RulesB, Level, Listed, ListedSplitTwo, ListedSplitThree, ListedCutA, ListedCutB, ListedFlat, preorder, cuts_of, cuts_in, all_cuts, number_in, cuts_listed}
+use Rattle.crn_cert.proofs.Prelude.{Bor, ◌≡◌, ◌⊎◌, ◌≤◌, ◌<◌, inl, inr, ℕ, zero, suc, ◌+◌, ◌-◌, Bool, true, false, ◌||◌, if◌then◌else◌, List, [], ◌∷◌, ◌++◌, length, map, take, get_or, slice_get, refl, sym, ap, ap₂, subst, ◌∙◌, take_all, append_assoc, add-one, arith, ℤ, list_any, position, AllByRecursion, IsDistinct, position-Some, int_eq, pointwise, signed_items, cases_Bool, cases_lt, true≢false, append-nil, map-append, length-append, length-take, take-append-le, take_more, insert_key, IsIn, firsts, firsts_known, firsts_new, firsts_from, firsts_has, any_true, Answer, TreeNode, Plan, Both, Three, Listed, ListedSplitTwo, ListedSplitThree, ListedCutA, ListedCutB, ListedFlat, preorder, cuts_of, cuts_in, all_cuts, number_in, cuts_listed}
 use Rattle.std.proofs.Common.{Some}
 use Rattle.crn_cert.specs.Preorder.{listed}
 
@@ -45,9 +45,7 @@ cuts_all (Both z q) = cuts_apart (preorder z) (preorder q) ∙ ap₂ both_lists 
 cuts_all (Three z q m) =
     cuts_apart (preorder z ++ preorder q) (preorder m)
     ∙ ap₂ both_lists (cuts_apart (preorder z) (preorder q) ∙ ap₂ both_lists (cuts_all z) (cuts_all q)) (cuts_all m)
-cuts_all (RulesA u) = refl
-cuts_all (RulesB u) = refl
-cuts_all Level = refl
+cuts_all tree = refl
 
 -- ---- tables
 

@@ -1,5 +1,5 @@
 -- A valid answer on signals is true.
-use Rattle.crn_cert.proofs.Prelude.{◌≡◌, ℕ, ◌+◌, inl, inr, List, [], ◌∷◌, ◌++◌, refl, sym, subst, ◌∙◌, ℤ, pos, negsuc, IsSome, IsSomeAnd, Sign, Net, IsNetwork, IsWeaklyReversible, IsRegular, HasConfluenceLine, IsConfluenceVector, IsNormalVector, negative, reaction_system, Signed, sign, Shape, signals, IsSignalOf, IsShapeOf, HasNoSignal, length-scale, confluence_vectors_are_one, signals_are_steady, shapes_are_one, multiples_share_signals, signals_feasible, Verdict, YesVec, YesSignal, NotRegular, OnlyZero, Plane, NotApplicable, Unknown, Proof, One, Two, Earlier, Q4, Q12, Q13, on, vector_given, IsOpen, IsTrueOf, IsTurn, by_turn, AllHold, Plan, Both, Three, RulesA, RulesB, Level, node_count, IsValid, IsFormedTree, Said, Fits, tree_tests, IsFormedOf, IsSignalNode, OfVector, signal_head, signal_rows, IsTrueOrOpen, ValidIsTrue}
+use Rattle.crn_cert.proofs.Prelude.{◌≡◌, ℕ, ◌+◌, inl, inr, List, [], ◌∷◌, ◌++◌, refl, sym, subst, ◌∙◌, ℤ, pos, negsuc, IsSome, IsSomeAnd, Sign, Net, IsNetwork, IsWeaklyReversible, IsRegular, HasConfluenceLine, IsConfluenceVector, IsNormalVector, negative, reaction_system, Signed, sign, Shape, signals, IsSignalOf, IsShapeOf, HasNoSignal, length-scale, confluence_vectors_are_one, signals_are_steady, shapes_are_one, multiples_share_signals, signals_feasible, Verdict, YesVec, YesSignal, NotRegular, OnlyZero, Plane, NotApplicable, Unknown, Proof, One, Two, Earlier, Q4, Q12, Q13, on, vector_given, IsOpen, IsTrueOf, IsTurn, by_turn, AllHold, Plan, Both, Three, node_count, IsValid, IsFormedTree, Said, Fits, tree_tests, IsFormedOf, IsSignalNode, OfVector, signal_head, signal_rows, IsTrueOrOpen, ValidIsTrue}
 use Rattle.std.specs.Prelude.{map}
 use Rattle.crn_cert.specs.declared.answer.Verdict.TheVariants.{No}
 use Rattle.crn_cert.proofs.FormedFacts.{bare_formed, signal_trees_formed}
@@ -35,9 +35,7 @@ none_known net v h none open' r = absurd h
 root_shape : (net : Net) (g : List ℤ) (part : ℕ) (p : List Sign) (tree : Plan) → AllHold (tree_tests (IsSignalNode net g) part p tree) → (s : Shape) × IsShapeOf net g s
 root_shape net g part p (Both zero plus) t = (t.0.0, t.0.1)
 root_shape net g part p (Three zero plus minus) t = (t.0.0, t.0.1)
-root_shape net g part p (RulesA u) t = (t.0.0, t.0.1)
-root_shape net g part p (RulesB u) t = (t.0.0, t.0.1)
-root_shape net g part p Level t = (t.0.0, t.0.1)
+root_shape net g part p tree t = (t.0.0, t.0.1)
 
 -- all nodes are of this one
 no_signal_by : (net : Net) (g : List ℤ) → IsNetwork net → IsRegular net → (choices rows_a rows_b part : ℕ) (tree : Plan) → IsFormedTree choices rows_a rows_b [] tree → AllHold (tree_tests (IsSignalNode net g) part [] tree) → HasNoSignal net g

@@ -1,5 +1,5 @@
 -- A verdict says the same without the spares of its lists.
-use Rattle.crn_cert.proofs.Prelude.{◌≡◌, ◌++◌, [], ◌∷◌, refl, ap, Net, Gap, Wide, Budget, Rests, Verdict, Unknown, Earlier, Question, Q1, labels_of, count_of, exits_of, rank_of, deficiencies_of, vector_given, IsOpen, IsYes, IsNo, tight, all_tight, IsTrueOf, IsTrueOrOpen}
+use Rattle.crn_cert.proofs.Prelude.{◌≡◌, ◌++◌, [], ◌∷◌, refl, ap, Net, Gap, Wide, Verdict, Unknown, Earlier, Question, Q1, labels_of, count_of, exits_of, rank_of, IsOpen, IsYes, IsNo, tight, all_tight, IsTrueOf, IsTrueOrOpen, vector_given}
 
 pub labels_tight : (v : Verdict) → labels_of (tight v) ≡ labels_of v
 labels_tight (Unknown gap) = refl
@@ -16,10 +16,6 @@ exits_tight v = refl
 pub rank_tight : (v : Verdict) → rank_of (tight v) ≡ rank_of v
 rank_tight (Unknown gap) = refl
 rank_tight v = refl
-
-pub deficiencies_tight : (v : Verdict) → deficiencies_of (tight v) ≡ deficiencies_of v
-deficiencies_tight (Unknown gap) = refl
-deficiencies_tight v = refl
 
 pub vector_tight : (v : Verdict) → vector_given (tight v) ≡ vector_given v
 vector_tight (Unknown gap) = refl
@@ -40,8 +36,6 @@ no_tight v = refl
 -- once is enough
 pub tight_twice : (v : Verdict) → tight (tight v) ≡ tight v
 tight_twice (Unknown (Wide system class index basis)) = refl
-tight_twice (Unknown (Budget nodes)) = refl
-tight_twice (Unknown (Rests question)) = refl
 tight_twice v = refl
 
 pub all_tight_then : (earlier : Earlier) (q : Question) (v : Verdict) → all_tight (earlier ++ (q, v) ∷ []) ≡ all_tight earlier ++ (q, tight v) ∷ []

@@ -23,7 +23,6 @@ leaves_nothing w laws (RulesB u) p rest v f s =
     let x = s.part_b.0 in
     cuts_exclude_solutions w.matrix_b (w.kinds_b p) u x v (laws.shorter_b p rest x (at_once w p rest f) s.part_b.1)
 leaves_nothing w laws Level p rest v f s = false≢true (sym s.opened ∙ laws.longer_closed p rest (at_once w p rest f) v)
-leaves_nothing w laws (Both z q) p [] v f s = absurd (omega (arith, v.0, f, length-append p []))
 leaves_nothing w laws (Both z q) p (Zero ∷ rest) v f s = leaves_nothing w laws z (p ++ Zero ∷ []) rest v.2 (full_below w p Zero rest f) (feasible_below w p Zero rest s)
 leaves_nothing w laws (Both z q) p (Plus ∷ rest) v f s = leaves_nothing w laws q (p ++ Plus ∷ []) rest v.3 (full_below w p Plus rest f) (feasible_below w p Plus rest s)
 leaves_nothing w laws (Both z q) p (Minus ∷ rest) v f s =
@@ -31,7 +30,7 @@ leaves_nothing w laws (Both z q) p (Minus ∷ rest) v f s =
     let m : IsFeasible w (p ++ (Plus ∷ mirror rest)) = subst (λ (t : List Sign). IsFeasible w t) mirrored (mirror_feasible w laws (p ++ (Minus ∷ rest)) (at_once w p (Minus ∷ rest) f) s) in
     let g : IsFull w (p ++ (Plus ∷ mirror rest)) = ap length (sym mirrored) ∙ length-mirror (p ++ (Minus ∷ rest)) ∙ f in
     leaves_nothing w laws q (p ++ Plus ∷ []) (mirror rest) v.3 (full_below w p Plus (mirror rest) g) (feasible_below w p Plus (mirror rest) m)
-leaves_nothing w laws (Three z q m) p [] v f s = absurd (omega (arith, v.0, f, length-append p []))
 leaves_nothing w laws (Three z q m) p (Zero ∷ rest) v f s = leaves_nothing w laws z (p ++ Zero ∷ []) rest v.2 (full_below w p Zero rest f) (feasible_below w p Zero rest s)
 leaves_nothing w laws (Three z q m) p (Plus ∷ rest) v f s = leaves_nothing w laws q (p ++ Plus ∷ []) rest v.3 (full_below w p Plus rest f) (feasible_below w p Plus rest s)
 leaves_nothing w laws (Three z q m) p (Minus ∷ rest) v f s = leaves_nothing w laws m (p ++ Minus ∷ []) rest v.4 (full_below w p Minus rest f) (feasible_below w p Minus rest s)
+leaves_nothing w laws tree p [] v f s = absurd (omega (arith, v.0, f, length-append p []))

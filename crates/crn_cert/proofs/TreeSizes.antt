@@ -13,9 +13,7 @@ count_places p (Three z q m) =
     let b = places (p ++ Plus ∷ []) q in
     let c = places (p ++ Minus ∷ []) m in
     omega (arith, length-append (a ++ b) c, length-append a b, count_places (p ++ Zero ∷ []) z, count_places (p ++ Plus ∷ []) q, count_places (p ++ Minus ∷ []) m)
-count_places p (RulesA u) = refl
-count_places p (RulesB u) = refl
-count_places p Level = refl
+count_places p t = refl
 
 -- a valid tree of narrow numbers is formed
 pub formed_tree : (w : Signed) (p : List Sign) (t : Plan) → IsValid w p t → AreNarrow t → IsFormedTree w.choices (length w.matrix_a.rows) (length w.matrix_b.rows) p t

@@ -127,11 +127,10 @@ record FirstPlace (k : ℕ) (g : List ℤ) : Type 0 where
   some : entry g i ≢ pos 0
 
 first_place : (k : ℕ) (g : List ℤ) (j : ℕ) → entry g j ≢ pos 0 → FirstPlace k g
-first_place k [] j ne = absurd (ne refl)
-first_place k (pos zero ∷ g) zero ne = absurd (ne refl)
 first_place k (pos zero ∷ g) (suc j) ne = let r = first_place (suc k) g j ne in record { i = suc r.i; is = omega (arith, r.is); inside = omega (arith, r.inside); some = r.some }
 first_place k (pos (suc n) ∷ g) j ne = record { i = 0; is = omega arith; inside = omega arith; some = λ e. omega (arith, ints, e) }
 first_place k (negsuc n ∷ g) j ne = record { i = 0; is = omega arith; inside = omega arith; some = λ e. omega (arith, ints, e) }
+first_place k g j ne = absurd (ne refl)
 
 -- the tested ties of these complexes
 tied_at : (net : Net) (links : List ℕ) (count : ℕ) (spared : ℕ → Type 0) (part : ℕ) (cs : List ℕ) (ties : List (List ℤ)) → AllHold (tie_tests net links count spared part cs ties) → (c : ℕ) → IsIn c cs → (tie : List ℤ) × IsTie net links count spared c tie
