@@ -168,22 +168,30 @@ pub fn solve(alloc: Global, net: &Network, budget: u32) -> Result<Answers, NoMem
     Ok(answers)
 }
 
+// The answer to question 5. What it is found by is let go before the other questions are answered.
+fn rank_alone(alloc: Global, net: &Network) -> Result<Answer, NoMemory>
+    ensures { IfOk result (λ made. (budget : ℕ) (earlier : Earlier) →
+        IsAnswer net.now budget earlier Q5 made) }
+{
+    let matrix = species_matrix(alloc, net)?;
+    let mut tableau = Tableau::new(alloc, &matrix)?;
+    rank_answer(alloc, net, &mut tableau)
+}
+
 /// Five answers: those to questions 1, 2 and 5, on linkage classes, strong classes and the rank, each in the place of its
 /// question, and open ones in the places of questions 3 and 4. There is no sixth.
 pub fn solve_rank(alloc: Global, net: &Network) -> Result<Answers, NoMemory>
     ensures { IfOk result (λ answers. (budget : ℕ) → AreRankAnswers net.now budget answers) }
 {
     net.meets_definition();
-    let linkage = linkage(alloc, net)?;
-    let strong = strong(alloc, net)?;
-    let matrix = species_matrix(alloc, net)?;
-    let mut tableau = Tableau::new(alloc, &matrix)?;
-    let rank = rank_answer(alloc, net, &mut tableau)?;
     let mut answers = Answers::new(alloc)?;
+    let linkage = linkage(alloc, net)?;
     answers.push(linkage_answer(linkage));
+    let strong = strong(alloc, net)?;
     answers.push(strong_answer(strong));
     answers.push(rests_on(5));
     answers.push(rests_on(5));
+    let rank = rank_alone(alloc, net)?;
     answers.push(rank);
     Ok(answers)
 }

@@ -36,4 +36,4 @@ returns c = λ budget.
     let answers : List Answer = a1 ∷ a2 ∷ a3 ∷ a4 ∷ a5 ∷ [] in
     let pushed : c.push-5.new.self ≡ answers =
     rw (c.push-5.ensures, c.push-4.ensures, c.push-3.ensures, c.push-2.ensures, c.push.ensures, c.in_ok-answers.ensures) refl in
-    rw pushed (answer_of net budget [] Q1 a1 (c.linkage_answer.ensures.answer net [] n linkage), answer_of net budget after1 Q2 a2 (c.strong_answer.ensures.answer net after1 n strong), c.in_ok-rank.ensures.answer budget after2, open3, open4, refl)
+    rw pushed (answer_of net budget [] Q1 a1 (c.linkage_answer.ensures.answer net [] n linkage), answer_of net budget after1 Q2 a2 (c.strong_answer.ensures.answer net after1 n strong), c.in_ok-rank.ensures budget after2, open3, open4, refl)
