@@ -39,6 +39,7 @@ use crn_reg::regular;
 use crn_tab::Tableau;
 use crn_vec::{Matrix, NoMemory};
 use std::alloc::Global;
+use std::mem::drop;
 
 // The answers to questions 5 and 8.
 #[derive(Drop)]
@@ -57,7 +58,7 @@ struct First {
 }
 
 // The answers to questions 5 and 8, which share the matrix of system 1. It is let go before that of
-// system 2 is made.
+// system 2 is made. A large value is dropped by a call: a way out drops it field by field, each of which is to be proved.
 fn on_species(alloc: Global, net: &Network) -> Result<OnSpecies, NoMemory>
     ensures rank { IfOk result (λ made. (budget : ℕ) (earlier : Earlier) →
         IsAnswer net.now budget earlier Q5 made.rank) }
@@ -66,13 +67,20 @@ fn on_species(alloc: Global, net: &Network) -> Result<OnSpecies, NoMemory>
 {
     let matrix = species_matrix(alloc, net)?;
     let mut tableau = Tableau::new(alloc, &matrix)?;
-    let rank = rank_answer(alloc, net, &mut tableau)?;
+    let Ok(rank) = rank_answer(alloc, net, &mut tableau) else {
+        drop(tableau);
+        return Err(NoMemory);
+    };
     let viewed = if is_open(&rank.verdict) {
+        drop(tableau);
         None
     } else {
         Some(tableau)
     };
-    let conservation = conservative(alloc, net, &matrix, viewed)?;
+    let Ok(conservation) = conservative(alloc, net, &matrix, viewed) else {
+        drop(rank);
+        return Err(NoMemory);
+    };
     Ok(OnSpecies { rank, conservation })
 }
 
@@ -97,8 +105,6 @@ fn first_answers(alloc: Global, net: &Network, budget: u32) -> Result<First, NoM
     let decided = positively_dependent(alloc, net, &matrix, &rank.verdict)?;
     let dependence = decided.answer;
     let solver = decided.solver;
-    let zero = zero_answer(net, &linkage, &weakly_reversible.verdict, &rank.verdict);
-    let one = one_hypotheses(net, &linkage, &strong, &deficiency.verdict);
     let regular = regular(alloc, net, &linkage, &strong, &dependence.verdict)?;
     let confluence = confluence_answer(
         alloc,
@@ -118,6 +124,8 @@ fn first_answers(alloc: Global, net: &Network, budget: u32) -> Result<First, NoM
         budget,
     )?;
     let mut answers = Answers::new(alloc)?;
+    let zero = zero_answer(net, &linkage, &weakly_reversible.verdict, &rank.verdict);
+    let one = one_hypotheses(net, &linkage, &strong, &deficiency.verdict);
     answers.push(linkage_answer(linkage));
     answers.push(strong_answer(strong));
     answers.push(reversible);
@@ -175,7 +183,9 @@ fn rank_alone(alloc: Global, net: &Network) -> Result<Answer, NoMemory>
 {
     let matrix = species_matrix(alloc, net)?;
     let mut tableau = Tableau::new(alloc, &matrix)?;
-    rank_answer(alloc, net, &mut tableau)
+    let rank = rank_answer(alloc, net, &mut tableau);
+    drop(tableau);
+    rank
 }
 
 /// Five answers: those to questions 1, 2 and 5, on linkage classes, strong classes and the rank, each in the place of its
@@ -224,12 +234,17 @@ pub fn solve_verdicts(alloc: Global, net: &Network, budget: u32) -> Result<Verdi
     ensures first { IfOk result (λ verdicts. PreferTheVector net.now verdicts) }
 {
     let first = first_answers(alloc, net, budget)?;
-    let mut verdicts = first.answers.into_verdicts()?;
+    let Ok(mut verdicts) = first.answers.into_verdicts() else {
+        drop(first.solver);
+        return Err(NoMemory);
+    };
     let matrix = first.matrix;
     let on_tables = decide_concordance(alloc, net, &matrix, first.solver, budget, false)?;
     let plain = on_tables.plain;
     let strong = on_tables.strong;
     push_verdict(&mut verdicts, plain.verdict);
     push_verdict(&mut verdicts, strong.verdict);
+    drop(plain.proof);
+    drop(strong.proof);
     Ok(verdicts)
 }

@@ -17,6 +17,7 @@ use crn_net::Network;
 use crn_tab::Tableau;
 use crn_vec::{Matrix, NoMemory};
 use std::alloc::Global;
+use std::mem::drop;
 
 // The answer to question 7, and the solver by which it was decided.
 #[derive(Drop)]
@@ -42,7 +43,10 @@ fn decide_positive(
         (λ d. IsDecision matrix.now (positive_kinds matrix.now) d)
         (λ s. IsStop matrix.now (positive_kinds matrix.now) s) }
 {
-    let kinds = positive_kinds(alloc, matrix)?;
+    let Ok(kinds) = positive_kinds(alloc, matrix) else {
+        drop(viewed);
+        return Err(Stop::NoMemory);
+    };
     match viewed {
         Some(tableau) => solver.decide_by(Some(tableau), &kinds),
         None => solver.settle(&kinds),
@@ -80,12 +84,19 @@ pub(crate) fn positively_dependent(
     let viewed = if is_open(rank) {
         None
     } else {
-        Some(Tableau::new(alloc, matrix)?)
+        let Ok(tableau) = Tableau::new(alloc, matrix) else {
+            drop(solver);
+            return Err(NoMemory);
+        };
+        Some(tableau)
     };
     let answer = match decide_positive(alloc, matrix, &mut solver, viewed) {
         Ok(decision) => vector_answer(decision),
         Err(Stop::Wide { index, basis }) => wide_answer(2, index, basis),
-        Err(Stop::NoMemory) => return Err(NoMemory),
+        Err(Stop::NoMemory) => {
+            drop(solver);
+            return Err(NoMemory);
+        }
     };
     Ok(Dependence { answer, solver })
 }
@@ -104,8 +115,13 @@ pub(crate) fn conservative(
         IsAnswer net.now budget earlier Q8 answer) }
 {
     net.meets_definition();
-    let mut solver = Solver::new(alloc, matrix)?;
-    match decide_positive(alloc, matrix, &mut solver, viewed) {
+    let Ok(mut solver) = Solver::new(alloc, matrix) else {
+        drop(viewed);
+        return Err(NoMemory);
+    };
+    let decided = decide_positive(alloc, matrix, &mut solver, viewed);
+    drop(solver);
+    match decided {
         Ok(decision) => Ok(vector_answer(decision)),
         Err(Stop::Wide { index, basis }) => Ok(wide_answer(1, index, basis)),
         Err(Stop::NoMemory) => Err(NoMemory),
@@ -119,5 +135,7 @@ pub fn law_or_cut(alloc: Global, net: &Network) -> Result<Decision, Stop>
     net.meets_definition();
     let matrix = species_matrix(alloc, net)?;
     let mut solver = Solver::new(alloc, &matrix)?;
-    decide_positive(alloc, &matrix, &mut solver, None)
+    let decided = decide_positive(alloc, &matrix, &mut solver, None);
+    drop(solver);
+    decided
 }

@@ -1,6 +1,6 @@
 -- For the contracts of private functions alone. The answers that decisions and rank proofs give.
 -- Source: this project's own.
-use Rattle.std.specs.Prelude.{◌≡◌, ℕ, length}
+use Rattle.std.specs.Prelude.{◌≡◌, length}
 use Rattle.crn_vec.specs.Kept.{KeptNums}
 use Rattle.crn_cert.specs.declared.answer.Verdict.TheVariants.{Rank, YesVec, NoVec}
 use Rattle.crn_cert.specs.declared.answer.Proof.TheVariants.{Rank as RankRows}

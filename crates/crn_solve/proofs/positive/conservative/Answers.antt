@@ -2,11 +2,11 @@ use Rattle.crn_solve.proofs.Prelude.{subst, sym, Mat, positive_kinds, Q8, Wide, 
 use Rattle.crn_solve.proofs.PositiveAnswers.{law_decided, law_wide}
 use Rattle.crn_solve.proofs.positive.conservative.Goals as goal
 
-pub returns-in-Ok : goal.returns-in-Ok
-returns-in-Ok c budget earlier =
+pub returns-in-Ok-decided : goal.returns-in-Ok-decided
+returns-in-Ok-decided c budget earlier =
     let net = c.args.net.now in
-    let d = subst (λ (a : Mat). IsDecision a (positive_kinds a) c.in-Ok.decision) c.requires.matrix c.in-Ok.ensures.answer in
-    subst (IsAnswer net budget earlier Q8) (sym c.vector_answer.ensures) (law_decided net budget earlier c.in-Ok.decision c.meets_definition.ensures d)
+    let d = subst (λ (a : Mat). IsDecision a (positive_kinds a) c.in-Ok-decided.decision) c.requires.matrix c.in-Ok-decided.ensures.answer in
+    subst (IsAnswer net budget earlier Q8) (sym c.vector_answer.ensures) (law_decided net budget earlier c.in-Ok-decided.decision c.meets_definition.ensures d)
 
 pub returns-in-Err-Wide : goal.returns-in-Err-Wide
 returns-in-Err-Wide c budget earlier =

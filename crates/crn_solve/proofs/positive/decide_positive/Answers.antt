@@ -18,22 +18,22 @@ decided a m kinds basis r same is h columns ruled =
 
 pub decide_by-requires-clause-few : goal.decide_by-requires-clause-few
 decide_by-requires-clause-few c =
-    let same : signed_count c.deref.result.now ≡ c.args.matrix.now.cols = ap signed_count (c.deref.ensures.value ∙ c.in_ok-kinds.ensures) ∙ kinds_signed c.args.matrix.now in
+    let same : signed_count c.deref.result.now ≡ c.args.matrix.now.cols = ap signed_count (c.deref.ensures.value ∙ c.in-Ok.ensures) ∙ kinds_signed c.args.matrix.now in
     omega (arith, same, c.requires.few)
 
 pub settle-requires-clause-few : goal.settle-requires-clause-few
 settle-requires-clause-few c =
-    let same : signed_count c.deref-in-None.result.now ≡ c.args.matrix.now.cols = ap signed_count (c.deref-in-None.ensures.value ∙ c.in_ok-kinds.ensures) ∙ kinds_signed c.args.matrix.now in
+    let same : signed_count c.deref-in-None.result.now ≡ c.args.matrix.now.cols = ap signed_count (c.deref-in-None.ensures.value ∙ c.in-Ok.ensures) ∙ kinds_signed c.args.matrix.now in
     omega (arith, same, c.requires.few)
 
 pub returns-in-Some-clause-answer : goal.returns-in-Some-clause-answer
 returns-in-Some-clause-answer c =
     let t = c.args.solver.now in
-    decided c.args.matrix.now t.matrix c.deref.result.now t.basis c.decide_by.result c.requires.matrix (c.deref.ensures.value ∙ c.in_ok-kinds.ensures)
+    decided c.args.matrix.now t.matrix c.deref.result.now t.basis c.decide_by.result c.requires.matrix (c.deref.ensures.value ∙ c.in-Ok.ensures)
     c.decide_by.ensures.answer c.requires.columns c.decide_by.ensures.from_columns
 
 pub returns-clause-answer : goal.returns-clause-answer
 returns-clause-answer c =
     let t = c.args.solver.now in
-    decided c.args.matrix.now t.matrix c.deref-in-None.result.now t.basis c.settle.result c.requires.matrix (c.deref-in-None.ensures.value ∙ c.in_ok-kinds.ensures)
+    decided c.args.matrix.now t.matrix c.deref-in-None.result.now t.basis c.settle.result c.requires.matrix (c.deref-in-None.ensures.value ∙ c.in-Ok.ensures)
     c.settle.ensures.answer c.requires.columns c.settle.ensures.from_columns
