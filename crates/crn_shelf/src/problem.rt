@@ -162,9 +162,9 @@ pub(crate) fn search_over(
 {
     let system = shelf_matrix(alloc, shape)?;
     let matrix = reaction_matrix(alloc, net)?;
-    let solver = Solver::new(alloc, &matrix)?;
     let choices = choices_of(alloc, shape, &system)?;
     let coordinates_b = coordinates(alloc, &matrix)?;
+    let solver = Solver::new(alloc, &matrix)?;
     let problem = ShelfProblem {
         shape,
         system,
