@@ -16,6 +16,7 @@ use crn_net::Network;
 use crn_sign::{SearchEnd, SearchStop, coordinates, search};
 use crn_vec::{Matrix, NoMemory, Nums};
 use std::alloc::Global;
+use std::mem::drop;
 
 // The name of a wide vector of system 2.
 #[derive(Drop)]
@@ -121,8 +122,14 @@ pub(crate) fn answer_by<'a>(
     ensures shared { IfOk result (λ made. IsNamed net.now made.shared) }
 {
     let _ = net.species();
-    let columns = columns_by_choice(alloc, matrix, table)?;
-    let coordinates = coordinates(alloc, matrix)?;
+    let Ok(columns) = columns_by_choice(alloc, matrix, table) else {
+        drop(solver);
+        return Err(NoMemory);
+    };
+    let Ok(coordinates) = coordinates(alloc, matrix) else {
+        drop(solver);
+        return Err(NoMemory);
+    };
     let problem = TableProblem {
         matrix,
         table,

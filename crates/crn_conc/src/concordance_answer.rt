@@ -16,6 +16,7 @@ use crn_net::Network;
 use crn_sign::SearchEnd;
 use crn_vec::{Matrix, NoMemory};
 use std::alloc::Global;
+use std::mem::drop;
 
 /// The answers to questions 14 and 15.
 #[derive(Drop)]
@@ -95,15 +96,20 @@ pub fn decide_concordance(
         (λ made. AnswersTable keeps net.now budget Q15 (strong_table net.now) made.strong) }
 {
     if is_soon_spent(net, budget) {
+        drop(solver);
         let plain = end_answer(SearchEnd::Spent, budget);
         let strong = end_answer(SearchEnd::Spent, budget);
         return Ok(ConcordanceAnswers { plain, strong });
     }
-    let table = concordance_table(alloc, net)?;
+    let Ok(table) = concordance_table(alloc, net) else {
+        drop(solver);
+        return Err(NoMemory);
+    };
     let searched = answer_by(alloc, net, matrix, &table, solver, budget, keeps)?;
-    let strong = strong_answer(alloc, net, matrix, budget, keeps, searched.shared)?;
-    Ok(ConcordanceAnswers {
-        plain: searched.answer,
-        strong,
-    })
+    let plain = searched.answer;
+    let Ok(strong) = strong_answer(alloc, net, matrix, budget, keeps, searched.shared) else {
+        drop(plain);
+        return Err(NoMemory);
+    };
+    Ok(ConcordanceAnswers { plain, strong })
 }

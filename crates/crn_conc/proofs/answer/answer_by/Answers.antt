@@ -6,13 +6,13 @@ pub invariant_of-problem : goal.invariant_of-problem
 invariant_of-problem c =
     let m = c.args.matrix.now in
     let t = fits c.args.net.now m c.args.table.now c.species.ensures.network c.requires.matrix c.requires.table in
-    record { columns_are = c.in_ok-columns.ensures; coordinates_are = c.in_ok-coordinates.ensures; reactions = t.reactions; species = rows_wide m c.args.table.now t; few_reactions = t.few_reactions; few_species = t.few_species }
+    record { columns_are = c.in-Ok.ensures; coordinates_are = c.in-Ok-coordinates.ensures; reactions = t.reactions; species = rows_wide m c.args.table.now t; few_reactions = t.few_reactions; few_species = t.few_species }
 
-pub returns-in-Ok-clause-plain : goal.returns-in-Ok-clause-plain
-returns-in-Ok-clause-plain c = end_by plain c.args.matrix.now c.args.table.now c.args.keeps c.args.budget c.in-Ok.end c.end_answer.result c.species.ensures.network c.requires.low c.requires.high c.requires.matrix c.end_answer.ensures c.in-Ok.ensures
+pub returns-in-Ok-search-clause-plain : goal.returns-in-Ok-search-clause-plain
+returns-in-Ok-search-clause-plain c = end_by plain c.args.matrix.now c.args.table.now c.args.keeps c.args.budget c.in-Ok-search.end c.end_answer.result c.species.ensures.network c.requires.low c.requires.high c.requires.matrix c.end_answer.ensures c.in-Ok-search.ensures
 
-pub returns-in-Ok-clause-strong : goal.returns-in-Ok-clause-strong
-returns-in-Ok-clause-strong c = end_by strong c.args.matrix.now c.args.table.now c.args.keeps c.args.budget c.in-Ok.end c.end_answer.result c.species.ensures.network c.requires.low c.requires.high c.requires.matrix c.end_answer.ensures c.in-Ok.ensures
+pub returns-in-Ok-search-clause-strong : goal.returns-in-Ok-search-clause-strong
+returns-in-Ok-search-clause-strong c = end_by strong c.args.matrix.now c.args.table.now c.args.keeps c.args.budget c.in-Ok-search.end c.end_answer.result c.species.ensures.network c.requires.low c.requires.high c.requires.matrix c.end_answer.ensures c.in-Ok-search.ensures
 
 pub returns-clause-plain : goal.returns-clause-plain
 returns-clause-plain c = λ e. if_ok (λ (made : Searched). IsStopAnswer c.in-Err.stop made.answer) (λ (made : Searched). AnswersTable c.args.keeps c.args.net.now c.args.budget Q14 (plain_table c.args.net.now) made.answer) c.stop_answer.result

@@ -8,4 +8,4 @@ pub returns-then-is_soon_spent-clause-strong : goal.returns-then-is_soon_spent-c
 returns-then-is_soon_spent-clause-strong c = spent_by strong c.args.keeps c.args.budget c.end_answer-strong.result c.requires.low c.requires.high c.end_answer-strong.ensures (c.is_soon_spent.ensures.strong c.if-is_soon_spent.true)
 
 pub returns-clause-plain : goal.returns-clause-plain
-returns-clause-plain c = c.in_ok-searched.ensures.plain c.in_ok-table.ensures
+returns-clause-plain c = c.in_ok-searched.ensures.plain c.in-Ok.ensures
