@@ -33,6 +33,7 @@ use crn_net::Network;
 use crn_reading::{CheckStop, Reading};
 use crn_vec::{Ints, Nums};
 use std::alloc::Global;
+use std::mem::drop;
 
 // The verdicts that were accepted so far, as facts for the tests of later blocks; the sides of a yes to question 11; and
 // whether the last block ended in a tree.
@@ -93,10 +94,12 @@ fn keep_sides(checked: &mut Checked, question: u32, proof: Proof)
     ensures same { (question ≡ 11 → ⊥) → checked.new.sides ≡ checked.old.sides }
 {
     if question != 11 {
+        drop(proof);
         return;
     }
-    if let Proof::Sides(sides) = proof {
-        checked.sides = sides;
+    match proof {
+        Proof::Sides(sides) => checked.sides = sides,
+        other => drop(other),
     }
 }
 
@@ -122,15 +125,23 @@ fn accept(
         (IsReady net.now (with_next checked.old.facts.earlier block.now.question) checked.new) }
 {
     let answer = answer_of(at.alloc, block)?;
-    match check_records(at.alloc, net, checked, block.question, &answer)? {
+    let Ok(judged) = check_records(at.alloc, net, checked, block.question, &answer) else {
+        drop(answer);
+        return Err(CheckStop::NoMemory);
+    };
+    drop(answer.verdict);
+    match judged {
         Ok(()) => {
             keep_sides(checked, block.question, answer.proof);
             Ok(())
         }
-        Err(fault) => Err(CheckStop::Rejected {
-            code: fault.code,
-            line: block.line + fault.part,
-        }),
+        Err(fault) => {
+            drop(answer.proof);
+            Err(CheckStop::Rejected {
+                code: fault.code,
+                line: block.line + fault.part,
+            })
+        }
     }
 }
 
@@ -308,7 +319,9 @@ fn after_head<S: Source>(
 {
     let head = Ints::from_slice(at.alloc, at.numbers.as_slice())?;
     let verdict = bare_verdict(at.alloc, question, head.as_slice())?;
-    match check_head(net, &checked.facts, question, &verdict) {
+    let judged = check_head(net, &checked.facts, question, &verdict);
+    drop(verdict);
+    match judged {
         Ok(()) => read_rows(source, at, net, table, checked, question, head.as_slice()),
         Err(fault) => Err(CheckStop::Rejected {
             code: fault.code,

@@ -22,20 +22,20 @@ pub check_records-requires-clause-treeless : goal.check_records-requires-clause-
 check_records-requires-clause-treeless c =
     answer_without_tree (said_answer c.in_ok-answer.answer c.requires.read (let r = c.requires.read in r.some.2) c.in_ok-answer.ensures.verdict c.in_ok-answer.ensures.proof) c.requires.treeless
 
-pub returns-in-Ok-clause-step : goal.returns-in-Ok-clause-step
-returns-in-Ok-clause-step c = λ h rs seen b.
+pub returns-in-Ok-judged-clause-step : goal.returns-in-Ok-judged-clause-step
+returns-in-Ok-judged-clause-step c = λ h rs seen b.
     let net = c.args.net.now in
     let n = c.args.block.now.question in
     let earlier = c.args.checked.now.facts.earlier in
     let a = c.in_ok-answer.answer in
     let is = said_answer a c.requires.read b c.in_ok-answer.ensures.verdict c.in_ok-answer.ensures.proof in
-    let judged : AllHold (tests_of net earlier (asked n) a) = subst (λ (r : Result (Unit {0}) CheckFault). Judges (tests_of net earlier (asked n) a) r) c.in-Ok.is c.in_ok-check_records.ensures.judged in
-    let kept = subst (λ (r : Result (Unit {0}) CheckFault). OnOk r (c.check_records.new.checked.facts.earlier ≡ earlier ++ (asked n, tight a.verdict) ∷ [])) c.in-Ok.is c.in_ok-check_records.ensures.accepted in
+    let judged : AllHold (tests_of net earlier (asked n) a) = subst (λ (r : Result (Unit {0}) CheckFault). Judges (tests_of net earlier (asked n) a) r) c.in-Ok-judged.is c.in-Ok.ensures.judged in
+    let kept = subst (λ (r : Result (Unit {0}) CheckFault). OnOk r (c.check_records.new.checked.facts.earlier ≡ earlier ++ (asked n, tight a.verdict) ∷ [])) c.in-Ok-judged.is c.in-Ok.ensures.accepted in
     let y = block_learns is c.keep_sides.new.checked.facts.earlier judged (ap (λ (f : KeptFacts). f.earlier) c.keep_sides.ensures.facts ∙ kept) in
     (tt, y.0, tests_give (tests_course net earlier n c.args.block.now.line h rs) tt c.args.at.now.line c.args.at.now.lines seen.left y.1, refl)
 
-pub returns-in-Ok-clause-ready : goal.returns-in-Ok-clause-ready
-returns-in-Ok-clause-ready c =
+pub returns-in-Ok-judged-clause-ready : goal.returns-in-Ok-judged-clause-ready
+returns-in-Ok-judged-clause-ready c =
     let net = c.args.net.now in
     let n = c.args.block.now.question in
     let facts = c.args.checked.now.facts in
@@ -45,8 +45,8 @@ returns-in-Ok-clause-ready c =
     let built = read.built in
     let known = read.ready.known in
     let is = said_answer a read read.some.2 c.in_ok-answer.ensures.verdict c.in_ok-answer.ensures.proof in
-    let judged : AllHold (tests_of net facts.earlier (asked n) a) = subst (λ (r : Result (Unit {0}) CheckFault). Judges (tests_of net facts.earlier (asked n) a) r) c.in-Ok.is c.in_ok-check_records.ensures.judged in
-    let kept = subst (λ (r : Result (Unit {0}) CheckFault). OnOk r (c.check_records.new.checked.facts.earlier ≡ facts.earlier ++ (asked n, tight a.verdict) ∷ [])) c.in-Ok.is c.in_ok-check_records.ensures.accepted in
+    let judged : AllHold (tests_of net facts.earlier (asked n) a) = subst (λ (r : Result (Unit {0}) CheckFault). Judges (tests_of net facts.earlier (asked n) a) r) c.in-Ok-judged.is c.in-Ok.ensures.judged in
+    let kept = subst (λ (r : Result (Unit {0}) CheckFault). OnOk r (c.check_records.new.checked.facts.earlier ≡ facts.earlier ++ (asked n, tight a.verdict) ∷ [])) c.in-Ok-judged.is c.in-Ok.ensures.accepted in
     let learnt : new.facts.earlier ≡ facts.earlier ++ (asked n, tight a.verdict) ∷ [] = ap (λ (f : KeptFacts). f.earlier) c.keep_sides.ensures.facts ∙ kept in
     let tight_is = answer_tight is in
     record {
@@ -69,7 +69,7 @@ returns-in-Err-clause-step c = λ h rs seen b.
     let line = c.args.block.now.line in
     let a = c.in_ok-answer.answer in
     let is = said_answer a c.requires.read b c.in_ok-answer.ensures.verdict c.in_ok-answer.ensures.proof in
-    let fails : FailsFirst (tests_of net earlier (asked n) a) c.in-Err.fault.part c.in-Err.fault.code = subst (λ (r : Result (Unit {0}) CheckFault). Judges (tests_of net earlier (asked n) a) r) c.in-Err.is c.in_ok-check_records.ensures.judged in (
+    let fails : FailsFirst (tests_of net earlier (asked n) a) c.in-Err.fault.part c.in-Err.fault.code = subst (λ (r : Result (Unit {0}) CheckFault). Judges (tests_of net earlier (asked n) a) r) c.in-Err.is c.in-Ok.ensures.judged in (
       tests_fail (tests_course net earlier n line h rs) c.args.at.now.line (line + c.in-Err.fault.part) c.in-Err.fault.code c.args.at.now seen.left c.requires.goes.reads
           (block_fails is c.in-Err.fault.part c.in-Err.fault.code fails),
       refl,
@@ -80,10 +80,8 @@ returns-in_err-answer-clause-step c = λ h rs seen b.
     step_exits _ _ c.from_residual.result stop.NoMemory c.args.at.now c.args.at.now seen seen (err_from_is_err_and c.from_residual.result c.from_residual.ensures.1)
     (stops_here c.args.at.now seen.left c.requires.goes.reads, refl)
 
-pub returns-in_err-check_records-clause-step : goal.returns-in_err-check_records-clause-step
-returns-in_err-check_records-clause-step c = λ h rs seen b.
-    step_exits _ _ _ stop.NoMemory c.args.at.now c.args.at.now seen seen (err_from_is_err_and _ c.from_residual-in_err-check_records.ensures.1)
-    (stops_here c.args.at.now seen.left c.requires.goes.reads, refl)
+pub returns-in_default-clause-step : goal.returns-in_default-clause-step
+returns-in_default-clause-step c = λ h rs seen b. (stops_here c.args.at.now seen.left c.requires.goes.reads, refl)
 
 pub overflow_add-result : goal.overflow_add-result
 overflow_add-result c =
@@ -92,7 +90,7 @@ overflow_add-result c =
     let tests = tests_of net c.args.checked.now.facts.earlier (asked c.args.block.now.question) a in
     let read = c.requires.read in
     let is = said_answer a read read.some.2 c.in_ok-answer.ensures.verdict c.in_ok-answer.ensures.proof in
-    let fails : FailsFirst tests c.in-Err.fault.part c.in-Err.fault.code = subst (λ (r : Result (Unit {0}) CheckFault). Judges tests r) c.in-Err.is c.in_ok-check_records.ensures.judged in
+    let fails : FailsFirst tests c.in-Err.fault.part c.in-Err.fault.code = subst (λ (r : Result (Unit {0}) CheckFault). Judges tests r) c.in-Err.is c.in-Ok.ensures.judged in
     let part = answer_part is c.in-Err.fault.part c.in-Err.fault.code fails in
     let taken = c.requires.goes.reads.taken in
     omega (arith, part, read.ends, c.requires.goes.counted, taken)

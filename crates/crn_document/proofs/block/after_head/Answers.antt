@@ -9,11 +9,11 @@ bare_verdict-requires-clause-small g c =
     let f = said_facts c.args.net.now c.args.question c.args.checked.now.facts c.args.at.now.numbers.list c.requires.head.0 c.requires.built c.requires.ready.known c.requires.head.1 in
     subst AreSmall (sym (c.as_slice-2.ensures ∙ c.in_ok-head.ensures.list ∙ c.as_slice.ensures)) f.small
 
-pub check_head-requires-clause-needs : goal.check_head-requires-clause-needs
-check_head-requires-clause-needs g c = c.requires.ready.known.needs
+pub check_head-judged-requires-clause-needs : goal.check_head-judged-requires-clause-needs
+check_head-judged-requires-clause-needs g c = c.requires.ready.known.needs
 
-pub check_head-requires-clause-head : goal.check_head-requires-clause-head
-check_head-requires-clause-head g c =
+pub check_head-judged-requires-clause-head : goal.check_head-judged-requires-clause-head
+check_head-judged-requires-clause-head g c =
     let f = said_facts c.args.net.now c.args.question c.args.checked.now.facts c.args.at.now.numbers.list c.requires.head.0 c.requires.built c.requires.ready.known c.requires.head.1 in
     let same = c.as_slice-2.ensures ∙ c.in_ok-head.ensures.list ∙ c.as_slice.ensures in
     subst (λ (v : Verdict). HeadMayBe c.args.net.now c.args.checked.now.facts.earlier (asked c.args.question) v) (sym (c.in_ok-verdict.ensures ∙ ap (λ (zs : List ℤ). said_verdict c.args.question zs []) same)) f.may
