@@ -23,7 +23,8 @@ fn joined(mark: usize, word: usize) -> usize
     mark.wrapping_mul(0x9e37_79b9_7f4a_7c15).wrapping_add(word)
 }
 
-// The mark that goes on with these bytes, four at a time: most names are short.
+// The mark that goes on with these bytes, four at a time, as most names have no more. With a name within its limit it calls
+// itself at most eight times.
 fn mark_after(mark: usize, bytes: &[u8]) -> usize
     ensures { result ≡ mark_after mark bytes.now }
 {

@@ -50,7 +50,7 @@ impl Name {
         prefix
     }
 
-    // The bytes of the name and others after them, as many as the longest name has, and how many are the name's.
+    // As many bytes as the longest name has, of which the first are the name's, and how many these are.
     pub(crate) fn block(&self) -> (&[u8], usize)
         ensures name { take result.1 result.0.now ≡ self.now }
         ensures long { length result.0.now ≡ MAX_NAME }

@@ -99,8 +99,8 @@ impl Network {
         self.names.as_slice()[s].as_slice()
     }
 
-    /// The name of a species and any bytes after it, as many as the longest name has, and how many are the name's. As
-    /// many bytes are copied faster than few.
+    /// As many bytes as the longest name has, of which the first are the name of a species, and how many are the name's.
+    /// What comes after the name has no meaning: it is there since a block of one length is copied faster than a name.
     pub fn padded_name(&self, s: usize) -> (&[u8], usize)
         requires { s < length self.now.names }
         ensures name { take result.1 result.0.now ≡ slice_index_or self.now.names s [] }

@@ -70,7 +70,7 @@ impl Amounts {
             .wrapping_add(weight(place).wrapping_mul(count as usize));
     }
 
-    // Puts the amounts of the first species into a row, as large as a network's vectors have them.
+    // Puts the amounts of this many species into a row, in numbers as large as a network's vectors have them.
     pub(crate) fn put_row(&self, species: usize, row: &mut Row)
         requires { species ≤ MAX_SPECIES }
         ensures { take species row.new ≡ take species self.now }

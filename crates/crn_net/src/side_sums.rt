@@ -12,7 +12,7 @@ use crn_vec::{MAX_AMOUNT, MAX_TERMS, NoMemory};
 use std::alloc::Global;
 
 // The least number of buckets that sums are tried in. It is a prime far from powers of two, so that names which differ in
-// their last two bytes alone, as S7 and S12, are seldom in one.
+// their last two digits alone, as S12 and S51, are seldom in one: with 1,023 buckets these were.
 const MIN_BUCKETS: usize = 967;
 
 // At most `length` bytes of a text from place `at` on. The two `min`s make it total: the closure that compares two
@@ -181,7 +181,7 @@ fn total(side: &[Term]) -> u32
 
 /// Whether each name's sum on the side is within the limit of an amount, as `NetBuilder::add` requires.
 ///
-/// If all numbers together exceed the limit, it takes up to 16 bytes for each term, or 1,024 if that is more.
+/// If all numbers together exceed the limit, it takes up to 16 bytes for each term, or 967 if that is more.
 pub fn sums_fit(alloc: Global, text: &[u8], side: &[Term]) -> Result<bool, NoMemory>
     requires numbers { AllByRecursion (λ t. t.count ≤ MAX_AMOUNT) side.now }
     requires few { length side.now ≤ MAX_TERMS }
@@ -192,7 +192,8 @@ pub fn sums_fit(alloc: Global, text: &[u8], side: &[Term]) -> Result<bool, NoMem
     if total(side) <= MAX_AMOUNT {
         return Ok(true);
     }
-    // The number of terms is often a power of two, and the last bits of a mark depend on few bytes of a name.
+    // One more than the terms: their number is often a power of two, and the last bits of a mark depend on few bytes of a
+    // name.
     if buckets_fit(alloc, text, side, (side.len() + 1).max(MIN_BUCKETS))? {
         return Ok(true);
     }

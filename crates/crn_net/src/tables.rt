@@ -94,7 +94,7 @@ fn note_side(
         result names.new.keys row.new }
     ensures same { take (length names.old.keys) names.new.keys ≡ names.old.keys }
 {
-    // No name is here.
+    // The first name follows none: no name is at this place.
     let mut next = MAX_SPECIES;
     for term in side {
         let place = note_next(names, guesses, next, name_of(text, term))?;
@@ -238,8 +238,8 @@ pub(crate) fn build(
     reactions.note((reactant, product))
 }
 
-// The rows with numbers as large as a network's vectors have them, of which there are so many as species. Each is put where
-// it stays, as a row is long to move.
+// The rows in numbers as large as a network's vectors have them, right at the places of the species. Each is put where it
+// stays, as moving a row takes long.
 pub(crate) fn full_rows(
     alloc: Global,
     rows: &[Amounts],
