@@ -12,8 +12,9 @@ use std::marker::Model;
 // The number of slots. Of 240 reactions, few share one.
 const SLOTS: usize = 1024;
 
-// Reactions, each once, in the order in which they were noted. Each has a mark in its slot, which counts those up to it or
-// to another one of the slot: so a reaction without a mark is new, and one with a mark is most often found by it.
+// Reactions, each once, in the order in which they were noted. The mark of a slot is the place, counted from 1, of the last
+// of them that is in it, or 0 if there is none: so a reaction whose slot has mark 0 is new, and one that is not new is mostly
+// found where the mark says.
 #[derive(Drop)]
 pub(crate) struct Reactions {
     list: Vec<(usize, usize)>,
