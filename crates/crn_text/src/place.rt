@@ -60,7 +60,7 @@ fn begins_with_plus(text: &[u8]) -> bool {
 fn split_blanks_after_name(text: &[u8]) -> (&[u8], &[u8])
     ensures { Runs is_blank text.now result.0.now result.1.now }
 {
-    // Of many terms most are joined without blanks.
+    // Where there are very many terms, most are joined without blanks.
     if begins_with_plus(text) {
         return text.split_at(0);
     }
@@ -75,6 +75,7 @@ fn split_name(text: &[u8]) -> Option<(&[u8], &[u8])>
     ensures { StartsNamed text.now result }
 {
     let size = short_name_bytes(text);
+    // It never is, as the first byte is a letter.
     if size == 0 {
         return None;
     }
@@ -145,7 +146,7 @@ pub(crate) fn quick_place(text: &[u8], end: usize) -> Option<(Term, Option<&[u8]
     name_place(named, end, count(digits))
 }
 
-// The same of any place, token by token. It is not inlined, so that a loop over places keeps its values at hand.
+// The same of any place, token by token. It is not inlined, so that a loop over places keeps its values in registers.
 #[inline(never)]
 fn place_by_tokens(text: &[u8], end: usize) -> (Option<Term>, Option<&[u8]>)
     requires short { end ≤ MAX_TEXT }

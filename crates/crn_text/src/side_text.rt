@@ -57,8 +57,8 @@ impl SideText {
     }
 }
 
-// The calls below put bytes at a place of a buffer, and answer the place after them: a number of its own, which stays in
-// a register, as a field beside the bytes would not.
+// The calls below put bytes at a place of a buffer, and answer the place after them. That is a number of its own, as a
+// field beside the bytes would not stay in a register.
 
 // Puts a byte.
 #[inline(always)]
@@ -100,7 +100,8 @@ fn put_number(bytes: &mut [u8], at: usize, number: u8) -> usize
     push(bytes, next, b'0' + number % 10)
 }
 
-// Puts the first bytes of a block, of which all are copied: they are so many that it takes no loop.
+// Puts the first bytes of a block. All of it is copied, since a copy of one length takes no loop: the bytes from the answer
+// on have no meaning.
 #[inline(always)]
 fn put_block(bytes: &mut [u8], at: usize, block: &[u8], size: usize) -> usize
     requires room { at + MAX_NAME ≤ length bytes.old }
@@ -115,7 +116,7 @@ fn put_block(bytes: &mut [u8], at: usize, block: &[u8], size: usize) -> usize
     at + size
 }
 
-// Puts the amount of a species, after a plus sign unless it is the first. An amount of 1 is not written.
+// Puts what comes before the name of a species: a plus sign, if there are terms before, and its amount, unless that is 1.
 #[inline(always)]
 fn put_amount(bytes: &mut [u8], at: usize, before: usize, amount: i128) -> usize
     requires room { at + 5 ≤ length bytes.old }
@@ -135,7 +136,7 @@ fn put_amount(bytes: &mut [u8], at: usize, before: usize, amount: i128) -> usize
     end
 }
 
-// Puts complex c at the start.
+// Puts the text of complex c, counted from 0, at the start of a buffer that has room for any.
 fn put_complex(bytes: &mut [u8], net: &Network, c: usize) -> usize
     requires complex { c < length net.now.complexes }
     requires room { ROOM ≤ length bytes.old }
