@@ -56,7 +56,8 @@ fn witness(
     Ok(Part::Witness { stays })
 }
 
-// Settles all coordinates for one that has to be positive or negative, and gives the view that is settled.
+// Settles all coordinates for one that has to be positive or negative, and gives the view that is settled. Levels are
+// below twice their count.
 pub(crate) fn settled_view(
     tableau: &mut Tableau,
     kinds: &[Kind],

@@ -9,7 +9,7 @@ use crate::view::View;
 use crn_tab::Tableau;
 use crn_vec::{Kind, Sign, opposite, product, sign_asked};
 
-// The level of a coordinate says when it is settled. The lead sign of a view is the sign of the vectors that it shows
+// Coordinates are settled in the order of their levels. The lead sign of a view is the sign of the vectors that it shows
 // at the coordinate from which the signs at all others are read: g for a row, and the member for a column.
 
 // The sign at b of the vectors that the basis names by its member b, if they have this sign at g.

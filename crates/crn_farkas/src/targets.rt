@@ -77,8 +77,8 @@ fn targets(
     Ok(None)
 }
 
-// The level of a coordinate of this kind, if there are so many. Those that are zero or free are settled first, as they cross at most
-// once.
+// The level of coordinate c of this kind, of this many coordinates: those that are zero or free are settled first, as they
+// cross at most once.
 fn level_of(kind: Kind, c: usize, count: usize) -> usize
     requires inside { c < count }
     requires few { count ≤ MAX_COORDINATES }

@@ -39,7 +39,7 @@ abbrev pub IsRightEverywhere : Mat → List ℕ → View → ℕ → List Kind �
 IsRightEverywhere a basis view g kinds = (y : List ℤ) → IsSeen a basis view g (kind_at kinds g) y
     → (c : ℕ) → c < width a → IsRight view (kind_at kinds c) (entry y c)
 
--- each of this many coordinates has a level of its own: itself, or as many more
+-- each of this many coordinates has a level of its own: its number, or that plus the count
 pub record AreLevels (count : ℕ) (levels : List ℕ) : Type 0 where
   pub long : length levels ≡ count
   pub are : (c : ℕ) → c < count → (slice_index levels c ≡ c) ⊎ (slice_index levels c ≡ count + c)
