@@ -31,7 +31,7 @@ pub(crate) struct Finder {
     // The coordinates at which a marked vector does not suit, and what is required of one that changes these.
     pub misfit_coordinates: Vec<usize>,
     pub required_of_change: Vec<Bits>,
-    // The kinds that were last asked for.
+    // The kinds of the last question to the solver.
     pub kinds: KeptKinds,
 }
 

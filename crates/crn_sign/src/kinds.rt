@@ -14,7 +14,8 @@ use crate::marks::{Mark, word_count};
 use crn_vec::{Kind, Matrix, NoMemory};
 use std::alloc::Global;
 
-/// Kinds, the words that require them, and those of the coordinates that are weak. Of new words only what differs is put.
+/// A kind for each coordinate, and the words, of 64 coordinates each, by which it is required and by which it is weak. Only
+/// the kinds at which new words differ from them are put anew.
 #[derive(Drop)]
 pub(crate) struct KeptKinds {
     pub kinds: Vec<Kind>,
@@ -60,7 +61,7 @@ fn weakened(kind: Kind, weak: u64) -> Kind
     }
 }
 
-// The places of 64 at which words require different marks, or only one makes a coordinate weak.
+// The places of 64 at which two words require different marks, or one is weak and the other not.
 fn changed_places(was: Bits, weak_was: u64, bits: Bits, weak: u64) -> u64
     ensures marks { (i : ℕ) → bit_at result i ≡ 0 → mark_in was i ≡ mark_in bits i }
     ensures weak { (i : ℕ) → bit_at result i ≡ 0 → bit_at weak_was i ≡ bit_at weak i }
@@ -115,7 +116,7 @@ impl KeptKinds {
         })
     }
 
-    // Requires this of the coordinates of a word.
+    // Requires this of the coordinates of word w, in place of what was required.
     fn put_word(&mut self, matrix: &Matrix, w: usize, bits: Bits, weak: u64)
         requires kept { AreKept matrix.now self.old }
         requires word { w < word_count matrix.now }
@@ -130,7 +131,7 @@ impl KeptKinds {
         self.weak[w] = weak;
     }
 
-    /// Requires what these words do.
+    /// Requires what these words do, in place of what was required.
     pub fn ask(&mut self, matrix: &Matrix, weak: &[u64], asked: &[Bits])
         requires kept { AreKept matrix.now self.old }
         requires long { length asked.now ≡ word_count matrix.now }
@@ -142,7 +143,7 @@ impl KeptKinds {
         }
     }
 
-    /// Requires a number of this kind, which is positive or negative, at g.
+    /// Requires a number of this kind, which is positive or negative, at g, in place of what was required there.
     pub fn ask_signed(&mut self, matrix: &Matrix, g: usize, kind: Kind)
         requires kept { AreKept matrix.now self.old }
         requires goal { g < width matrix.now }

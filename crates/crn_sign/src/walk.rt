@@ -613,8 +613,8 @@ fn end_of(end: Ending, nodes: Vec<TreeNode>, keeps: bool) -> SearchEnd
     }
 }
 
-// How the visits end that are left to a search, the first of which is that of the prefix with no choice. What it works with
-// is borrowed, as each way out drops what is owned.
+// How the visits end that are left to a search, the first of which is that of the prefix with no choice. The search is
+// borrowed, so that no way out from here drops its solvers.
 fn visit_from<P: SignProblem>(
     alloc: Global,
     problem: &P,

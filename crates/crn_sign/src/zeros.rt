@@ -124,7 +124,7 @@ impl Finder {
         }
     }
 
-    // Makes the marked vector 0 at a misfit, if it has to be. The answer is whether there are vectors for it.
+    // Makes the marked vector 0 at a misfit, if it has to be. The answer is no if there are no vectors for it.
     fn make_misfit_zero(
         &mut self,
         matrix: &Matrix,
