@@ -100,7 +100,8 @@ fn stop_answer(stop: SearchStop) -> Result<Searched, NoMemory>
     }
 }
 
-// The answer that the search over a table gives, with its tree if it is kept.
+// The answer that the search over a table gives, with its tree if it is kept. A solver is dropped by a call, as a way out
+// drops it field by field.
 pub(crate) fn answer_by<'a>(
     alloc: Global,
     net: &Network,

@@ -86,7 +86,8 @@ fn check_records(
     }
 }
 
-// Keeps the sides of a yes to question 11.
+// Keeps the sides of a yes to question 11. Here and below answers, verdicts and proofs are dropped by calls, as a way out
+// drops them variant by variant.
 fn keep_sides(checked: &mut Checked, question: u32, proof: Proof)
     ensures facts { checked.new.facts ≡ checked.old.facts }
     ensures sides { question ≡ 11 → (sides : List (List ℤ)) → proof ≡ Sides sides

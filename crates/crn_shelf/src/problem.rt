@@ -164,6 +164,7 @@ pub(crate) fn search_over(
     let matrix = reaction_matrix(alloc, net)?;
     let choices = choices_of(alloc, shape, &system)?;
     let coordinates_b = coordinates(alloc, &matrix)?;
+    // It is made last, so that no way out drops it.
     let solver = Solver::new(alloc, &matrix)?;
     let problem = ShelfProblem {
         shape,

@@ -58,7 +58,8 @@ struct First {
 }
 
 // The answers to questions 5 and 8, which share the matrix of system 1. It is let go before that of
-// system 2 is made. A large value is dropped by a call: a way out drops it field by field, each of which is to be proved.
+// system 2 is made. Here and below large values are dropped by calls: a way out drops what it owns field by field, and each
+// of these drops is proved.
 fn on_species(alloc: Global, net: &Network) -> Result<OnSpecies, NoMemory>
     ensures rank { IfOk result (λ made. (budget : ℕ) (earlier : Earlier) →
         IsAnswer net.now budget earlier Q5 made.rank) }
@@ -124,6 +125,7 @@ fn first_answers(alloc: Global, net: &Network, budget: u32) -> Result<First, NoM
         budget,
     )?;
     let mut answers = Answers::new(alloc)?;
+    // These two take no memory. Nothing below runs out of it, so no way out drops them.
     let zero = zero_answer(net, &linkage, &weakly_reversible.verdict, &rank.verdict);
     let one = one_hypotheses(net, &linkage, &strong, &deficiency.verdict);
     answers.push(linkage_answer(linkage));
@@ -176,7 +178,8 @@ pub fn solve(alloc: Global, net: &Network, budget: u32) -> Result<Answers, NoMem
     Ok(answers)
 }
 
-// The answer to question 5. What it is found by is let go before the other questions are answered.
+// The answer to question 5. It has a call of its own so that the matrix and the tableau are let go where no other answer is
+// owned.
 fn rank_alone(alloc: Global, net: &Network) -> Result<Answer, NoMemory>
     ensures { IfOk result (λ made. (budget : ℕ) (earlier : Earlier) →
         IsAnswer net.now budget earlier Q5 made) }

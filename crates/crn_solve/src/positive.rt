@@ -27,7 +27,8 @@ pub(crate) struct Dependence {
 }
 
 // A solution with positive columns and zero rows, or multipliers that rule every one out, by a solver whose basis is
-// the columns. An answer in plain view is looked for in `viewed`, if it is there.
+// the columns. An answer in plain view is looked for in `viewed`, if it is there. A tableau or a solver is dropped by a call,
+// as a way out drops it field by field.
 fn decide_positive(
     alloc: Global,
     matrix: &Matrix,
