@@ -43,7 +43,7 @@ runs_from p text run rest n is front back = record {
   all = rw (front, is) (all_prefix p text);
 }
 
--- a text that begins with no such byte, as far as is known
+-- the empty run, whatever the text begins with
 pub runs_none : (p : ℕ → Bool) (text run rest : List ℕ) → run ≡ [] → rest ≡ text → Runs p text run rest
 runs_none p text run rest none same = record { whole = rw (none, same) refl; all = rw none refl }
 
