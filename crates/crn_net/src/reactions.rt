@@ -32,16 +32,16 @@ impl Model for Reactions {
     ghost invariant = { λ r. AreMarked r.marks r.list.items };
 }
 
-// The slot of a reaction.
+// The slot of a reaction. As the factor is odd, the reactions of one product are in slots of their own.
 fn slot(reaction: (usize, usize)) -> usize
     ensures slot { result ≡ slot_of reaction }
     ensures inside { result < SLOTS }
 {
-    let mark = reaction
+    let number = reaction
         .0
-        .wrapping_mul(MAX_COMPLEXES)
+        .wrapping_mul(MAX_COMPLEXES + 1)
         .wrapping_add(reaction.1);
-    mark % SLOTS
+    number % SLOTS
 }
 
 // Whether a reaction is at a place.

@@ -1,5 +1,5 @@
-ghost use Rattle.std.specs.Prelude.{◌≡◌, ◌≤◌, ◌<◌, ◌==◌, ◌&&◌, IsTrue, length, take, map, replicate, slice_index_or, pos, ℕ, [], OnErr, IfOk};
-ghost use Rattle.std.specs.List.{list_any, AllByRecursion};
+ghost use Rattle.std.specs.Prelude.{◌≡◌, ◌≤◌, ◌<◌, ◌==◌, ◌&&◌, IsTrue, length, take, map, replicate, slice_index_or, pos, [], OnErr, IfOk};
+ghost use Rattle.std.specs.List.{AllByRecursion};
 ghost use Rattle.crn_vec.specs.Lists.{AreDistinct};
 ghost use Rattle.crn_vec.specs.Network.{IsAmount, JoinsTwo, minus};
 ghost use Rattle.crn_net.specs.Terms.{side_of, statement_of, IsSide};

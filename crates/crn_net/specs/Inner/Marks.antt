@@ -7,7 +7,7 @@ use Rattle.crn_net.specs.declared.reactions.TheConstants.{SLOTS}
 
 -- the slot of a reaction
 abbrev pub slot_of : ℕ × ℕ → ℕ
-slot_of r = ((r.0 * MAX_COMPLEXES % 2 ^ 64 + r.1) % 2 ^ 64) % SLOTS
+slot_of r = ((r.0 * (MAX_COMPLEXES + 1) % 2 ^ 64 + r.1) % 2 ^ 64) % SLOTS
 
 -- the slot of the reaction has a mark
 abbrev pub IsMarked : List ℕ → ℕ × ℕ → Type 0
