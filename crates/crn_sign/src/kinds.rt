@@ -7,7 +7,7 @@ ghost use Rattle.crn_vec.specs.Systems.{is_signed, kind_at};
 ghost use Rattle.crn_sign.specs.Inner.Bits.{mark_in, word_count};
 ghost use Rattle.crn_sign.specs.Inner.Kinds.{AreKept};
 ghost use Rattle.crn_sign.specs.Inner.Marks.{kind_of_mark, kinds_of};
-ghost use Rattle.crn_sign.specs.Options.{bit_of, weakened};
+ghost use Rattle.crn_sign.specs.Options.{weakened};
 
 use crate::bits::{Bits, NONE, bit_in, mark_in, with_mark, without_bit, word_of};
 use crate::marks::{Mark, word_count};
