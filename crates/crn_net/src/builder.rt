@@ -14,6 +14,7 @@ use crn_vec::{MAX_COMPLEXES, MAX_SPECIES, NoMemory};
 use indexmap::IndexSet;
 use std::alloc::Global;
 use std::marker::Model;
+use std::mem::drop;
 
 /// Collects the reactions of a network. Contracts see it as the network built so far.
 #[derive(Drop)]
@@ -43,11 +44,13 @@ impl NetBuilder {
     pub fn new(alloc: Global) -> Result<NetBuilder, NoMemory>
         ensures { IfOk result (λ made. made ≡ no_net) }
     {
+        let reactions = Reactions::new(alloc)?;
+        let rows: Complexes = IndexSet::with_capacity(alloc, MAX_COMPLEXES)?;
         Ok(NetBuilder {
             // A name above the limit is inserted first, and removed again.
             names: IndexSet::with_capacity(alloc, MAX_SPECIES + 1)?,
-            rows: IndexSet::with_capacity(alloc, MAX_COMPLEXES)?,
-            reactions: Reactions::new(alloc)?,
+            rows,
+            reactions,
             guesses: TableGuesses::new(),
         })
     }
@@ -84,17 +87,26 @@ impl NetBuilder {
         ensures { FinishGives self result }
     {
         if self.reactions.as_slice().is_empty() {
+            drop(self);
             return Err(NetFault::NoReaction);
         }
         let alloc = self.reactions.allocator();
         let species = self.names.len();
-        let rows = full_rows(alloc, self.rows.as_slice(), species)?;
-        let differences = differences(alloc, &rows, self.reactions.as_slice(), species)?;
+        let Ok(rows) = full_rows(alloc, self.rows.as_slice(), species) else {
+            drop(self);
+            return Err(NetFault::NoMemory);
+        };
+        let Ok(differences) = differences(alloc, &rows, self.reactions.as_slice(), species) else {
+            drop(self);
+            return Err(NetFault::NoMemory);
+        };
         let NetBuilder {
             names,
+            rows: narrow,
             reactions,
             ..
         } = self;
+        drop(narrow);
         Ok(Network::new(names, rows, reactions.into_list(), differences))
     }
 }
