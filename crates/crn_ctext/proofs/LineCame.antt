@@ -1,5 +1,5 @@
 -- The numbers of a line's bytes, each after a space, one after another.
-use Rattle.crn_ctext.proofs.Prelude.{◌≡◌, ◌≤◌, ◌<◌, ◌+◌, ◌++◌, ℕ, List, [], ◌∷◌, length, take, drop, get_or, map, refl, sym, ap, ap₂, subst, ◌∙◌, inl, inr, append_assoc, arith, ℤ, pos, AllZip, append-nil, take-append-drop, map-append, length-append, length_push, IsSpelled, capped, BeginsWithZero, EndsAt, HasNumber, HasNoNumber, spaced, SaysNumbers, Came, IsTail}
+use Rattle.crn_ctext.proofs.Prelude.{◌≡◌, ◌≤◌, ◌<◌, ◌+◌, ◌++◌, ℕ, List, [], ◌∷◌, length, take, drop, get_or, map, refl, sym, ap, ap₂, subst, ◌∙◌, inl, inr, append_assoc, arith, ℤ, pos, AllZip, append-nil, take-append-drop, map-append, length-append, length_push, IsSpelled, capped, BeginsWithZero, BeginsWithZeros, EndsAt, HasNumber, HasNoNumber, spaced, SaysNumbers, Came, IsTail}
 use Rattle.std.proofs.Common.{◌≢◌}
 use Rattle.crn_ctext.proofs.Spelled.{spelled_one}
 use Rattle.crn_ctext.proofs.LineNumbers.{tail_at, tail_begins, words_one, spelled_is_word, zero_number}
@@ -95,6 +95,26 @@ pub came_zero : (before left after : List ℕ) (zs : List ℤ) (old now new : Li
 came_zero before left after zs old now new c e h is =
     let n = zero_number (48 ∷ after) (omega arith) refl (zero_ends after h.tail) in
     came_more before (32 ∷ 48 ∷ after) zs old now new (pos 0) 1 (subst (λ (t : List ℕ). Came before t zs) h.is c) e (omega arith) refl n is
+
+held_by : (old now new ys : List ℤ) → new ≡ now → now ≡ old ++ map capped ys → new ≡ old ++ map capped ys
+held_by old now new ys is e = is ∙ e
+
+ungrouped : (now z : List ℤ) → (((now ++ z) ++ z) ++ z) ++ z ≡ now ++ (z ++ (z ++ (z ++ z)))
+ungrouped now z = simp append_assoc
+
+-- four zeros come next
+pub came_zeros : (before left after : List ℕ) (zs : List ℤ) (old now new : List ℤ) → Came before left zs → now ≡ old ++ map capped zs → BeginsWithZeros left after → new ≡ now ++ (pos 0 ∷ pos 0 ∷ pos 0 ∷ pos 0 ∷ [])
+    → (ys : List ℤ) × Came before after ys × (new ≡ old ++ map capped ys) × (length ys ≡ length zs + 4)
+came_zeros before left after zs old now new c e h is =
+    let z : List ℤ = pos 0 ∷ [] in
+    let two : List ℕ = 32 ∷ 48 ∷ after in
+    let four : List ℕ = 32 ∷ 48 ∷ two in
+    let six : List ℕ = 32 ∷ 48 ∷ four in
+    let a = came_zero before left six zs old now (now ++ z) c e (record { is = h.is; tail = inr (48 ∷ four, refl) }) refl in
+    let b = came_zero before six four a.0 old (now ++ z) ((now ++ z) ++ z) a.1 a.2 (record { is = refl; tail = inr (48 ∷ two, refl) }) refl in
+    let d = came_zero before four two b.0 old ((now ++ z) ++ z) (((now ++ z) ++ z) ++ z) b.1 b.2 (record { is = refl; tail = inr (48 ∷ after, refl) }) refl in
+    let f = came_zero before two after d.0 old (((now ++ z) ++ z) ++ z) ((((now ++ z) ++ z) ++ z) ++ z) d.1 d.2 (record { is = refl; tail = h.tail }) refl in
+    (f.0, f.1, held_by old ((((now ++ z) ++ z) ++ z) ++ z) new f.0 (is ∙ sym (ungrouped now z)) f.2, omega (arith, a.3, b.3, d.3, f.3))
 
 -- nothing is left
 pub came_all : (before left : List ℕ) (zs : List ℤ) → Came before left zs → length left ≡ 0 → SaysNumbers before zs

@@ -47,7 +47,7 @@ pub use Rattle.crn_ctext.specs.Documents.{AreTrees, FitsShare, IsDocumentOf, IsF
 unfoldable pub use Rattle.crn_ctext.specs.Documents.{AreFormed, AreValid, IsTree}
 pub use Rattle.crn_ctext.specs.Expect.{IsExpectable, IsReadAs, IsRefusedBy, MayBeDue, due_forms, forms_of, is_after, misplaced, question_of, tag_of, text_of, texts}
 pub use Rattle.crn_ctext.specs.Inner.Forms.{IsForm, IsNth, IsNthDue, later, no_form, tag}
-pub use Rattle.crn_ctext.specs.Inner.Line.{BeginsWithZero, Came, EndsAt, HasDigits, HasNatural, HasNoNatural, HasNoNumber, HasNumber, IsTail, SaysNumbers, capped, spaced}
+pub use Rattle.crn_ctext.specs.Inner.Line.{BeginsWithZero, BeginsWithZeros, Came, EndsAt, HasDigits, HasNatural, HasNoNatural, HasNoNumber, HasNumber, IsTail, SaysNumbers, capped, spaced}
 pub use Rattle.crn_ctext.specs.Inner.Rows.{IsTable, asked_words, words_of}
 pub use Rattle.crn_ctext.specs.Inner.Shapes.{AreMembers, HasBounds, IsBounded, IsJudged, fields_of, has_free}
 pub use Rattle.crn_ctext.specs.Inner.Tries.{AreTried, FitFields, IsFit, IsNotFit, IsNotShaped, IsSomeShaped, IsTried, SaysAfter, worst_of}

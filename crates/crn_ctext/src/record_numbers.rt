@@ -1,8 +1,9 @@
-ghost use Rattle.std.specs.Prelude.{◌≡◌, ◌≤◌, ◌<◌, ◌+◌, ◌-◌, ◌*◌, ◌++◌, ◌∷◌, [], ℤ, List, IsTrue, ◌↔◌, length, map, IfSome, MatchBool, MatchOption, min, take};
+ghost use Rattle.std.specs.Prelude.{◌≡◌, ◌≤◌, ◌<◌, ◌+◌, ◌-◌, ◌*◌, ◌++◌, ◌∷◌, [], ℤ, pos, List, IsTrue, ◌↔◌, length, map, IfSome, MatchBool, MatchOption, min, take};
 ghost use Rattle.std.specs.Str.Parse.{AllDigits, digits_value};
 ghost use Rattle.crn_vec.specs.declared.limits.TheConstants.{WIDE_SOLUTION};
-ghost use Rattle.crn_ctext.specs.Inner.Line.{BeginsWithZero, HasDigits, HasNatural, HasNoNatural, HasNumber, HasNoNumber, EndsAt, SaysNumbers, capped};
+ghost use Rattle.crn_ctext.specs.Inner.Line.{BeginsWithZero, BeginsWithZeros, HasDigits, HasNatural, HasNoNatural, HasNumber, HasNoNumber, EndsAt, SaysNumbers, capped};
 
+use crate::same::same_eights;
 use crn_vec::{Ints, WIDE_SOLUTION};
 
 // From here on digits are read eight at a time.
@@ -10,6 +11,9 @@ const SHORT: u64 = 100_000;
 
 // From here on a value is held in 128 bits.
 const LONG: u64 = 1_000_000_000_000_000_000;
+
+// Four zeros, each after a space.
+const ZEROS: [u8; 8] = *b" 0 0 0 0";
 
 // The digits at the start, of which this many were read already, with this value.
 fn long_digits(bytes: &[u8], read: usize, start: u128) -> (u128, usize)
@@ -216,7 +220,42 @@ fn after_zero(bytes: &[u8]) -> Option<&[u8]>
     }
 }
 
-/// Adds the numbers of a line, each after a space, if they are at most this many.
+// What follows four zeros and the spaces before them, if the bytes begin with these numbers and there is room for as many.
+fn after_zeros(bytes: &[u8], room: usize) -> Option<&[u8]>
+    ensures room { IfSome result (λ _. 4 ≤ room) }
+    ensures begins { IfSome result (λ after. BeginsWithZeros bytes.now after.now) }
+{
+    if room < 4 {
+        return None;
+    }
+    match bytes {
+        [a, b, c, d, e, f, g, h, after @ ..] => {
+            if !same_eights([*a, *b, *c, *d, *e, *f, *g, *h], ZEROS) {
+                return None;
+            }
+            match after {
+                [] => Some(after),
+                [b' ', ..] => Some(after),
+                _ => None,
+            }
+        }
+        _ => None,
+    }
+}
+
+// Adds four zeros for which there is room.
+fn add_zeros(into: &mut Ints)
+    requires { 4 ≤ into.old.spare }
+    ensures list { into.new.list ≡ into.old.list ++ pos 0 ∷ pos 0 ∷ pos 0 ∷ pos 0 ∷ [] }
+    ensures spare { into.new.spare + 4 ≡ into.old.spare }
+{
+    add(into, 0);
+    add(into, 0);
+    add(into, 0);
+    add(into, 0);
+}
+
+/// Adds the numbers of a line, each after a space, if they are at most this many. Zeros are often together.
 pub(crate) fn numbers(line: &[u8], most: usize, into: &mut Ints) -> bool
     requires { most ≤ into.old.spare }
     ensures numbers { MatchBool result
@@ -234,6 +273,11 @@ pub(crate) fn numbers(line: &[u8], most: usize, into: &mut Ints) -> bool
             add(into, 0);
             count += 1;
             left = after;
+            if let Some(after) = after_zeros(left, most - count) {
+                add_zeros(into);
+                count += 4;
+                left = after;
+            }
             continue;
         }
         if left[0] != b' ' {

@@ -1,7 +1,7 @@
 ghost use Rattle.std.specs.Prelude.{◌≡◌, ◌↔◌, IsTrue};
 
 // Whether eight bytes are the same as eight others, by one comparison.
-fn same_eights(left: [u8; 8], right: [u8; 8]) -> bool
+pub(crate) fn same_eights(left: [u8; 8], right: [u8; 8]) -> bool
     ensures { IsTrue result ↔ (left ≡ right) }
 {
     u64::from_le_bytes(left) == u64::from_le_bytes(right)

@@ -57,6 +57,11 @@ pub record BeginsWithZero (bytes after : List ℕ) : Type 0 where
   pub is : bytes ≡ 32 ∷ 48 ∷ after
   pub tail : IsTail after
 
+-- the bytes are four zeros that are numbers, each after a space, and these
+pub record BeginsWithZeros (bytes after : List ℕ) : Type 0 where
+  pub is : bytes ≡ 32 ∷ 48 ∷ 32 ∷ 48 ∷ 32 ∷ 48 ∷ 32 ∷ 48 ∷ after
+  pub tail : IsTail after
+
 -- each text after a space
 abbrev pub spaced : List (List ℕ) → List ℕ
 spaced texts = flat_map (λ t. 32 ∷ t) texts

@@ -1,6 +1,6 @@
 use Rattle.crn_ctext.proofs.Prelude.{◌<◌, length, ap, subst, ◌∙◌, arith, drop, nat_tests, HasNumber, HasNoNumber}
 use Rattle.crn_ctext.proofs.LineNumbers.{held}
-use Rattle.crn_ctext.proofs.LineCame.{came_fails, came_many, no_space_fails, no_number_fails, came_more, came_zero, came_all}
+use Rattle.crn_ctext.proofs.LineCame.{came_fails, came_many, no_space_fails, no_number_fails, came_more, came_zero, came_zeros, came_all}
 use Rattle.crn_ctext.proofs.record_numbers.numbers.Goals as goal
 
 pub returns-then-count-most-clause-numbers : goal.returns-then-count-most-clause-numbers
@@ -29,8 +29,15 @@ loop-left-preserved c =
     let after = c.split_at-in-Some-number.ensures.back ∙ ap (drop c.in-Some-number.width) c.split_at.ensures.back in
     (more.0, rw after more.1, more.2, omega (arith, more.3), omega arith, omega arith)
 
-pub loop-left-preserved-in-Some : goal.loop-left-preserved-in-Some
-loop-left-preserved-in-Some c =
+pub loop-left-preserved-in-Some-after_zeros : goal.loop-left-preserved-in-Some-after_zeros
+loop-left-preserved-in-Some-after_zeros c =
+    let inv = c.loop-left.invariant in
+    let one = came_zero c.args.line.now c.loop-left.left.now c.in-Some.after.now inv.0 _ _ _ inv.1 inv.2 c.in-Some.ensures c.add.ensures.list in
+    let more = came_zeros c.args.line.now c.in-Some.after.now c.in-Some-after_zeros.after.now one.0 _ _ _ one.1 one.2 c.in-Some-after_zeros.ensures.begins c.add_zeros.ensures.list in
+    (more.0, more.1, more.2, omega (arith, one.3, more.3), omega (arith, c.in-Some-after_zeros.ensures.room), omega arith)
+
+pub loop-left-preserved-in_default-after_zeros : goal.loop-left-preserved-in_default-after_zeros
+loop-left-preserved-in_default-after_zeros c =
     let inv = c.loop-left.invariant in
     let more = came_zero c.args.line.now c.loop-left.left.now c.in-Some.after.now inv.0 _ _ _ inv.1 inv.2 c.in-Some.ensures c.add.ensures.list in
     (more.0, more.1, more.2, omega (arith, more.3), omega arith, omega arith)
