@@ -67,7 +67,7 @@ pub use Rattle.std.proofs.Math.Seq.{drop-append_seam, take-append_seam}
 pub use Rattle.std.proofs.lemmas.Bool.{cases_Bool, cases_eq, cases_lt, eq-eqb, eqb-true, false≢true, lt-ltb, ltb-true, ne_eqb}
 pub use Rattle.std.proofs.lemmas.Bool.Decides.{Decides-eqb}
 pub use Rattle.std.proofs.lemmas.Grind.{common_steps, get_or-set_at}
-pub use Rattle.std.proofs.lemmas.Int.{fits_signed_from_abs, ints}
+pub use Rattle.std.proofs.lemmas.Int.{fits_signed_from_abs, ints, to_z-of_z}
 pub use Rattle.std.proofs.lemmas.List.{append-nil, append_assoc, drop_more, ext_get_or, get_or-drop, get_or-replicate, get_or-set_other, length-drop, length-map, length-set}
 pub use Rattle.std.proofs.lemmas.List.FromFn.{get_or-map-range_with_len, length-range_with_len}
 pub use Rattle.std.proofs.lemmas.Nat.Gcd.{dvd-zero, dvd_trans}

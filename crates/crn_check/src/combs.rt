@@ -1,4 +1,4 @@
-ghost use Rattle.std.specs.Prelude.{◌≡◌, ◌↔◌, ◌≤◌, ◌<◌, ◌==◌, ◌*◌, ◌^◌, ◌+ℤ◌, ◌*ℤ◌, ℕ, IsTrue, suc, length, drop, unsigned_abs};
+ghost use Rattle.std.specs.Prelude.{◌≡◌, ◌↔◌, ◌≤◌, ◌<◌, ◌==◌, ◌*◌, ◌^◌, ◌+ℤ◌, ◌*ℤ◌, ℕ, IsTrue, suc, length, drop, slice_index, unsigned_abs};
 ghost use Rattle.std.specs.List.{AllByRecursion, list_any};
 ghost use Rattle.crn_vec.specs.declared.limits.TheConstants.{MAX_AMOUNT, MAX_REACTIONS, MAX_SPECIES, WIDE_SOLUTION};
 ghost use Rattle.crn_vec.specs.Rank.{combination_at};
@@ -13,10 +13,9 @@ ghost use Rattle.crn_vec.specs.Skips.{AreSkips};
 use crate::duals::vector_of;
 use crate::fault::CheckFault;
 use crate::members::Members;
-use crate::skips::skips_at;
 use crn_cert::Rows;
 use crn_net::Network;
-use crn_vec::{MAX_SPECIES, Skips, is_nought, times};
+use crn_vec::{MAX_SPECIES, Skips, is_nought, skips_of, times};
 
 // A number for each species, and more at the places past the last species.
 type Sums = [i128; MAX_SPECIES];
@@ -41,6 +40,33 @@ fn add_multiple(sums: &mut Sums, number: &i128, vector: &[i128], skips: &[u8], m
     }
 }
 
+// Adds a multiple of the vector of member j of a base to the sums.
+fn add_member(
+    net: &Network,
+    base: &[u32],
+    skips: &[Skips],
+    j: usize,
+    number: &i128,
+    sums: &mut Sums,
+)
+    requires base { IsBase net.now base.now }
+    requires skips { AreSkipsOf net.now base.now skips.now }
+    requires member { j < length base.now }
+    requires number { unsigned_abs number.now < WIDE_SOLUTION }
+    requires sums { AreWithin (j * (MAX_AMOUNT * WIDE_SOLUTION)) sums.old }
+    ensures within { AreWithin (suc j * (MAX_AMOUNT * WIDE_SOLUTION)) sums.new }
+    ensures each { let vector = vector_of net.now (slice_index base.now j) in
+        (s : ℕ) → s < length net.now.names
+        → entry sums.new s ≡ entry sums.old s +ℤ (number.now *ℤ entry vector s) }
+{
+    let vector = vector_of(net, base[j]);
+    if j < skips.len() {
+        add_multiple(sums, number, vector, &skips[j], j);
+        return;
+    }
+    add_multiple(sums, number, vector, &skips_of(vector), j);
+}
+
 // Puts the combination of the base with the numbers after the first into the sums, whatever was in them.
 fn put_combination(net: &Network, base: &[u32], skips: &[Skips], comb: &[i128], sums: &mut Sums)
     requires base { IsBase net.now base.now }
@@ -52,8 +78,7 @@ fn put_combination(net: &Network, base: &[u32], skips: &[Skips], comb: &[i128], 
     *sums = [0; MAX_SPECIES];
     for j in 0..base.len() {
         if !is_nought(&comb[j + 1]) {
-            let places = skips_at(net, base, skips, j);
-            add_multiple(sums, &comb[j + 1], vector_of(net, base[j]), &places, j);
+            add_member(net, base, skips, j, &comb[j + 1], sums);
         }
     }
 }

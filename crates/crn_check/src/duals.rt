@@ -1,5 +1,5 @@
-ghost use Rattle.std.specs.Prelude.{◌≡◌, ◌↔◌, ◌<◌, ◌^◌, IsTrue, length};
-ghost use Rattle.crn_vec.specs.Vectors.{AreWithin};
+ghost use Rattle.std.specs.Prelude.{◌≡◌, ◌↔◌, ◌<◌, ◌^◌, IsTrue, length, slice_index};
+ghost use Rattle.crn_vec.specs.Vectors.{AreWithin, dot};
 ghost use Rattle.crn_vec.specs.declared.limits.TheConstants.{MAX_AMOUNT};
 ghost use Rattle.crn_cert.specs.Ranges.{IsFrom, AreFree, AreFreeRows};
 ghost use Rattle.crn_cert.specs.RankTests.{IsDual, dual_tests, vector_of, vectors_of};
@@ -8,10 +8,9 @@ ghost use Rattle.crn_check.specs.Inner.Bases.{IsBase};
 ghost use Rattle.crn_check.specs.Inner.Skips.{AreSkipsOf};
 
 use crate::fault::CheckFault;
-use crate::skips::skips_at;
 use crn_cert::Rows;
 use crn_net::Network;
-use crn_vec::{Skips, dot_past};
+use crn_vec::{Skips, dot_past, skips_of};
 
 // The vector of a reaction, counted from 1.
 pub(crate) fn vector_of(net: &Network, reaction: u32) -> &[i128]
@@ -23,6 +22,21 @@ pub(crate) fn vector_of(net: &Network, reaction: u32) -> &[i128]
     net.reaction_vector(reaction as usize - 1)
 }
 
+// The product of a list with the vector of member j of a base. No network has a base with more members than skips.
+fn product_with(net: &Network, base: &[u32], skips: &[Skips], j: usize, list: &[i128]) -> i128
+    requires base { IsBase net.now base.now }
+    requires skips { AreSkipsOf net.now base.now skips.now }
+    requires member { j < length base.now }
+    requires list { AreFree (length net.now.names) list.now }
+    ensures { result ≡ dot list.now (vector_of net.now (slice_index base.now j)) }
+{
+    let vector = vector_of(net, base[j]);
+    if j < skips.len() {
+        return dot_past(list, vector, &skips[j]);
+    }
+    dot_past(list, vector, &skips_of(vector))
+}
+
 // Whether a list is the dual of member i of the base.
 fn is_dual(net: &Network, base: &[u32], skips: &[Skips], i: usize, dual: &[i128]) -> bool
     requires base { IsBase net.now base.now }
@@ -32,8 +46,7 @@ fn is_dual(net: &Network, base: &[u32], skips: &[Skips], i: usize, dual: &[i128]
     ensures { IsTrue result ↔ IsDual (vectors_of net.now base.now) i dual.now }
 {
     for j in 0..base.len() {
-        let places = skips_at(net, base, skips, j);
-        let product = dot_past(dual, vector_of(net, base[j]), &places);
+        let product = product_with(net, base, skips, j, dual);
         if i == j && product == 0 {
             return false;
         }

@@ -1,9 +1,6 @@
-ghost use Rattle.std.specs.Prelude.{◌<◌, length, slice_index};
 ghost use Rattle.crn_vec.specs.declared.limits.TheConstants.{MAX_SPECIES};
-ghost use Rattle.crn_cert.specs.RankTests.{vector_of};
 ghost use Rattle.crn_check.specs.Inner.Bases.{IsBase};
 ghost use Rattle.crn_check.specs.Inner.Skips.{AreSkipsOf};
-ghost use Rattle.crn_vec.specs.Skips.{AreSkips};
 
 use crate::duals::vector_of;
 use crn_net::Network;
@@ -21,19 +18,5 @@ pub(crate) fn put_skips(net: &Network, base: &[u32], all: &mut [Skips; MAX_SPECI
 {
     for j in 0..base.len().min(MAX_SPECIES) {
         all[j] = skips_of(vector_of(net, base[j]));
-    }
-}
-
-/// The places at which the vector of member j of a base is not 0. A base with more members than species is of none.
-pub(crate) fn skips_at(net: &Network, base: &[u32], all: &[Skips], j: usize) -> Skips
-    requires base { IsBase net.now base.now }
-    requires skips { AreSkipsOf net.now base.now all.now }
-    requires member { j < length base.now }
-    ensures { AreSkips (vector_of net.now (slice_index base.now j)) result }
-{
-    if j < all.len() {
-        all[j]
-    } else {
-        skips_of(vector_of(net, base[j]))
     }
 }

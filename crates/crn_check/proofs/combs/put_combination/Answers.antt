@@ -1,4 +1,4 @@
-use Rattle.crn_check.proofs.Prelude.{◌≡◌, ◌<◌, ◌*◌, ◌+◌, ◌∙◌, ℕ, List, suc, length, take, drop, ap, ap₂, sym, subst, arith, take_all, ℤ, pos, ◌+ℤ◌, ◌*ℤ◌, get_or-drop, length-drop, AreWithin, dot, column, entry, MAX_AMOUNT, WIDE_SOLUTION, dot_step, entry-column, length-column, entry_of_zeros, nought_adds, within_more, zeros_within, vector_of, vectors_of}
+use Rattle.crn_check.proofs.Prelude.{◌≡◌, ◌<◌, ◌*◌, ◌+◌, ◌∙◌, ℕ, List, suc, length, get_or, take, drop, ap, ap₂, sym, subst, arith, take_all, ℤ, pos, ◌+ℤ◌, ◌*ℤ◌, get_or-drop, length-drop, AreWithin, dot, column, entry, MAX_AMOUNT, WIDE_SOLUTION, dot_step, entry-column, length-column, entry_of_zeros, nought_adds, within_more, zeros_within, vector_of, vectors_of}
 use Rattle.crn_check.proofs.RankParts.{vector_at, length_vectors}
 use Rattle.crn_check.proofs.combs.put_combination.Goals.{then-not-is_nought, else-not-is_nought}
 use Rattle.crn_check.proofs.combs.put_combination.Goals as goal
@@ -26,11 +26,11 @@ loop-j-preserved c =
     elim c.if-not-is_nought.branch [
       | then-not-is_nought b ↦ record {
         each = λ s lt.
-            let at : entry b.vector_of.result.now s ≡ entry (column vs s) j =
-            ap (λ (v : List ℤ). entry v s) (b.vector_of.ensures.value ∙ sym (vector_at net base j inside)) ∙ sym (entry-column vs s j) in
-            ap (λ (l : List ℤ). entry l s) b.sums-is ∙ b.add_multiple.ensures.each s (omega (arith, lt, b.vector_of.ensures.width))
+            let at : entry (vector_of net (get_or base j 0)) s ≡ entry (column vs s) j =
+            ap (λ (v : List ℤ). entry v s) (sym (vector_at net base j inside)) ∙ sym (entry-column vs s j) in
+            ap (λ (l : List ℤ). entry l s) b.sums-is ∙ b.add_member.ensures.each s lt
             ∙ ap₂ (λ (x y : ℤ). x +ℤ y) (h.each s lt) (ap₂ (λ (x y : ℤ). x *ℤ y) number at) ∙ sym (step s);
-        within = within_more (suc j * bound) ((j + 1) * bound) new (omega arith) (subst (AreWithin (suc j * bound)) (sym b.sums-is) b.add_multiple.ensures.within);
+        within = within_more (suc j * bound) ((j + 1) * bound) new (omega arith) (subst (AreWithin (suc j * bound)) (sym b.sums-is) b.add_member.ensures.within);
       }
       | else-not-is_nought b ↦ record {
         each = λ s lt.

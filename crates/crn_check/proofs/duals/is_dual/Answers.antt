@@ -1,14 +1,8 @@
-use Rattle.crn_check.proofs.Prelude.{◌≡◌, ◌≢◌, ◌<◌, List, length, inr, sym, ap, subst, ◌∙◌, arith, of_z, ℤ, pos, w128, ints, AreSkips, refused, vectors_of, narrow_within}
+use Rattle.crn_check.proofs.Prelude.{◌≡◌, ◌≢◌, ◌<◌, length, get_or, refl, sym, ap, ◌∙◌, arith, of_z, pos, w128, ints, refused, vector_of, vectors_of}
 use Rattle.crn_check.proofs.Decided.{granted}
 use Rattle.crn_check.proofs.RankParts.{product_at, length_vectors, own_next, others_next}
 use Rattle.crn_check.proofs.duals.is_dual.Goals as goal
 use Rattle.crn_check.proofs.duals.is_dual.Goals.{else-i-j-via-then-i-j+else-product-eq0, else-i-j-via-else-i-j, else-i-j-2-via-then-i-j-2+else-product-ne0, else-i-j-2-via-else-i-j-2}
-
-pub dot_past-product-requires-clause-a : goal.dot_past-product-requires-clause-a
-dot_past-product-requires-clause-a c = narrow_within c.args.dual.now c.requires.dual.each
-
-pub dot_past-product-requires-clause-skips : goal.dot_past-product-requires-clause-skips
-dot_past-product-requires-clause-skips c = inr (subst (λ (v : List ℤ). AreSkips v c.skips_at-places.result) (sym c.vector_of.ensures.value) c.skips_at-places.ensures)
 
 pub returns-then-product-ne0 : goal.returns-then-product-ne0
 returns-then-product-ne0 c =
@@ -16,7 +10,7 @@ returns-then-product-ne0 c =
     let base = c.args.base.now in
     let j = c.loop-j.j in
     let inside : j < length base = omega arith in
-    let is = product_at net base c.args.dual.now c.vector_of.result.now c.dot_past-product.result j inside c.vector_of.ensures.value c.dot_past-product.ensures in
+    let is = product_at net base c.args.dual.now (vector_of net (get_or base j 0)) c.product_with-product.result j inside refl c.product_with-product.ensures in
     refused (λ h. c.if-product-ne0.true (ap (of_z w128) (sym is ∙ h.others j (omega (arith, inside, length_vectors net base)) (λ e. c.if-i-j-2.true e))))
 
 pub loop-j-preserved : goal.loop-j-preserved
@@ -27,9 +21,9 @@ loop-j-preserved c =
     let dual = c.args.dual.now in
     let i = c.args.i in
     let j = c.loop-j.j in
-    let p = c.dot_past-product.result in
+    let p = c.product_with-product.result in
     let inside : j < length base = omega arith in
-    let is = product_at net base dual c.vector_of.result.now p j inside c.vector_of.ensures.value c.dot_past-product.ensures in
+    let is = product_at net base dual (vector_of net (get_or base j 0)) p j inside refl c.product_with-product.ensures in
     let own : i ≡ j → p ≢ pos 0 = elim c.else-i-j.branch as (λ _. i ≡ j → p ≢ pos 0) [
       | else-i-j-via-then-i-j+else-product-eq0 w ↦ λ e z. w.if-product-eq0.false (ap (of_z w128) z)
       | else-i-j-via-else-i-j w ↦ λ e z. w.if-i-j.false e
