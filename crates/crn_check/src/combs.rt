@@ -18,10 +18,16 @@ use crn_net::Network;
 use crn_vec::{MAX_SPECIES, Skips, is_nought, skips_of, times};
 
 // A number for each species, and more at the places past the last species.
-type Sums = [i128; MAX_SPECIES];
+pub(crate) type Sums = [i128; MAX_SPECIES];
 
 // Adds a multiple of a vector to the sums at its places.
-fn add_multiple(sums: &mut Sums, number: &i128, vector: &[i128], skips: &[u8], most: usize)
+pub(crate) fn add_multiple(
+    sums: &mut Sums,
+    number: &i128,
+    vector: &[i128],
+    skips: &[u8],
+    most: usize,
+)
     requires number { unsigned_abs number.now < WIDE_SOLUTION }
     requires width { length vector.now ≤ MAX_SPECIES }
     requires vector { AreWithin MAX_AMOUNT vector.now }

@@ -1,26 +1,32 @@
 ghost use Rattle.std.specs.Prelude.{◌≡◌, ◌↔◌, ◌≤◌, ◌<◌, ◌==◌, ◌*ℤ◌, ℕ, if◌then◌else◌, pos, IsTrue, length, unsigned_abs};
 ghost use Rattle.crn_vec.specs.declared.limits.TheConstants.{WIDE_SOLUTION};
-ghost use Rattle.crn_vec.specs.Vectors.{dot};
+ghost use Rattle.crn_vec.specs.Vectors.{dot, entry};
 ghost use Rattle.crn_vec.specs.Rank.{combination_at};
 ghost use Rattle.crn_vec.specs.Sums.{label_marks};
 ghost use Rattle.crn_cert.specs.Ranges.{AreFree, IsFrom};
 ghost use Rattle.crn_cert.specs.ConfluenceTests.{IsInSpace};
 ghost use Rattle.crn_check.specs.Inner.Spaces.{AreSumsZero, IsApart, IsBalanced};
 
+use crate::combs::{Sums, add_multiple};
 use crn_net::Network;
-use crn_vec::times;
+use crn_vec::{MAX_SPECIES, is_nought, skips_of};
 
-// The amount of a species in the combination of the complexes with these numbers.
-fn amount_in(net: &Network, numbers: &[i128], s: usize) -> i128
-    requires numbers { AreFree (length net.now.complexes) numbers.now }
-    requires species { s < length net.now.names }
-    ensures { result ≡ combination_at numbers.now net.now.complexes s }
+// The amounts of the species in the combination of the complexes with these numbers, of which most are 0.
+fn combination_of(net: &Network, numbers: &[i128]) -> Sums
+    requires { AreFree (length net.now.complexes) numbers.now }
+    ensures { (s : ℕ) → s < length net.now.names
+        → entry result s ≡ combination_at numbers.now net.now.complexes s }
 {
-    let mut sum = 0;
+    // It is called for what it says of the network: no network is larger than its limits.
+    let _species = net.species();
+    let mut sums = [0; MAX_SPECIES];
     for c in 0..net.complexes() {
-        sum += times(&numbers[c], &net.vector(c)[s]);
+        if !is_nought(&numbers[c]) {
+            let vector = net.vector(c);
+            add_multiple(&mut sums, &numbers[c], vector, &skips_of(vector), c);
+        }
     }
-    sum
+    sums
 }
 
 // The number if the label is that of the class, else 0.
@@ -50,8 +56,9 @@ fn is_balanced(net: &Network, numbers: &[i128]) -> bool
     requires { AreFree (length net.now.complexes) numbers.now }
     ensures { IsTrue result ↔ IsBalanced net.now numbers.now }
 {
+    let amounts = combination_of(net, numbers);
     for s in 0..net.species() {
-        if amount_in(net, numbers, s) != 0 {
+        if !is_nought(&amounts[s]) {
             return false;
         }
     }
