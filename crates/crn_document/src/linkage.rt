@@ -117,8 +117,10 @@ pub(crate) fn complexes_of(labels: &[u32], class: u32) -> u32
     match labels.split_first() {
         None => 0,
         Some((label, rest)) => {
+            // Compared before the call, so that nothing but a sum is left after it, and the calls become a loop.
+            let is_there = *label == class;
             let count = complexes_of(rest, class);
-            if *label == class { count + 1 } else { count }
+            if is_there { count + 1 } else { count }
         }
     }
 }
