@@ -25,4 +25,5 @@ mod SignalTrees
 mod Kept
 mod Digits
 mod Naming
+mod HeldLists
 mod Prelude

@@ -73,6 +73,7 @@ pub use Rattle.crn_document.specs.Inner.Blocks.{HeadHolds, IsAfter, IsAt, IsBloc
 pub use Rattle.crn_document.specs.Inner.Courses.{IsSaidIn, IsWhole, last_course, rest_course, whole_course}
 pub use Rattle.crn_document.specs.Inner.Ending.{asks_end}
 pub use Rattle.crn_document.specs.Inner.Heads.{FitsCounts, HasClassSizes, IsHead, class_count, head_forms, known_of, tagged}
+pub use Rattle.crn_document.specs.Inner.Lists.{AreSpans, span_of, spans_of}
 pub use Rattle.crn_document.specs.Inner.Met.{AreMet, IsCutOf, IsDueNodeLine, IsMet, IsMetAt, IsNodeLineAs, SaysPlainly, plain_node}
 pub use Rattle.crn_document.specs.Inner.Parts.{FitParts, IsKnown, IsLinkage, before, class_counts, class_part, class_parts, is_in_class, members_of, parts_below, parts_by}
 pub use Rattle.crn_document.specs.Inner.Plain.{IsPlain, plain_form}
@@ -128,7 +129,7 @@ pub use Rattle.std.proofs.Math.Seq.{get_or-append_seam}
 pub use Rattle.std.proofs.lemmas.Bool.{cases_eq, cases_lt, eq-eqb, eqb-true, false≢true, ne_eqb}
 pub use Rattle.std.proofs.lemmas.Fmt.{decimal_digit, decimal_nonempty, decimal_step}
 pub use Rattle.std.proofs.lemmas.Int.{ints, to_z-of_z}
-pub use Rattle.std.proofs.lemmas.List.{append-nil, drop-drop, drop-map, drop-take, length-append, length-map, length-replicate, map-append, take-map}
+pub use Rattle.std.proofs.lemmas.List.{append-nil, drop-append-le, drop-drop, drop-map, drop-take, get_or-map, length-append, length-drop, length-map, length-replicate, map-append, take-append-le, take-map}
 pub use Rattle.std.proofs.lemmas.List.Elements.{filter-append}
 pub use Rattle.std.proofs.lemmas.List.FromFn.{length-map-range_with_len, length-range_with_len}
 pub use Rattle.std.proofs.lemmas.Result.{err_from_is_err_and}

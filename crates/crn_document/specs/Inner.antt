@@ -12,3 +12,4 @@ pub mod Table
 pub mod Ending
 pub mod Trees
 pub mod Met
+pub mod Lists

@@ -8,10 +8,11 @@ ghost use Rattle.crn_document.specs.Inner.Answers.{FitAnswer, proof_of_head};
 
 use crate::block::Block;
 use crate::kind::kind_at;
+use crate::lists::Lists;
 use crate::numbers::{later_numbers, number_of};
 use crate::proof::proof_of;
 use crate::verdict::verdict_of;
-use crn_cert::{Answer, Rows, Verdict};
+use crn_cert::{Answer, Verdict};
 use crn_vec::NoMemory;
 use std::alloc::Global;
 
@@ -23,7 +24,7 @@ pub(crate) fn bare_verdict(alloc: Global, question: u32, head: &[i128]) -> Resul
     ensures { IfOk result (λ v. v ≡ verdict_of_head (asked question) head.now []) }
 {
     let kind = kind_at(question, number_of(head, 0));
-    let none = Rows::new(alloc)?;
+    let none = Lists::new(alloc)?;
     verdict_of(alloc, kind, later_numbers(head), &none)
 }
 

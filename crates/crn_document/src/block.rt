@@ -20,6 +20,7 @@ ghost use Rattle.crn_document.specs.Inner.Blocks.{HeadHolds, IsAfter, IsBlock, I
 use crate::answer::{answer_of, bare_verdict};
 use crate::head::next_head;
 use crate::linkage::linkage_of;
+use crate::lists::Lists;
 use crate::numbers::number_of;
 use crate::parts::{Part, parts_of};
 use crate::rows::{Below, next_rows, rows_below};
@@ -52,7 +53,7 @@ pub(crate) struct Block<'a> {
     pub(crate) line: u32,
     pub(crate) head: &'a [i128],
     pub(crate) parts: &'a [Part],
-    pub(crate) rows: &'a Rows,
+    pub(crate) rows: &'a Lists,
 }
 
 // Tests the records of an answer that no tree shows, and makes its verdict one of the facts.
@@ -272,7 +273,7 @@ fn read_rows<S: Source>(
         &parts,
     )?;
     let mut members = Nums::with_room(at.alloc, net.reactions())?;
-    let mut rows = Rows::new(at.alloc)?;
+    let mut rows = Lists::new(at.alloc)?;
     let below = Below {
         net,
         labels,

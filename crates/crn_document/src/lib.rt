@@ -10,6 +10,7 @@ mod fact;
 mod head;
 mod kind;
 mod linkage;
+mod lists;
 mod met;
 mod node;
 mod numbers;

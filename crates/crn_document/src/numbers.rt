@@ -3,7 +3,7 @@ ghost use Rattle.crn_ctext.specs.Meaning.{number, nums, ints, row};
 ghost use Rattle.crn_ctext.specs.Questions.{later_numbers};
 ghost use Rattle.crn_document.specs.Inner.Answer.{AreSmall, IsSmall};
 
-use crn_cert::Rows;
+use crate::lists::Lists;
 use crn_vec::{Ints, NoMemory, Nums};
 use std::alloc::Global;
 
@@ -68,7 +68,7 @@ pub(crate) fn nums_of(alloc: Global, row: &[i128]) -> Result<Nums, NoMemory>
 }
 
 // The numbers of the record at this place, counted from 0, and none if there is no such record.
-pub(crate) fn row_at(rows: &Rows, i: usize) -> &[i128]
+pub(crate) fn row_at(rows: &Lists, i: usize) -> &[i128]
     ensures { result.now ≡ row rows.now i }
 {
     if i < rows.len() {
@@ -78,7 +78,7 @@ pub(crate) fn row_at(rows: &Rows, i: usize) -> &[i128]
 }
 
 // The absolute values of the numbers of that record, which are small.
-pub(crate) fn nums_at(alloc: Global, rows: &Rows, i: usize) -> Result<Nums, NoMemory>
+pub(crate) fn nums_at(alloc: Global, rows: &Lists, i: usize) -> Result<Nums, NoMemory>
     requires { AreSmall (row rows.now i) }
     ensures { IfOk result (λ made. made ≡ nums (row rows.now i)) }
 {
@@ -86,7 +86,7 @@ pub(crate) fn nums_at(alloc: Global, rows: &Rows, i: usize) -> Result<Nums, NoMe
 }
 
 // The numbers of that record as a list.
-pub(crate) fn ints_at(alloc: Global, rows: &Rows, i: usize) -> Result<Ints, NoMemory>
+pub(crate) fn ints_at(alloc: Global, rows: &Lists, i: usize) -> Result<Ints, NoMemory>
     ensures { IfOk result (λ made. made ≡ ints (row rows.now i)) }
 {
     Ints::from_slice(alloc, row_at(rows, i))

@@ -7,6 +7,7 @@ ghost use Rattle.crn_document.specs.Inner.Answer.{AreSmall};
 ghost use Rattle.crn_document.specs.Inner.Answers.{FitProof, part_proofs};
 ghost use Rattle.crn_document.specs.Inner.Parts.{FitParts};
 
+use crate::lists::Lists;
 use crate::numbers::{later_numbers, number_of, nums_at};
 use crate::parts::Part;
 use crn_cert::{HeadKind, Proof, RankList, RankProof, Rows};
@@ -16,7 +17,7 @@ use std::alloc::Global;
 // Adds the records from record i on and before record end, counted from 0.
 fn push_rows(
     alloc: Global,
-    rows: &Rows,
+    rows: &Lists,
     i: usize,
     end: usize,
     into: &mut Rows,
@@ -33,7 +34,7 @@ fn push_rows(
 }
 
 // The records from record i on and before record end, counted from 0.
-fn some_rows(alloc: Global, rows: &Rows, i: usize, end: usize) -> Result<Rows, NoMemory>
+fn some_rows(alloc: Global, rows: &Lists, i: usize, end: usize) -> Result<Rows, NoMemory>
     requires order { i ≤ end }
     requires inside { end ≤ length rows.now }
     ensures { IfOk result (λ made. made ≡ take (end - i) (drop i rows.now)) }
@@ -46,7 +47,7 @@ fn some_rows(alloc: Global, rows: &Rows, i: usize, end: usize) -> Result<Rows, N
 // The proof of a rank by a base, which is record i, and the records after it and before record end, counted from 0.
 fn rank_proof(
     alloc: Global,
-    rows: &Rows,
+    rows: &Lists,
     i: usize,
     rank: u32,
     end: usize,
@@ -68,7 +69,7 @@ fn rank_proof(
 // Adds the proofs of these ranks by the last records, `last` in number.
 fn push_proofs(
     alloc: Global,
-    rows: &Rows,
+    rows: &Lists,
     last: usize,
     parts: &[Part],
     into: &mut RankList,
@@ -90,7 +91,7 @@ fn push_proofs(
 }
 
 // The proofs of these ranks by all records.
-fn rank_proofs(alloc: Global, parts: &[Part], rows: &Rows) -> Result<RankList, NoMemory>
+fn rank_proofs(alloc: Global, parts: &[Part], rows: &Lists) -> Result<RankList, NoMemory>
     requires { FitParts parts.now rows.now }
     ensures { IfOk result (λ made. made ≡ part_proofs parts.now rows.now) }
 {
@@ -100,7 +101,7 @@ fn rank_proofs(alloc: Global, parts: &[Part], rows: &Rows) -> Result<RankList, N
 }
 
 // Adds the marks of the sides from record i on, counted from 0.
-fn push_marks(alloc: Global, rows: &Rows, i: usize, into: &mut Rows) -> Result<(), NoMemory>
+fn push_marks(alloc: Global, rows: &Lists, i: usize, into: &mut Rows) -> Result<(), NoMemory>
     requires { i ≤ length rows.now }
     ensures { OnOk result (into.new ≡ into.old ++ map later_numbers (drop i rows.now)) }
 {
@@ -112,7 +113,7 @@ fn push_marks(alloc: Global, rows: &Rows, i: usize, into: &mut Rows) -> Result<(
 }
 
 // The marks of all sides.
-fn marks_of(alloc: Global, rows: &Rows) -> Result<Rows, NoMemory>
+fn marks_of(alloc: Global, rows: &Lists) -> Result<Rows, NoMemory>
     ensures { IfOk result (λ made. made ≡ map later_numbers rows.now) }
 {
     let mut made = Rows::new(alloc)?;
@@ -121,7 +122,7 @@ fn marks_of(alloc: Global, rows: &Rows) -> Result<Rows, NoMemory>
 }
 
 // The records without the first `count`.
-fn rows_after(alloc: Global, rows: &Rows, count: usize) -> Result<Rows, NoMemory>
+fn rows_after(alloc: Global, rows: &Lists, count: usize) -> Result<Rows, NoMemory>
     ensures { IfOk result (λ made. made ≡ drop count rows.now) }
 {
     if count < rows.len() {
@@ -137,7 +138,7 @@ pub(crate) fn proof_of(
     question: u32,
     parts: &[Part],
     head: &[i128],
-    rows: &Rows,
+    rows: &Lists,
 ) -> Result<Proof, NoMemory>
     requires built { IsBuilt question }
     requires small { AreSmall head.now }

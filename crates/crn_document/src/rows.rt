@@ -15,16 +15,16 @@ ghost use Rattle.crn_cert.specs.Valid.{strong, exits};
 ghost use Rattle.crn_check.specs.Check.{IsBuilt};
 
 use crate::linkage::fill_members;
+use crate::lists::Lists;
 use crate::parts::Part;
 use crate::sizes::net_sizes;
 use crate::strong::{pairs_in, strong_of};
-use crn_cert::Rows;
 use crn_check::Facts;
 use crn_ctext::{Due, Expect, Word};
 use crn_io::{NoMemory, Source};
 use crn_net::Network;
 use crn_reading::{CheckStop, Reading, next_record};
-use crn_vec::{Ints, Nums};
+use crn_vec::Nums;
 use std::alloc::Global;
 
 // A record below a head.
@@ -358,7 +358,7 @@ fn next_row<S: Source>(
     below: &Below,
     row: Row,
     members: &mut Nums,
-    into: &mut Rows,
+    into: &mut Lists,
 ) -> Result<(), CheckStop>
     requires goes { GoesOn at.old }
     requires few { below.now.classes ≤ MAX_COMPLEXES }
@@ -375,7 +375,7 @@ fn next_row<S: Source>(
     fill_base(below, row, members)?;
     let expect = row_expect(at.version, below, row, members.as_slice());
     next_record(source, at, &expect)?;
-    into.push(Ints::from_slice(at.alloc, at.numbers.as_slice())?)?;
+    into.push(at.numbers.as_slice())?;
     Ok(())
 }
 
@@ -386,7 +386,7 @@ pub(crate) fn next_rows<S: Source>(
     below: &Below,
     rows: &[Row],
     members: &mut Nums,
-    into: &mut Rows,
+    into: &mut Lists,
 ) -> Result<(), CheckStop>
     requires goes { GoesOn at.old }
     requires few { below.now.classes ≤ MAX_COMPLEXES }

@@ -2,10 +2,11 @@ ghost use Rattle.std.specs.Prelude.{◌≡◌, ℤ, List, pos, slice_index_or, I
 ghost use Rattle.crn_ctext.specs.Meaning.{turn_of, verdict_by};
 ghost use Rattle.crn_document.specs.Inner.Answer.{AreSmall, AreSmallAt, HasInts, HasNums, IsOpen, kept};
 
+use crate::lists::Lists;
 use crate::numbers::{
     after, entry_of, ints_at, later_numbers, number_of, nums_at, nums_of, row_at,
 };
-use crn_cert::{Gap, HeadKind, Rows, Verdict};
+use crn_cert::{Gap, HeadKind, Verdict};
 use crn_vec::NoMemory;
 use std::alloc::Global;
 
@@ -14,7 +15,7 @@ fn nums_verdict(
     alloc: Global,
     kind: HeadKind,
     head: &[i128],
-    rows: &Rows,
+    rows: &Lists,
 ) -> Result<Verdict, NoMemory>
     requires kind { HasNums kind }
     requires small { AreSmall head.now }
@@ -64,7 +65,7 @@ fn ints_verdict(
     alloc: Global,
     kind: HeadKind,
     head: &[i128],
-    rows: &Rows,
+    rows: &Lists,
 ) -> Result<Verdict, NoMemory>
     requires kind { HasInts kind }
     requires small { AreSmall head.now }
@@ -119,7 +120,7 @@ pub(crate) fn verdict_of(
     alloc: Global,
     kind: HeadKind,
     head: &[i128],
-    rows: &Rows,
+    rows: &Lists,
 ) -> Result<Verdict, NoMemory>
     requires small { AreSmall head.now }
     requires kept { AreSmallAt (kept kind) rows.now }
