@@ -1,5 +1,5 @@
 -- Lists of numbers that are held in one list, with one more.
-use Rattle.crn_document.proofs.Prelude.{◌≡◌, ◌≤◌, ◌+◌, ◌-◌, ◌++◌, ◌∙◌, ℕ, zero, suc, List, [], ◌∷◌, length, take, drop, refl, ap, ap₂, arith, ℤ, length-append, map-append, drop-append-le, length-drop, take-append-le, AreSpans, span_of, spans_of}
+use Rattle.crn_document.proofs.Prelude.{◌≡◌, ◌≤◌, ◌+◌, ◌-◌, ◌++◌, ◌∙◌, ℕ, zero, suc, List, [], ◌∷◌, length, take, drop, refl, ap, ap₂, arith, ℤ, length-append, map-append, drop-append-le, length-drop, take-append-le, AreSpans, span_of, spans_of, drop-append_seam}
 
 -- numbers after a span leave it as it is
 span_same : (numbers more : List ℤ) (s : ℕ × ℕ) → s.0 ≤ s.1 → s.1 ≤ length numbers → span_of (numbers ++ more) s ≡ span_of numbers s
@@ -11,10 +11,6 @@ spans_same : (numbers more : List ℤ) (spans : List (ℕ × ℕ)) → AreSpans 
 spans_same numbers more [] h = refl
 spans_same numbers more (s ∷ spans) h = ap₂ (λ (x : List ℤ) (xs : List (List ℤ)). x ∷ xs) (span_same numbers more s h.0.0 h.0.1) (spans_same numbers more spans h.1)
 
-drop_front : (numbers more : List ℤ) → drop (length numbers) (numbers ++ more) ≡ more
-drop_front [] more = refl
-drop_front (z ∷ numbers) more = drop_front numbers more
-
 take_whole : (numbers : List ℤ) (n : ℕ) → n ≡ length numbers → take n numbers ≡ numbers
 take_whole [] zero e = refl
 take_whole [] (suc n) e = refl
@@ -25,7 +21,7 @@ take_whole (z ∷ numbers) (suc n) e = ap (λ (t : List ℤ). z ∷ t) (take_who
 span_last : (numbers more : List ℤ) (start end : ℕ) → start ≡ length numbers → end ≡ length (numbers ++ more) → span_of (numbers ++ more) (start, end) ≡ more
 span_last numbers more start end from to =
     ap (λ (k : ℕ). take (end - start) (drop k (numbers ++ more))) from
-    ∙ ap (take (end - start)) (drop_front numbers more)
+    ∙ ap (take (end - start)) (drop-append_seam numbers more)
     ∙ take_whole more (end - start) (omega (arith, from, to, length-append numbers more))
 
 -- with one list more

@@ -125,7 +125,7 @@ pub use Rattle.crn_vec.specs.declared.limits.TheConstants.{MAX_COMPLEXES, MAX_RE
 pub use Rattle.crn_vec.specs.declared.signs.Sign.{Sign}
 pub use Rattle.crn_vec.specs.declared.signs.Sign.TheVariants.{Minus, Plus, Zero}
 pub use Rattle.std.proofs.Common.{Bool, Bor, Err, List, Ok, OnOk, Option, Result, [], ap, append_assoc, ap₂, arith, cond, drop, false, get_or, inl, inr, length, map, of_z, refl, replicate, rules, subst, suc, sym, take, to_z, true, w32, zero, ℕ, ◌%◌, ◌&&◌, ◌++◌, ◌+◌, ◌-◌, ◌/◌, ◌<◌, ◌==◌, ◌^◌, ◌∙◌, ◌∷◌, ◌≡◌, ◌≢◌, ◌≤◌, ◌⊎◌}
-pub use Rattle.std.proofs.Math.Seq.{get_or-append_seam}
+pub use Rattle.std.proofs.Math.Seq.{drop-append_seam, get_or-append_seam}
 pub use Rattle.std.proofs.lemmas.Bool.{cases_eq, cases_lt, eq-eqb, eqb-true, false≢true, ne_eqb}
 pub use Rattle.std.proofs.lemmas.Fmt.{decimal_digit, decimal_nonempty, decimal_step}
 pub use Rattle.std.proofs.lemmas.Int.{ints, to_z-of_z}

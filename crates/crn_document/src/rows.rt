@@ -141,6 +141,7 @@ fn push_part(into: &mut Vec<Row>, part: Part) -> Result<(), NoMemory>
     ensures { OnOk result (into.new.items ≡ into.old.items ++ part_rows part) }
 {
     let rank = part.rank;
+    into.reserve(1 + part.count as usize)?;
     into.push(Row::Base {
         class: part.class,
         rank,
