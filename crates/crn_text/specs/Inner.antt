@@ -4,4 +4,5 @@ pub mod Flaws
 pub mod Known
 pub mod Said
 pub mod Held
+pub mod Noughts
 pub mod Found

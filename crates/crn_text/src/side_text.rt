@@ -1,9 +1,10 @@
-ghost use Rattle.std.specs.Prelude.{◌≡◌, ◌≤◌, ◌<◌, ◌+◌, ◌*◌, ◌++◌, [], ◌∷◌, pos, ◌<ℤ◌, ◌≤ℤ◌, codes, decimal, length, take, List, ℕ};
+ghost use Rattle.std.specs.Prelude.{◌≡◌, ◌↔◌, ◌≤◌, ◌<◌, ◌+◌, ◌*◌, ◌++◌, [], ◌∷◌, pos, ◌<ℤ◌, ◌≤ℤ◌, codes, decimal, length, take, List, ℕ, IsTrue, IfSome};
 ghost use Rattle.crn_io.specs.Joined.{with_separator};
 ghost use Rattle.crn_text.specs.Canonical.{term, complex_text};
+ghost use Rattle.crn_text.specs.Inner.Noughts.{AreNoughts, HasNoughts};
 
 use crn_net::Network;
-use crn_vec::{MAX_AMOUNT, MAX_NAME, MAX_SPECIES};
+use crn_vec::{MAX_AMOUNT, MAX_NAME, MAX_SPECIES, is_nought};
 use std::marker::Model;
 
 // The most bytes of a term: a plus sign between blanks, two digits and a name.
@@ -136,7 +137,57 @@ fn put_amount(bytes: &mut [u8], at: usize, before: usize, amount: i128) -> usize
     end
 }
 
-// Puts the text of complex c, counted from 0, at the start of a buffer that has room for any.
+// Whether both hold, by one test.
+fn both(left: bool, right: bool) -> bool
+    ensures { IsTrue result ↔ (IsTrue left × IsTrue right) }
+{
+    left & right
+}
+
+// The amounts after the first four, if these are 0.
+fn after_four(amounts: &[i128]) -> Option<&[i128]>
+    ensures { IfSome result (λ rest. HasNoughts 4 amounts.now rest.now) }
+{
+    match amounts {
+        [a, b, c, d, rest @ ..] => {
+            let ab = both(is_nought(a), is_nought(b));
+            let cd = both(is_nought(c), is_nought(d));
+            if both(ab, cd) {
+                return Some(rest);
+            }
+            None
+        }
+        _ => None,
+    }
+}
+
+// How many amounts at the start are 0, one by one.
+fn last_noughts(amounts: &[i128]) -> usize
+    ensures { AreNoughts result amounts.now }
+{
+    match amounts {
+        [amount, rest @ ..] => {
+            if !is_nought(amount) {
+                return 0;
+            }
+            1 + last_noughts(rest)
+        }
+        [] => 0,
+    }
+}
+
+// How many amounts at the start are 0, four at a time while there are as many.
+fn noughts(amounts: &[i128]) -> usize
+    ensures { AreNoughts result amounts.now }
+{
+    match after_four(amounts) {
+        Some(rest) => 4 + noughts(rest),
+        None => last_noughts(amounts),
+    }
+}
+
+// Puts the text of complex c, counted from 0, at the start of a buffer that has room for any. After a species of which
+// there is none come mostly others.
 fn put_complex(bytes: &mut [u8], net: &Network, c: usize) -> usize
     requires complex { c < length net.now.complexes }
     requires room { ROOM ≤ length bytes.old }
@@ -144,16 +195,21 @@ fn put_complex(bytes: &mut [u8], net: &Network, c: usize) -> usize
     ensures inside { result ≤ length bytes.new }
 {
     let vector = net.vector(c);
+    let species = net.species();
     let mut shown = 0usize;
     let mut end = 0usize;
-    for s in 0..net.species() {
+    let mut s = 0usize;
+    while s < species {
         if vector[s] == 0 {
+            let (_, rest) = vector.split_at(s + 1);
+            s += 1 + noughts(rest);
             continue;
         }
         let next = put_amount(bytes, end, shown, vector[s]);
         let (block, size) = net.padded_name(s);
         end = put_block(bytes, next, block, size);
         shown += 1;
+        s += 1;
     }
     if shown == 0 {
         return push(bytes, 0, b'0');

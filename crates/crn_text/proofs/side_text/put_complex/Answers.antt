@@ -1,16 +1,29 @@
-use Rattle.crn_text.proofs.Prelude.{◌≡◌, ◌<◌, ◌∙◌, ◌++◌, ℕ, List, [], length, get_or, take, sym, ap, arith, take_all, codes, pos, with_separator, term, terms}
-use Rattle.crn_text.proofs.Texts.{read_amount, none_there, some_there, terms_same, terms_count, side_step, side_some, side_none}
+use Rattle.crn_text.proofs.Prelude.{◌≡◌, ◌≤◌, ◌<◌, ◌+◌, ◌∙◌, ◌++◌, ℕ, ℤ, List, [], length, get_or, take, drop, sym, ap, subst, arith, take_all, length-drop, AllByRecursion, codes, pos, with_separator, term, terms}
+use Rattle.crn_text.proofs.Texts.{read_amount, none_there, some_there, terms_same, terms_skip, terms_count, side_step, side_some, side_none}
 use Rattle.crn_text.proofs.side_text.put_complex.Goals as goal
 
 pub loop-s-preserved-then-vector-s-eq0 : goal.loop-s-preserved-then-vector-s-eq0
 loop-s-preserved-then-vector-s-eq0 c =
     let v = c.vector-vector.result.now in
+    let names = c.args.net.now.names in
+    let s = c.loop-s.s in
+    let n = c.noughts.result in
     let h = c.loop-s.invariant in
-    let lt : c.loop-s.s < length c.args.net.now.names = omega arith in
-    let lt' : c.loop-s.s < length v = omega arith in
-    let none = none_there v c.loop-s.s c.vector-vector.ensures.amounts c.if-vector-s-eq0.true in
-    let same = terms_same c.args.net.now.names v c.loop-s.s lt lt' none in
-    rw same (record { text = h.text; shown = h.shown; few = omega (arith, h.few); short = omega (arith, h.short) })
+    let lt : s < length names = omega arith in
+    let lt' : s < length v = omega arith in
+    let none = none_there v s c.vector-vector.ensures.amounts c.if-vector-s-eq0.true in
+    let back = c.split_at.ensures.back in
+    let run = subst (λ (t : List ℤ). AllByRecursion (λ a. a ≡ pos 0) (take n t)) back c.noughts.ensures.noughts in
+    let many : n ≤ length (drop (s + 1) v) = subst (λ (t : List ℤ). n ≤ length t) back c.noughts.ensures.many in
+    let skip = terms_skip (s + 1) n names v run in
+    let one = terms_same names v s lt lt' none in
+    let e : s + (1 + n) ≡ s + 1 + n = omega arith in record {
+      inside = omega (arith, many, length-drop (s + 1) v);
+      text = rw (e, skip, one) h.text;
+      shown = rw (e, skip, one) h.shown;
+      few = omega (arith, h.few);
+      short = omega (arith, h.short);
+    }
 
 pub loop-s-preserved : goal.loop-s-preserved
 loop-s-preserved c =
@@ -27,6 +40,7 @@ loop-s-preserved c =
     let block = c.put_block-end.ensures.text ∙ ap (λ (t : List ℕ). take c.put_amount-next.result c.put_amount-next.new.bytes ++ t) c.padded_name-size.ensures.name in
     let put = block ∙ amount name in
     record {
+      inside = omega (arith, lt);
       text = put ∙ ap (λ (t : List ℕ). t ++ here) h.text ∙ sym (side_step names v s c.loop-s.shown lt lt' some h.shown);
       shown = omega (arith, h.shown, terms_count names v s lt lt' some);
       few = omega (arith, h.few);
