@@ -8,7 +8,7 @@ pub use Rattle.crn_cert.specs.Ranges.{AreBits, IsNarrow}
 pub use Rattle.crn_cert.specs.Says.{AreStrongClasses, IsTrueOf, from_zero}
 pub use Rattle.crn_cert.specs.Tests.{AllHold}
 pub use Rattle.crn_cert.specs.Valid.{ends_at, is_least_of_pair, is_same_pair, linkage, pair_places, side_tests}
-pub use Rattle.crn_shape.specs.Inner.Pairs.{GoesAcross, IsFirstAcross, IsPairFor, IsSide, opposite_linked}
+pub use Rattle.crn_shape.specs.Inner.Pairs.{GoesAcross, HasSum, IsFirstAcross, IsPairFor, IsSide, opposite_linked}
 pub use Rattle.crn_shape.specs.Inner.Tops.{top_for, zeros_below}
 pub use Rattle.crn_shape.specs.Pairs.{is_pair, is_within, pairs_to}
 pub use Rattle.crn_shape.specs.Shapes.{AreForShape, IsPairIn, ends_of, no_pair, pair_of, shape_of}
@@ -35,7 +35,7 @@ pub use Rattle.crn_vec.specs.declared.signs.Kind.TheVariants.{Free}
 pub use Rattle.crn_vec.specs.declared.signs.Sign.{Sign}
 pub use Rattle.std.proofs.Common.{Bool, List, [], ap, ap₂, arith, cond, drop, false, get_or, inl, inr, length, map, not, refl, subst, suc, sym, take, true, zero, ℕ, ◌&&◌, ◌*◌, ◌++◌, ◌+◌, ◌-◌, ◌<◌, ◌==◌, ◌^◌, ◌||◌, ◌∙◌, ◌∷◌, ◌≡◌, ◌≤◌, ◌⊎◌}
 pub use Rattle.std.proofs.Math.Seq.{take-append_seam}
-pub use Rattle.std.proofs.lemmas.Bool.{cases_Bool, eq-eqb, eqb-true}
+pub use Rattle.std.proofs.lemmas.Bool.{and_parts, cases_Bool, cases_lt, eq-eqb, eqb-true, false≢true, or_cases, or_parts}
 pub use Rattle.std.proofs.lemmas.Int.{ints, to_z-of_z}
 pub use Rattle.std.proofs.lemmas.List.{ext_get_or, get_or-append_right, get_or-map, get_or-set_other, get_or-set_same, get_or_append_left, length-append, length-map, length-set, take_more, with_items_is}
 pub use Rattle.std.specs.Int.{w128}

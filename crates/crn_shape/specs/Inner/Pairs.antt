@@ -2,7 +2,7 @@
 -- The pairs of a shape, found from the marks of their sides.
 -- Source: this project's own.
 -- Shapes: complexes and reactions count from 0.
-use Rattle.std.specs.Prelude.{◌≢◌, ◌<◌, ℕ, ℤ, neg_ℤ, Option, List, length}
+use Rattle.std.specs.Prelude.{◌≡◌, ◌≢◌, ◌<◌, ◌+◌, ℕ, ℤ, neg_ℤ, Option, List, length, slice_index_or}
 use Rattle.crn_vec.specs.Network.{Net}
 use Rattle.crn_vec.specs.Vectors.{entry}
 use Rattle.crn_vec.specs.CutPairs.{IsFirstOfPair}
@@ -10,6 +10,11 @@ use Rattle.crn_vec.specs.NetSignals.{IsPairOf}
 use Rattle.crn_shape.specs.Sides.{IsSideOf}
 use Rattle.crn_shape.specs.Shapes.{ends_of, pair_of}
 use Rattle.crn_shape.specs.declared.pairs.LinkedPair.{LinkedPair}
+
+-- the numbers of the complexes that reaction q joins have this sum
+abbrev pub HasSum : Net → ℕ → ℕ → Type 0
+HasSum net sum q =
+    (slice_index_or net.reactions q (0, 0)).0 + (slice_index_or net.reactions q (0, 0)).1 ≡ sum
 
 -- reaction r joins complexes of different marks
 abbrev pub GoesAcross : Net → List ℤ → ℕ → Type 0
