@@ -1,5 +1,5 @@
 -- What a call that writes several pieces did, if the pieces are given by an equation.
-use Rattle.crn_ctext.proofs.Prelude.{◌≡◌, ℕ, List, ◌++◌, Result, Err, SinkSeen, WroteAll, WrotePrefix, Wrote, WrotePrefix-more, WrotePrefix-step, Wrote-prefix, Wrote-then, [], refl, sym, ap, ◌∙◌, append_assoc, WroteAll-none, WroteAll-then, WrotePrefix-then, Gathered, Gathers}
+use Rattle.crn_ctext.proofs.Prelude.{◌≡◌, ℕ, List, ◌++◌, Result, Ok, Err, SinkSeen, WroteAll, WrotePrefix, Wrote, WrotePrefix-more, WrotePrefix-step, Wrote-prefix, Wrote-then, [], refl, sym, ap, ◌∙◌, append_assoc, WroteAll-none, WroteAll-then, WrotePrefix-then, Gathered, Gathers}
 use Rattle.std.proofs.Common.{append-nil}
 
 -- a prefix of the first piece was written
@@ -44,6 +44,17 @@ Gathered-add {text} {held} {left} {all} more e whole p = record {
   wrote = p.wrote;
 }
 
+-- one text more is held
+pub Gathered-next : (first x y : List ℕ) {held left : List ℕ} {old new : SinkSeen} → left ≡ held ++ y → Gathered (first ++ x) held old new → Gathered (first ++ (x ++ y)) left old new
+Gathered-next first x y e p = Gathered-add y e (sym (append_assoc first x y)) p
+
+-- of what is held all was written, or a prefix
+pub Gathered-written : {text held piece : List ℕ} {old middle new : SinkSeen} → piece ≡ held → Gathered text held old middle → WroteAll piece middle new → WroteAll text old new
+Gathered-written e p q = rw p.parts (WroteAll-then p.wrote (rw (← e) q))
+
+pub Gathered-stop : {text held : List ℕ} {old middle new : SinkSeen} → Gathered text held old middle → WrotePrefix held middle new → WrotePrefix text old new
+Gathered-stop p q = rw p.parts (WrotePrefix-then p.wrote q)
+
 -- a prefix of what was held was written
 pub Gathered-stops : {text held : List ℕ} {old middle new : SinkSeen} (rest : List ℕ) → Gathered text held old middle → WrotePrefix held middle new → WrotePrefix (text ++ rest) old new
 Gathered-stops {text} {held} rest p q = WrotePrefix-more rest (rw p.parts (WrotePrefix-then p.wrote q))
@@ -54,6 +65,18 @@ Gathered-ends {text = text} {held = held} more whole e p q =
     rw (whole ∙ ap (λ (t : List ℕ). t ++ more) p.parts ∙ append_assoc p.written held more) (Wrote-then p.wrote (rw (← e) q))
 
 -- ---- what a call that gathers a text answers
+
+-- all was gathered
+pub Gathers-all : {T E : Type 0} {text held : List ℕ} {old new : SinkSeen} {a : T} → Gathered text held old new → Gathers {T = T} {E = E} text held old new (Ok a)
+Gathers-all p = record { all = p; prefix = tt }
+
+-- the same text in other words
+pub gathers_as : {T E : Type 0} (first : List ℕ) {x y held : List ℕ} {old new : SinkSeen} {r : Result T E} → y ≡ x → Gathers (first ++ x) held old new r → Gathers (first ++ y) held old new r
+gathers_as first e p = rw e p
+
+-- a prefix of a text was written, which others follow
+pub stops_within : (first x rest : List ℕ) {y : List ℕ} {old new : SinkSeen} → y ≡ x ++ rest → WrotePrefix (first ++ x) old new → WrotePrefix (first ++ y) old new
+stops_within first x rest e p = rw (ap (λ (t : List ℕ). first ++ t) e ∙ sym (append_assoc first x rest)) (WrotePrefix-more rest p)
 
 -- all of the text was written, and nothing is held
 pub Gathered-whole : {text piece left : List ℕ} {old new : SinkSeen} → piece ≡ text → left ≡ [] → WroteAll piece old new → Gathered text left old new
@@ -79,3 +102,7 @@ Gathered-fails first sofar here rest e p q =
 -- the same, of a text that ends with what is still to be gathered
 pub Gathered-halts : (first sofar rest : List ℕ) {next held : List ℕ} {old middle new : SinkSeen} → next ≡ sofar ++ rest → Gathered (first ++ sofar) held old middle → WrotePrefix held middle new → WrotePrefix (first ++ next) old new
 Gathered-halts first sofar rest e p q = rw (ap (λ (t : List ℕ). first ++ t) e ∙ sym (append_assoc first sofar rest)) (Gathered-stops rest p q)
+
+-- the text so far was gathered, and a prefix of what was held and is still to be gathered was written
+pub Gathered-breaks : (first sofar rest : List ℕ) {next held : List ℕ} {old middle new : SinkSeen} → next ≡ sofar ++ rest → Gathered (first ++ sofar) held old middle → WrotePrefix (held ++ rest) middle new → WrotePrefix (first ++ next) old new
+Gathered-breaks first sofar rest e p q = rw (ap (λ (t : List ℕ). first ++ t) e) (Gathered-stop (Gathered-next first sofar rest refl p) q)

@@ -1,5 +1,5 @@
 -- The lines of records, as they are written: words, then numbers.
-use Rattle.crn_ctext.proofs.Prelude.{◌≡◌, ℕ, zero, suc, slice_get, add-one, ◌+◌, ◌<◌, ◌≤◌, List, [], ◌∷◌, ◌++◌, length, map, take, drop, get_or, refl, sym, ap, ◌∙◌, append_assoc, arith, ap₂, take-append-drop, decimal_digit, flat_map, join_with_byte, signed_decimal, digits, append-nil, flat_map-append, SinkSeen, WroteAll, WroteAll-none, flat_map_step, flat_map_whole, Net, canonical, Question, Wide, Verdict, Unknown, RankProof, Record, record_text, number_text, numbers_text, line, head_of, head_with, small_record, rank_records, side_records, head_word, record_lines, one_word, opening, table_records, part_head, words_text, question_at, head_words, head_numbers, pair_at}
+use Rattle.crn_ctext.proofs.Prelude.{◌≡◌, ℕ, zero, suc, slice_get, add-one, ints, negsuc, unsigned_abs, ◌≤ℤ◌, ◌+◌, ◌<◌, ◌≤◌, List, [], ◌∷◌, ◌++◌, length, map, take, drop, get_or, refl, sym, ap, ◌∙◌, append_assoc, arith, ap₂, take-append-drop, decimal_digit, flat_map, join_with_byte, signed_decimal, digits, append-nil, flat_map-append, SinkSeen, WroteAll, WroteAll-none, flat_map_step, flat_map_whole, Net, canonical, Question, Wide, Verdict, Unknown, RankProof, Record, record_text, number_text, numbers_text, line, head_of, head_with, small_record, rank_records, side_records, head_word, record_lines, one_word, opening, table_records, part_head, words_text, question_at, head_words, head_numbers, pair_at}
 use Rattle.std.proofs.Common.{Some, ℤ, pos, codes, decimal}
 
 pieces : (a v n b d t : List ℕ) → (((a ++ v) ++ n) ++ (((b ++ d) ++ n) ++ [])) ++ t ≡ ((((a ++ v) ++ (n ++ b)) ++ d) ++ n) ++ t
@@ -68,8 +68,16 @@ numbers_parts n zs front back e f =
     ap numbers_text (sym (take-append-drop n zs)) ∙ flat_map-append number_text (take n zs) (drop n zs)
     ∙ ap₂ (λ (a b : List ℤ). numbers_text a ++ numbers_text b) (sym e) (sym f)
 
+-- a natural number, and minus one
+pub natural_text : (z : ℤ) → pos 0 ≤ℤ z → number_text z ≡ 32 ∷ decimal (unsigned_abs z)
+natural_text (pos n) le = refl
+natural_text (negsuc n) le = absurd (omega (arith, ints, le))
+
+pub minus_one_text : number_text (negsuc 0) ≡ 32 ∷ 45 ∷ 49 ∷ []
+minus_one_text = ap (λ (t : List ℕ). 32 ∷ 45 ∷ t) (decimal_digit 1 (omega arith))
+
 -- a zero, and four of them
-pub zero_text : number_text (pos 0) ≡ 32 ∷ 48 ∷ []
+zero_text : number_text (pos 0) ≡ 32 ∷ 48 ∷ []
 zero_text = ap (λ (t : List ℕ). 32 ∷ t) (decimal_digit 0 (omega arith))
 
 pub zeros_text : numbers_text (pos 0 ∷ pos 0 ∷ pos 0 ∷ pos 0 ∷ []) ≡ 32 ∷ 48 ∷ 32 ∷ 48 ∷ 32 ∷ 48 ∷ 32 ∷ 48 ∷ []

@@ -1,9 +1,11 @@
-use Rattle.crn_ctext.proofs.Prelude.{◌≡◌, ◌∷◌, [], ap, ◌∙◌, pos, rules, number_text}
+use Rattle.crn_ctext.proofs.Prelude.{◌≡◌, ◌≤ℤ◌, pos, ◌∷◌, [], arith, ints, decimal, unsigned_abs}
 use Rattle.crn_ctext.proofs.Pieces.{added}
-use Rattle.crn_ctext.proofs.WrittenLines.{zero_text}
+use Rattle.crn_ctext.proofs.WrittenLines.{natural_text}
 use Rattle.crn_ctext.proofs.write_piece.add_int.Goals as goal
 
-pub returns-then-number-eq0-clause-text : goal.returns-then-number-eq0-clause-text
-returns-then-number-eq0-clause-text c =
-    let zero : c.args.number.now ≡ pos 0 = search rules in
-    added c.args.piece.now.items (32 ∷ []) (48 ∷ []) (ap number_text zero ∙ zero_text) c.push.ensures.items c.push-then-number-eq0.ensures.items
+pub returns-clause-text : goal.returns-clause-text
+returns-clause-text c =
+    let z = c.args.number.now in
+    let ua : c.unsigned_abs.result ≡ unsigned_abs z = omega (arith, ints) in
+    let natural : pos 0 ≤ℤ z = omega (arith, ints) in
+    added c.args.piece.now.items (32 ∷ []) (decimal (unsigned_abs z)) (natural_text z natural) c.push.ensures.items (rw ua at c.add_digits.ensures.text)

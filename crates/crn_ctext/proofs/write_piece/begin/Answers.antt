@@ -5,11 +5,11 @@ use Rattle.crn_ctext.proofs.write_piece.begin.Goals as goal
 pub add_bytes-requires : goal.add_bytes-requires
 add_bytes-requires g c = rw c.requires (omega arith)
 
-pub returns-then-text-lt256-clause-room : goal.returns-then-text-lt256-clause-room
-returns-then-text-lt256-clause-room g c = rw (rw c.requires at c.add_bytes.ensures.text) (omega arith)
+pub returns-then-text-lt512-clause-room : goal.returns-then-text-lt512-clause-room
+returns-then-text-lt512-clause-room g c = rw (rw c.requires at c.add_bytes.ensures.text) (omega arith)
 
-pub returns-then-text-lt256-clause-gathers : goal.returns-then-text-lt256-clause-gathers
-returns-then-text-lt256-clause-gathers g c = record { all = Gathered-held _ (rw c.requires at c.add_bytes.ensures.text); prefix = tt }
+pub returns-then-text-lt512-clause-gathers : goal.returns-then-text-lt512-clause-gathers
+returns-then-text-lt512-clause-gathers g c = record { all = Gathered-held _ (rw c.requires at c.add_bytes.ensures.text); prefix = tt }
 
 pub returns-in_err-put_all-clause-gathers : goal.returns-in_err-put_all-clause-gathers
 returns-in_err-put_all-clause-gathers g c =
