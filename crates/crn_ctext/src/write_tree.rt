@@ -1,15 +1,18 @@
-ghost use Rattle.std.specs.Prelude.{◌≡◌, [], ◌∷◌, ◌++◌, codes, decimal, if◌then◌else◌, ◌==◌, IfOk};
+ghost use Rattle.std.specs.Prelude.{◌≡◌, ◌≤◌, ◌+◌, [], ◌∷◌, ◌++◌, codes, decimal, if◌then◌else◌, ◌==◌, IfOk};
+ghost use Rattle.arrayvec.specs.ArrayVec.{array_vec_len};
 ghost use Rattle.crn_io.specs.Write.{Wrote};
 ghost use Rattle.crn_ctext.specs.Answers.{nodes, proof_nodes};
 ghost use Rattle.crn_ctext.specs.Documents.{record_lines, written, first_leaf, later_leaves};
 ghost use Rattle.crn_cert.specs.Preorder.{listed};
 ghost use Rattle.crn_ctext.specs.Records.{line};
-ghost use Rattle.crn_ctext.specs.Inner.Written.{leaves_after, node_record};
+ghost use Rattle.crn_ctext.specs.Inner.Written.{Gathers, leaves_after, node_record};
 
-use crate::write_record::put_free;
+use crate::write_piece::{Piece, add_bytes, add_digits, gather_ints, gather_text, make_room};
 use crn_cert::{Proof, Tree, TreeNode};
-use crn_io::{Sink, WriteFault, put_all, put_parts};
-use itoa::Buffer;
+use crn_io::{Sink, WriteFault, put_all};
+
+// A line that names a list has no more bytes than this.
+const LONGEST_NAME: usize = 46;
 
 // The number of the next leaf, 0 if there is none, and those after it.
 fn next_leaf(leaf: &[u32]) -> (u32, &[u32])
@@ -22,66 +25,108 @@ fn next_leaf(leaf: &[u32]) -> (u32, &[u32])
     }
 }
 
-// The line that names a list for this part, by the number of the list. A short one is one piece.
-fn put_name<K: Sink>(sink: &mut K, part: u8, number: u32) -> Result<(), WriteFault>
-    ensures { Wrote (codes "ref" ++ part ∷ 32 ∷ decimal number ++ codes "\n")
-        (K.seen sink.old) (K.seen sink.new) result }
+// Adds the line that names a list for this part, by the number of the list. A short one is one text.
+fn add_name(piece: &mut Piece, part: u8, number: u32)
+    requires { array_vec_len piece.old + 46 ≤ 512 }
+    ensures { piece.new.items
+        ≡ piece.old.items ++ (codes "ref" ++ part ∷ 32 ∷ decimal number ++ codes "\n") }
 {
     if number < 10 {
         let units = b'0' + number as u8;
-        return put_all(sink, &[b'r', b'e', b'f', part, b' ', units, b'\n']);
+        return add_bytes(piece, &[b'r', b'e', b'f', part, b' ', units, b'\n']);
     }
     if number < 100 {
         let tens = b'0' + (number / 10) as u8;
         let units = b'0' + (number % 10) as u8;
-        return put_all(sink, &[b'r', b'e', b'f', part, b' ', tens, units, b'\n']);
+        return add_bytes(piece, &[b'r', b'e', b'f', part, b' ', tens, units, b'\n']);
     }
-    let mut buffer = Buffer::new();
-    let digits = buffer.format(number).as_bytes();
-    put_parts(sink, &[&[b'r', b'e', b'f', part, b' '], digits, b"\n"])
+    add_bytes(piece, &[b'r', b'e', b'f', part, b' ']);
+    add_digits(piece, u128::from(number));
+    piece.push(b'\n');
+}
+
+// The line that names a list for this part, by the number of the list.
+fn gather_name<K: Sink>(
+    sink: &mut K,
+    piece: &mut Piece,
+    part: u8,
+    number: u32,
+) -> Result<(), WriteFault>
+    ensures { Gathers
+        (piece.old.items ++ (codes "ref" ++ part ∷ 32 ∷ decimal number ++ codes "\n"))
+        piece.new.items (K.seen sink.old) (K.seen sink.new) result }
+{
+    make_room(sink, piece, LONGEST_NAME)?;
+    add_name(piece, part, number);
+    Ok(())
+}
+
+// The line of a cut of this part: its word and its numbers.
+fn gather_line<K: Sink>(
+    sink: &mut K,
+    piece: &mut Piece,
+    part: u8,
+    numbers: &[i128],
+) -> Result<(), WriteFault>
+    ensures { Gathers (piece.old.items ++ line (codes "cut" ++ part ∷ []) numbers.now)
+        piece.new.items (K.seen sink.old) (K.seen sink.new) result }
+{
+    gather_text(sink, piece, &[b'c', b'u', b't', part])?;
+    gather_ints(sink, piece, numbers)?;
+    piece.push(b'\n');
+    Ok(())
 }
 
 // A cut of this part: its word and its numbers, or the line that names its list.
-fn put_cut<K: Sink>(sink: &mut K, part: u8, numbers: &[i128], number: u32) -> Result<(), WriteFault>
-    ensures { Wrote
-        (if number == 0 then line (codes "cut" ++ part ∷ []) numbers.now
-        else (codes "ref" ++ part ∷ 32 ∷ decimal number ++ codes "\n"))
-        (K.seen sink.old) (K.seen sink.new) result }
+fn gather_cut<K: Sink>(
+    sink: &mut K,
+    piece: &mut Piece,
+    part: u8,
+    numbers: &[i128],
+    number: u32,
+) -> Result<(), WriteFault>
+    ensures { Gathers (piece.old.items
+        ++ (if number == 0 then line (codes "cut" ++ part ∷ []) numbers.now
+        else (codes "ref" ++ part ∷ 32 ∷ decimal number ++ codes "\n")))
+        piece.new.items (K.seen sink.old) (K.seen sink.new) result }
 {
     if number == 0 {
-        return put_free(sink, &[b'c', b'u', b't', part], numbers);
+        return gather_line(sink, piece, part, numbers);
     }
-    put_name(sink, part, number)
+    gather_name(sink, piece, part, number)
 }
 
 // A node of a tree, and the numbers of the leaves after it.
-fn put_node<'a, K: Sink>(
+#[inline(always)]
+fn gather_node<'a, K: Sink>(
     sink: &mut K,
+    piece: &mut Piece,
     node: &TreeNode,
     leaf: &'a [u32],
 ) -> Result<&'a [u32], WriteFault>
-    ensures wrote { Wrote (record_lines (written leaf.now (node_record (listed node.now) ∷ [])))
-        (K.seen sink.old) (K.seen sink.new) result }
+    ensures gathers { Gathers
+        (piece.old.items ++ record_lines (written leaf.now (node_record (listed node.now) ∷ [])))
+        piece.new.items (K.seen sink.old) (K.seen sink.new) result }
     ensures rest { IfOk result
         (λ rest. rest.now ≡ leaves_after (node_record (listed node.now) ∷ []) leaf.now) }
 {
     match node {
         TreeNode::CutA(list) => {
             let (number, rest) = next_leaf(leaf);
-            put_cut(sink, b'a', list.as_slice(), number)?;
+            gather_cut(sink, piece, b'a', list.as_slice(), number)?;
             Ok(rest)
         }
         TreeNode::CutB(list) => {
             let (number, rest) = next_leaf(leaf);
-            put_cut(sink, b'b', list.as_slice(), number)?;
+            gather_cut(sink, piece, b'b', list.as_slice(), number)?;
             Ok(rest)
         }
         TreeNode::Flat => {
-            put_all(sink, b"flat\n")?;
+            gather_text(sink, piece, b"flat\n")?;
             Ok(leaf)
         }
         TreeNode::SplitTwo | TreeNode::SplitThree => {
-            put_all(sink, b"split\n")?;
+            gather_text(sink, piece, b"split\n")?;
             Ok(leaf)
         }
     }
@@ -97,11 +142,21 @@ fn put_tree<'a, K: Sink>(
         (K.seen sink.old) (K.seen sink.new) result }
     ensures rest { IfOk result (λ rest. rest.now ≡ leaves_after (nodes tree.now) leaf.now) }
 {
+    let mut piece = Piece::new();
     let mut rest = leaf;
     for node in tree.nodes() {
-        rest = put_node(sink, node, rest)?;
+        rest = gather_node(sink, &mut piece, node, rest)?;
     }
+    put_all(sink, piece.as_slice())?;
     Ok(rest)
+}
+
+/// The lines of the nodes of a tree, each before those of its children.
+pub fn put_nodes<K: Sink>(sink: &mut K, tree: &Tree) -> Result<(), WriteFault>
+    ensures { Wrote (record_lines (nodes tree.now)) (K.seen sink.old) (K.seen sink.new) result }
+{
+    put_tree(sink, tree, &[])?;
+    Ok(())
 }
 
 // The trees of a proof, and the numbers of the leaves after them.
