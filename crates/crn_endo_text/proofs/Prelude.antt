@@ -1,10 +1,8 @@
 -- What this crate's proofs use of other crates and of its specs.
 pub use Rattle.crn_cert.specs.Data.{IsBasisOf}
 pub use Rattle.crn_cert.specs.Nodes.{AreNumbersFor, CutsA, CutsB, Fits, Flats, Said, Splits, rest_after}
-pub use Rattle.crn_cert.specs.Preorder.{AreNodesOf, listed, preorder}
 pub use Rattle.crn_cert.specs.Ranges.{AreFree, IsFrom}
 pub use Rattle.crn_cert.specs.Trees.{Both, IsFormedTree, IsValid, Level, Plan, RulesA, RulesB, Three, node_count}
-pub use Rattle.crn_cert.specs.declared.tree_node.TreeNode.{TreeNode}
 pub use Rattle.crn_ctext.proofs.CallerLemmas.{AllPlain, HasNoEnd, HaveWords, IsAnswered, IsBounded, IsDecided, IsFirst, Say, are_words, asks_part_settled, bare_back, bare_row, bool_decided, both_decided, documents_are_judged, each_below, either_no_end, either_settled, ends_with, first_back, fitting_is_plain, forms_yes, free_bounded, free_fits, free_row, give_back, give_no_end, give_settled, given, in_by_test, int_decided, int_le_decided, line_of_word, line_on, lines_append, lines_two, lt_decided, moved, nat_decided, no_end_then, none_said, not_decided, number_back, number_fits, number_then, one_back, one_number, one_said, only, own_settled, part_document_short, part_no_end, part_settled, plain_bare, plain_is_line, reactions_few, record_is, settled_then, short_both, small_bounded, some_below, species_few, species_row, stops_first, stops_later, test_back, test_no_end, test_on, wide_fields, wide_numbers, wide_numbers_fit, word_then, written_cuts, written_then, wrote_as}
 pub use Rattle.crn_ctext.specs.Answers.{nodes, small_record}
 pub use Rattle.crn_ctext.specs.Blocks.{either, word_of}
@@ -36,7 +34,6 @@ pub use Rattle.crn_endo_text.specs.Document.{HasFewNodes, IsOwn, IsSeenOf, Writt
 unfoldable pub use Rattle.crn_endo_text.specs.Document.{asks_tree, asks_trees}
 pub use Rattle.crn_endo_text.specs.Inner.TreesRead.{GoesOnBy, Leaves, ReadsSeen, ReadsTrees, ReadsUpTo, Takes, asks_from, number_of, said_at}
 unfoldable pub use Rattle.crn_endo_text.specs.Inner.TreesRead.{asks_due}
-pub use Rattle.crn_endo_text.specs.Inner.Written.{record_of}
 pub use Rattle.crn_endo_text.specs.declared.seen.EndoSeen.{EndoSeen}
 pub use Rattle.crn_endo_text.specs.declared.seen.EndoSeen.TheVariants.{No, Undecided, Yes}
 pub use Rattle.crn_io.proofs.CallerLemmas.{Wrote-all, WroteAll-none, WroteAll-step, WroteAll-then}

@@ -1,3 +1,2 @@
 -- For the contracts of private functions alone.
 pub mod TreesRead
-pub mod Written

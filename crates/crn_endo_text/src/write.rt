@@ -1,44 +1,17 @@
 ghost use Rattle.std.specs.Prelude.{◌∷◌, [], codes, map, pos};
 ghost use Rattle.std.specs.List.{flat_map};
 ghost use Rattle.crn_io.specs.Write.{Wrote};
-ghost use Rattle.crn_cert.specs.Preorder.{listed};
 ghost use Rattle.crn_ctext.specs.Answers.{nodes as node_records};
 ghost use Rattle.crn_ctext.specs.Documents.{record_lines};
 ghost use Rattle.crn_ctext.specs.Records.{line};
 ghost use Rattle.crn_ctext.specs.Parts.{part_document};
 ghost use Rattle.crn_endo_check.specs.Endo.{IsFormedEndo};
 ghost use Rattle.crn_endo_text.specs.Document.{records};
-ghost use Rattle.crn_endo_text.specs.Inner.Written.{record_of};
 
-use crn_cert::{Tree, TreeNode};
-use crn_ctext::{put_free, put_nums, put_part_opening, put_small};
+use crn_ctext::{put_free, put_nodes, put_nums, put_part_opening, put_small};
 use crn_endo_check::{Endo, EndoTrees};
 use crn_io::{Sink, WriteFault, put_all};
 use crn_net::Network;
-
-// The line of a node.
-fn put_node<K: Sink>(sink: &mut K, node: &TreeNode) -> Result<(), WriteFault>
-    ensures { Wrote (record_lines (record_of (listed node.now) ∷ []))
-        (K.seen sink.old) (K.seen sink.new) result }
-{
-    match node {
-        TreeNode::SplitTwo | TreeNode::SplitThree => put_all(sink, b"split\n"),
-        TreeNode::CutA(list) => put_free(sink, b"cuta", list.as_slice()),
-        TreeNode::CutB(list) => put_free(sink, b"cutb", list.as_slice()),
-        TreeNode::Flat => put_all(sink, b"flat\n"),
-    }
-}
-
-// The nodes of a tree, in preorder.
-fn put_tree<K: Sink>(sink: &mut K, tree: &Tree) -> Result<(), WriteFault>
-    ensures { Wrote (record_lines (node_records tree.now))
-        (K.seen sink.old) (K.seen sink.new) result }
-{
-    for node in tree.nodes() {
-        put_node(sink, node)?;
-    }
-    Ok(())
-}
 
 // The trees of the reactions.
 fn put_trees<K: Sink>(sink: &mut K, trees: &EndoTrees) -> Result<(), WriteFault>
@@ -46,7 +19,7 @@ fn put_trees<K: Sink>(sink: &mut K, trees: &EndoTrees) -> Result<(), WriteFault>
         (K.seen sink.old) (K.seen sink.new) result }
 {
     for r in 0..trees.len() {
-        put_tree(sink, trees.tree(r))?;
+        put_nodes(sink, trees.tree(r))?;
     }
     Ok(())
 }

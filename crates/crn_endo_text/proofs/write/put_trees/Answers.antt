@@ -7,13 +7,13 @@ loop-r-init g c = WroteAll-none _
 
 pub loop-r-preserved : goal.loop-r-preserved
 loop-r-preserved g c =
-    let wrote = rw c.tree.ensures at c.in_ok-put_tree.ensures in
+    let wrote = rw c.tree.ensures at c.in_ok-put_nodes.ensures in
     WroteAll-step (tree_more c.args.trees.now c.loop-r.r (omega arith)) c.loop-r.invariant wrote.all
 
-pub returns-in_err-put_tree : goal.returns-in_err-put_tree
-returns-in_err-put_tree g c =
+pub returns-in_err-put_nodes : goal.returns-in_err-put_nodes
+returns-in_err-put_nodes g c =
     let p = err_from_is_err_and c.from_residual.result c.from_residual.ensures.1 in
-    let wrote = rw c.tree.ensures at c.in_err-put_tree.ensures in
+    let wrote = rw c.tree.ensures at c.in_err-put_nodes.ensures in
     stops_later _ (tree_left c.args.trees.now c.loop-r.r (omega arith)) p.1 c.loop-r.invariant wrote.prefix
 
 pub returns : goal.returns
