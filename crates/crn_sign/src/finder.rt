@@ -17,6 +17,7 @@ use crate::pool::Pool;
 use crn_farkas::{Alternative, Cut, Solver, Stop};
 use crn_vec::{Kind, Matrix, NoMemory, Sign};
 use std::alloc::Global;
+use std::mem::drop;
 
 /// What finds vectors (x, Ax) of a matrix: a solver, and those that it gave before.
 #[derive(Drop)]
@@ -35,24 +36,64 @@ pub(crate) struct Finder {
     pub kinds: KeptKinds,
 }
 
+// Room for the signs of a vector, for its marks and those of its negative, and for what is required of one
+// that changes misfits.
+#[derive(Drop)]
+struct Lists {
+    signs: Vec<Sign>,
+    witness: Vec<Bits>,
+    negative: Vec<Bits>,
+    required: Vec<Bits>,
+}
+
+// The lists of a finder that found nothing so far.
+fn make_lists(alloc: Global, matrix: &Matrix) -> Result<Lists, NoMemory>
+    ensures signs { IfOk result (λ made. length made.signs.items ≡ width matrix.now) }
+    ensures witness { IfOk result (λ made. length made.witness.items ≡ word_count matrix.now) }
+    ensures negative { IfOk result (λ made. length made.negative.items ≡ word_count matrix.now) }
+    ensures required { IfOk result (λ made. length made.required.items ≡ word_count matrix.now) }
+{
+    let count = matrix.cols() + matrix.rows();
+    let words = word_count(matrix);
+    Ok(Lists {
+        signs: vec![in alloc; Sign::Zero; count]?,
+        witness: vec![in alloc; NONE; words]?,
+        negative: vec![in alloc; NONE; words]?,
+        required: vec![in alloc; NONE; words]?,
+    })
+}
+
 impl Finder {
     /// What finds vectors of this matrix by a solver that gave none so far.
     pub fn new(alloc: Global, matrix: &Matrix, solver: Solver) -> Result<Finder, NoMemory>
         requires { solver.matrix ≡ matrix.now }
         ensures { IfOk result (λ made. IsFinder matrix.now made) }
     {
-        let count = matrix.cols() + matrix.rows();
-        let words = word_count(matrix);
+        let Ok(pool) = Pool::new(alloc, matrix) else {
+            drop(solver);
+            return Err(NoMemory);
+        };
+        let Ok(kinds) = KeptKinds::new(alloc, matrix) else {
+            drop(solver);
+            drop(pool);
+            return Err(NoMemory);
+        };
+        let Ok(lists) = make_lists(alloc, matrix) else {
+            drop(solver);
+            drop(pool);
+            drop(kinds);
+            return Err(NoMemory);
+        };
         Ok(Finder {
             alloc,
             solver,
-            pool: Pool::new(alloc, matrix)?,
-            witness_signs: vec![in alloc; Sign::Zero; count]?,
-            witness_marks: vec![in alloc; NONE; words]?,
-            negative_marks: vec![in alloc; NONE; words]?,
+            pool,
+            witness_signs: lists.signs,
+            witness_marks: lists.witness,
+            negative_marks: lists.negative,
             misfit_coordinates: Vec::new(alloc),
-            required_of_change: vec![in alloc; NONE; words]?,
-            kinds: KeptKinds::new(alloc, matrix)?,
+            required_of_change: lists.required,
+            kinds,
         })
     }
 

@@ -17,6 +17,7 @@ use crate::place::{Place, is_met};
 use crn_farkas::{Cut, Decision, Feasibility, Solver, Stop};
 use crn_vec::{Ints, Matrix, NoMemory, cuts_exclude_solutions};
 use std::alloc::Global;
+use std::mem::drop;
 use std::rc::Rc;
 
 /// What finds vectors for a part, and multipliers that ruled its systems out, by the lengths of their prefixes.
@@ -40,7 +41,10 @@ impl Part {
         requires { solver.matrix ≡ matrix.now }
         ensures { IfOk result (λ made. IsPart matrix.now made) }
     {
-        let past_cuts = empty_cuts(alloc, matrix, choices)?;
+        let Ok(past_cuts) = empty_cuts(alloc, matrix, choices) else {
+            drop(solver);
+            return Err(NoMemory);
+        };
         Ok(Part {
             finder: Finder::new(alloc, matrix, solver)?,
             past_cuts,

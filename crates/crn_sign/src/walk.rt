@@ -24,6 +24,7 @@ use crn_cert::{Tree, TreeNode};
 use crn_farkas::{Solver, Stop};
 use crn_vec::{Ints, Matrix, NoMemory, Sign, is_all_zero};
 use std::alloc::Global;
+use std::mem::drop;
 use std::rc::Rc;
 
 /// What a search works with: memory, its two parts, the prefix that is visited, and the visits that are left.
@@ -543,9 +544,15 @@ pub(crate) fn start<P: SignProblem>(
     let choices = problem.length();
     let matrix_a = problem.matrix_a();
     let matrix_b = problem.matrix_b();
-    let prefix = Vec::with_capacity(alloc, choices)?;
+    let Ok(prefix) = Vec::with_capacity(alloc, choices) else {
+        drop(solver_b);
+        return Err(SearchStop::NoMemory);
+    };
     let b = Part::new(alloc, matrix_b, solver_b, choices)?;
-    let a = part_of(alloc, matrix_a, choices)?;
+    let Ok(a) = part_of(alloc, matrix_a, choices) else {
+        drop(b);
+        return Err(SearchStop::NoMemory);
+    };
     Ok(Progress {
         alloc,
         a,
@@ -650,8 +657,16 @@ fn visit_all<P: SignProblem>(
         (λ s. IsSearchStop (P.signed problem.now) s) }
 {
     let mut search = start(alloc, problem, solver_b, budget)?;
-    let end = visit_from(alloc, problem, &mut search, listing)?;
-    Ok(end)
+    match visit_from(alloc, problem, &mut search, listing) {
+        Ok(end) => {
+            drop(search);
+            Ok(end)
+        }
+        Err(stop) => {
+            drop(search);
+            Err(stop)
+        }
+    }
 }
 
 /// Searches for a full feasible prefix, with at most this many visits.
