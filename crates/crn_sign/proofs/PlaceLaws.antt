@@ -1,5 +1,5 @@
 -- What a part knows at a prefix, while kinds are asked and after.
-use Rattle.crn_sign.proofs.Prelude.{◌≡◌, ◌≢◌, ℕ, zero, suc, ◌+◌, ◌-◌, ◌%◌, ◌<◌, ◌≤◌, inl, inr, List, [], ◌∷◌, ◌++◌, length, get_or, take, drop, drop-cons, Bool, true, false, refl, sym, ap, ap₂, subst, ◌∙◌, add-one, arith, bit_at-zero, length-append, ext_get_or, drop_all, take-append-le, take_all, Sign, Kind, Pos, Neg, NonNeg, Free, Mat, width, kind_at, one_if, Signed, eq_or, Bits, Place, Level, Asked, AskKinds, AskKindsBy, IsPut, asked_kind, bit_of, asked_by, kind_by_words, kind_in, kind_of_bits, minus_at, plus_at, weakened, SettlesOnly, mark_of, AreRowMarks, kind_of_mark, kinds_of, HasRoom, IsAround, IsAsked, IsHere, IsPlace, IsSettledAt, IsSettling, AreAround, AreAsked, AreMarked, IsLevel, row_kinds}
+use Rattle.crn_sign.proofs.Prelude.{◌≡◌, ◌≢◌, ℤ, IsSmallCut, ℕ, zero, suc, ◌+◌, ◌-◌, ◌%◌, ◌<◌, ◌≤◌, inl, inr, List, [], ◌∷◌, ◌++◌, length, get_or, take, drop, drop-cons, Bool, true, false, refl, sym, ap, ap₂, subst, ◌∙◌, add-one, arith, bit_at-zero, length-append, ext_get_or, drop_all, take-append-le, take_all, Sign, Kind, Pos, Neg, NonNeg, Free, Mat, width, kind_at, one_if, Signed, eq_or, Bits, Place, Level, Asked, AskKinds, AskKindsBy, IsPut, asked_kind, bit_of, asked_by, kind_by_words, kind_in, kind_of_bits, minus_at, plus_at, weakened, SettlesOnly, mark_of, AreRowMarks, kind_of_mark, kinds_of, HasRoom, IsAround, IsAsked, IsHere, IsPlace, IsSettledAt, IsSettling, AreAround, AreAsked, AreMarked, IsLevel, row_kinds}
 use Rattle.crn_vec.specs.declared.signs.Kind.TheVariants.{Zero}
 use Rattle.crn_sign.specs.Options.{word_count}
 use Rattle.crn_sign.proofs.MarkLaws.{kind_asked, kinds_long}
@@ -135,6 +135,10 @@ all_settled a kinds l long h = kinds_are a kinds l.asked.items long (λ k lt. h.
 
 pub asked_at : (a : Mat) (weak : List ℕ) (kinds : List Kind) (l : Place) → IsHere a weak kinds l → IsAsked a weak kinds l
 asked_at a weak kinds l h = record { room = room_of a weak l h.place; kinds_are = h.kinds_are }
+
+-- multipliers that rule out what words ask
+pub cut_of : (a m : Mat) (weak v : List ℕ) (kinds : List Kind) (asked : List Bits) (u : List ℤ) → m ≡ a → v ≡ weak → kinds_of a weak asked ≡ kinds → IsSmallCut m (kinds_of m v asked) u → IsSmallCut a kinds u
+cut_of a m weak v kinds asked u same firm are h = subst (λ (ks : List Kind). IsSmallCut a ks u) are (subst (λ (x : List ℕ). IsSmallCut a (kinds_of a x asked) u) firm (subst (λ (n : Mat). IsSmallCut n (kinds_of n v asked) u) same h))
 
 -- ---- both parts
 

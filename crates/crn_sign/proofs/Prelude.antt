@@ -17,7 +17,7 @@ pub use Rattle.crn_sign.specs.Inner.PastCuts.{ArePastCuts}
 pub use Rattle.crn_sign.specs.Inner.Places.{HasRoom, IsAround, IsAsked, IsFor, IsHere, IsPlace, IsSettledAt, IsSettling}
 pub use Rattle.crn_sign.specs.Inner.Ready.{AreAround, AreAsked, AreMarked, AreRoomsBelow, HasRooms, IsLevel}
 pub use Rattle.crn_sign.specs.Inner.RowSigns.{AreRowSigns}
-pub use Rattle.crn_sign.specs.Inner.Walk.{Appends, EndsAt, EndsBelow, EndsWith, EndsWithout, HasTree, IsEndOf, IsFoundAt, IsLeafAt, RunsOut, split_node}
+pub use Rattle.crn_sign.specs.Inner.Walk.{Appends, EndsAt, EndsBelow, EndsWith, EndsWithout, HasTree, IsEndOf, IsFoundAt, IsLeafAt, IsLevelUnless, IsSolvedUnless, MayListLeaf, RunsOut, split_node}
 pub use Rattle.crn_sign.specs.Options.{AskKinds, AskKindsBy, IsPut, kind_by as asked_by, asked_kind, bit_of, kind_by_words, kind_in, kind_of_bits, minus_at, plus_at, weakened, word_of}
 pub use Rattle.crn_sign.specs.Search.{IsFeasibleBy, IsOutcome, IsSearchEnd, IsTreeAt}
 pub use Rattle.crn_sign.specs.Settled.{SettlesOnly}

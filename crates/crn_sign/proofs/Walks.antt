@@ -29,42 +29,41 @@ run_out w p left e = record { passes = passes_at w (p ∷ []) 0 left (sym e) beg
 leaf : (w : Signed) (p : List Sign) (left after : ℕ) → after + 1 ≡ left → ¬ (IsFeasible w p) → EndsWithout w (p ∷ []) (p ∷ []) left after
 leaf w p left after e n = record { visits = fallen n over; count = omega (arith, e) }
 
+-- where no nodes are kept nothing is listed
+pub appends_none : (old : Listing) (one : Listed) → old.keeps ≡ false → AppendsOne old old one
+appends_none old one off = record { keeps = refl; nodes = λ on. absurd (false≢true (sym off ∙ on)) }
+
 -- the leaf of a closed prefix
-pub leaf_flat : (w : Signed) (p : List Sign) → w.closed p ≡ true → IsLeafAt w p Flat
-leaf_flat w p c = record {
+pub leaf_flat : (w : Signed) (p : List Sign) (old new : Listing) → AppendsOne old new (listed Flat) → w.closed p ≡ true → IsLeafAt w p old new
+leaf_flat w p old new one c = record {
   tree = Level;
-  nodes = refl;
+  appends = record { keeps = one.keeps; nodes = one.nodes };
   tree_at = record { valid = c; narrow = tt };
   one = refl;
   none = λ s. false≢true (sym s.opened ∙ c);
 }
 
 -- a leaf by multipliers that rule a part out
-pub leaf_a : (w : Signed) (p : List Sign) (u : List ℤ) (node : TreeNode) → listed node ≡ ListedCutA u → IsSmallCut w.matrix_a (w.kinds_a p) u → IsLeafAt w p node
-leaf_a w p u node is c = record {
+pub leaf_a : (w : Signed) (p : List Sign) (u : List ℤ) (old new : Listing) → AppendsOne old new (ListedCutA u) → IsSmallCut w.matrix_a (w.kinds_a p) u → IsLeafAt w p old new
+leaf_a w p u old new one c = record {
   tree = RulesA u;
-  nodes = ap (λ (l : Listed). l ∷ []) is;
+  appends = record { keeps = one.keeps; nodes = one.nodes };
   tree_at = record { valid = c.cut; narrow = narrow_all u (λ k lt. c.small k) };
   one = refl;
   none = λ s. cuts_exclude_solutions w.matrix_a (w.kinds_a p) u s.part_a.0 c.cut s.part_a.1;
 }
 
-pub leaf_b : (w : Signed) (p : List Sign) (u : List ℤ) (node : TreeNode) → listed node ≡ ListedCutB u → IsSmallCut w.matrix_b (w.kinds_b p) u → IsLeafAt w p node
-leaf_b w p u node is c = record {
+pub leaf_b : (w : Signed) (p : List Sign) (u : List ℤ) (old new : Listing) → AppendsOne old new (ListedCutB u) → IsSmallCut w.matrix_b (w.kinds_b p) u → IsLeafAt w p old new
+leaf_b w p u old new one c = record {
   tree = RulesB u;
-  nodes = ap (λ (l : Listed). l ∷ []) is;
+  appends = record { keeps = one.keeps; nodes = one.nodes };
   tree_at = record { valid = c.cut; narrow = narrow_all u (λ k lt. c.small k) };
   one = refl;
   none = λ s. cuts_exclude_solutions w.matrix_b (w.kinds_b p) u s.part_b.0 c.cut s.part_b.1;
 }
 
-pub leaf_at : (w : Signed) (p : List Sign) (node : TreeNode) (left after : ℕ) (old new : Listing) → after + 1 ≡ left → AppendsOne old new (listed node) → IsLeafAt w p node → EndsAt w p left after old new Refuted
-leaf_at w p node left after old new e one l = (
-  l.tree,
-  record { keeps = one.keeps; nodes = λ on. one.nodes on ∙ ap (λ (ls : List Listed). map listed old.nodes.items ++ ls) l.nodes },
-  l.tree_at,
-  subst (λ (ps : List (List Sign)). EndsWithout w (p ∷ []) ps left after) (sym l.one) (leaf w p left after e l.none),
-)
+pub leaf_at : (w : Signed) (p : List Sign) (left after : ℕ) (old new : Listing) → after + 1 ≡ left → IsLeafAt w p old new → EndsAt w p left after old new Refuted
+leaf_at w p left after old new e l = (l.tree, l.appends, l.tree_at, subst (λ (ps : List (List Sign)). EndsWithout w (p ∷ []) ps left after) (sym l.one) (leaf w p left after e l.none))
 
 feasible_by : (w : Signed) (p : List Sign) (a b : List ℤ) → IsFeasibleBy w p a b → IsFeasible w p
 feasible_by w p a b s = record { opened = s.opened; part_a = (a, (s.part_a.v, s.part_a.solves)); part_b = (b, (s.part_b.v, s.part_b.solves)) }

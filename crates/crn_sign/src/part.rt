@@ -1,6 +1,6 @@
 //! A part of a sign problem: whether its system at a prefix has a solution, or which multipliers rule it out.
 
-ghost use Rattle.std.specs.Prelude.{◌≡◌, ◌≤◌, ℤ, List, length, IsTrue, IfOk, OnOk, MatchOption, MatchResult, false};
+ghost use Rattle.std.specs.Prelude.{◌≡◌, ◌≤◌, ℤ, List, length, IsTrue, IfOk, OnOk, MatchResult, false};
 ghost use Rattle.crn_vec.specs.Systems.{IsSolution, signed_count};
 ghost use Rattle.crn_vec.specs.declared.limits.TheConstants.{MAX_SIGNED};
 ghost use Rattle.crn_farkas.specs.Decision.{IsSmallCut, IsSmallSolution, IsTargetStop};
@@ -8,11 +8,12 @@ ghost use Rattle.crn_farkas.specs.Solver.{IsCutBy};
 ghost use Rattle.crn_sign.specs.Inner.Bits.{word_count};
 ghost use Rattle.crn_sign.specs.Inner.Marks.{AreRowMarks, AreSuited, kinds_of};
 ghost use Rattle.crn_sign.specs.Inner.Parts.{IsPart, IsRuling};
+ghost use Rattle.crn_sign.specs.Inner.PastCuts.{IsKnown};
 ghost use Rattle.crn_sign.specs.Inner.Places.{IsPlace};
 
 use crate::bits::Bits;
 use crate::finder::Finder;
-use crate::past::{Past, PastCuts, empty_cuts, first_again, keep_cut, share};
+use crate::past::{Known, Past, PastCuts, empty_cuts, keep_cut, known_again, share};
 use crate::place::{Place, is_met};
 use crn_farkas::{Cut, Decision, Feasibility, Solver, Stop};
 use crn_vec::{Ints, Matrix, NoMemory, cuts_exclude_solutions};
@@ -52,25 +53,27 @@ impl Part {
         })
     }
 
-    // Multipliers that ruled out a system of a prefix of this length, or their negatives, if they
-    // rule this system out. A prefix's length alone says which of its coordinates are settled.
+    // Whether multipliers that ruled out a system of a prefix of this length, or their negatives, rule this
+    // system out. A prefix's length alone says which of its coordinates are settled.
+    #[inline(always)]
     fn past_cut(
         &mut self,
         matrix: &Matrix,
         weak: &[u64],
         asked: &[Bits],
         depth: usize,
-    ) -> Result<Option<Rc<Ints>>, NoMemory>
+        keeps: bool,
+    ) -> Result<Known, NoMemory>
         requires part { IsPart matrix.now self.old }
         requires asked { length asked.now ≡ word_count matrix.now }
         ensures part { IsPart matrix.now self.new }
-        ensures cut { IfOk result (λ o. MatchOption o (Unit {0})
-            (λ u. IsSmallCut matrix.now (kinds_of matrix.now weak.now asked.now) u.value.list)) }
+        ensures known { IfOk result (λ known. IsKnown matrix.now
+            (kinds_of matrix.now weak.now asked.now) keeps known) }
     {
         if depth < self.past_cuts.len() && !self.past_cuts[depth].trials.is_empty() {
-            return first_again(matrix, weak, asked, &mut self.past_cuts[depth]);
+            return known_again(matrix, weak, asked, &mut self.past_cuts[depth], keeps);
         }
-        Ok(None)
+        Ok(Known::Open)
     }
 
     // The multipliers of the vector by which the system has no solution. They are kept.
@@ -142,32 +145,35 @@ impl Part {
         }
     }
 
-    /// Past multipliers that rule the system of a prefix of this length out, if some do.
+    /// Whether past multipliers rule the system of a prefix of this length out, and a reference to them if they
+    /// are to be kept.
+    #[inline(always)]
     pub fn known_cut(
         &mut self,
         matrix: &Matrix,
         weak: &[u64],
         place: &Place,
         depth: usize,
-    ) -> Result<Option<Rc<Ints>>, NoMemory>
+        keeps: bool,
+    ) -> Result<Known, NoMemory>
         requires part { IsPart matrix.now self.old }
         requires asked { length place.now.asked.items ≡ word_count matrix.now }
         ensures part { IsPart matrix.now self.new }
-        ensures cut { IfOk result (λ o. MatchOption o (Unit {0})
-            (λ u. IsSmallCut matrix.now
-            (kinds_of matrix.now weak.now place.now.asked.items) u.value.list)) }
+        ensures known { IfOk result (λ known. IsKnown matrix.now
+            (kinds_of matrix.now weak.now place.now.asked.items) keeps known) }
     {
         if place.suits {
-            return Ok(None);
+            return Ok(Known::Open);
         }
-        let u = self.past_cut(matrix, weak, &place.asked, depth)?;
-        Ok(u)
+        let known = self.past_cut(matrix, weak, &place.asked, depth, keeps)?;
+        Ok(known)
     }
 
     /// Multipliers that rule the system of a prefix of this length out, or none if it has a solution.
     ///
     /// If the marks of the vector that served one level above do not suit, it changes that vector by past
     /// ones, and by the solver for the rest.
+    #[inline(always)]
     pub fn ruled_out(
         &mut self,
         matrix: &Matrix,

@@ -1,4 +1,4 @@
-ghost use Rattle.std.specs.Prelude.{◌≡◌, ◌<◌, ◌*◌, ◌*ℤ◌, ℕ, ℤ, List, length, false, unsigned_abs, IsTrue, IfOk, OnOk, MatchOption};
+ghost use Rattle.std.specs.Prelude.{◌≡◌, ◌<◌, ◌*◌, ◌*ℤ◌, ℕ, ℤ, List, length, false, unsigned_abs, IsTrue, IfOk, IfSome, OnOk, MatchOption};
 ghost use Rattle.std.specs.Int.{bit_at};
 ghost use Rattle.std.specs.List.{AllZip};
 ghost use Rattle.crn_vec.specs.Vectors.{HasSign, entry, scale};
@@ -10,7 +10,7 @@ ghost use Rattle.crn_sign.specs.declared.marks.Mark.TheVariants.{Zero};
 ghost use Rattle.crn_sign.specs.Inner.Bits.{IsMarked, mark_at, mark_in, word_count};
 ghost use Rattle.crn_sign.specs.Inner.Marks.{kinds_of, sign_mark};
 ghost use Rattle.crn_sign.specs.Inner.Past.{AllWeigh, AreMarksOf, Counts, SomeCounts, Weighs, mark_of_multiple};
-ghost use Rattle.crn_sign.specs.Inner.PastCuts.{AreAllPast, ArePastCuts, IsPastOf};
+ghost use Rattle.crn_sign.specs.Inner.PastCuts.{AreAllPast, ArePastCuts, IsKnown, IsPastOf};
 
 use crate::bits::{Bits, NONE, put_mark, word_of};
 use crate::marks::{Mark, opposite as negatives_of, word_count};
@@ -25,6 +25,14 @@ pub(crate) struct Past {
     pub multipliers: Rc<Ints>,
     pub negatives: Rc<Ints>,
     pub marks: Vec<Bits>,
+}
+
+/// Whether past multipliers rule a system out, and a reference to them if they are to be kept.
+#[derive(Drop)]
+pub(crate) enum Known {
+    Open,
+    RuledOut,
+    RuledOutBy(Rc<Ints>),
 }
 
 /// The number of multipliers, the word of their marks that refused them and their negatives last, and
@@ -185,17 +193,14 @@ impl Past {
     }
 
     // The multipliers, or their negatives.
-    fn multiple(&self, _matrix: &Matrix, stays: bool) -> Result<Rc<Ints>, NoMemory>
+    fn multiple(&self, _matrix: &Matrix, stays: bool) -> &Rc<Ints>
         requires { IsPastOf _matrix.now self.now }
-        ensures { IfOk result (λ made. made.value.list
-            ≡ scale (factor stays) self.now.multipliers.value.list) }
+        ensures { result.now.value.list ≡ scale (factor stays) self.now.multipliers.value.list }
     {
         if stays {
-            let made = share(&self.multipliers)?;
-            return Ok(made);
+            return &self.multipliers;
         }
-        let made = share(&self.negatives)?;
-        Ok(made)
+        &self.negatives
     }
 
     // Whether the list, or else its negative, rules the system with these kinds out, and which does.
@@ -218,22 +223,16 @@ impl Past {
     }
 
     // The multipliers, or their negatives, if they rule the system with these kinds out.
-    fn again(
-        &self,
-        matrix: &Matrix,
-        weak: &[u64],
-        asked: &[Bits],
-    ) -> Result<Option<Rc<Ints>>, NoMemory>
+    fn again(&self, matrix: &Matrix, weak: &[u64], asked: &[Bits]) -> Option<&Rc<Ints>>
         requires past { IsPastOf matrix.now self.now }
         requires asked { length asked.now ≡ word_count matrix.now }
-        ensures { IfOk result (λ o. MatchOption o (Unit {0})
-            (λ u. IsSmallCut matrix.now (kinds_of matrix.now weak.now asked.now) u.value.list)) }
+        ensures { IfSome result (λ u. IsSmallCut matrix.now
+            (kinds_of matrix.now weak.now asked.now) u.now.value.list) }
     {
         if let Some(stays) = self.ruling(weak, asked) {
-            let u = self.multiple(matrix, stays)?;
-            return Ok(Some(u));
+            return Some(self.multiple(matrix, stays));
         }
-        Ok(None)
+        None
     }
 }
 
@@ -306,68 +305,77 @@ fn keep_refusing(asked: &[Bits], marks: &[Bits], trial: &mut Trial) {
 }
 
 // The multipliers of a trial, or their negatives, if they rule a system out.
-fn tried(
+fn tried<'a>(
     matrix: &Matrix,
     weak: &[u64],
     asked: &[Bits],
-    past: &[Past],
+    past: &'a [Past],
     trial: &mut Trial,
-) -> Result<Option<Rc<Ints>>, NoMemory>
+) -> Option<&'a Rc<Ints>>
     requires past { AreAllPast matrix.now past.now }
     requires asked { length asked.now ≡ word_count matrix.now }
-    ensures { IfOk result (λ o. MatchOption o (Unit {0})
-        (λ u. IsSmallCut matrix.now (kinds_of matrix.now weak.now asked.now) u.value.list)) }
+    ensures { IfSome result (λ u. IsSmallCut matrix.now
+        (kinds_of matrix.now weak.now asked.now) u.now.value.list) }
 {
     let number = trial.number;
     if number < past.len() {
-        let cut = past[number].again(matrix, weak, asked)?;
+        let cut = past[number].again(matrix, weak, asked);
         if cut.is_none() {
             keep_refusing(asked, &past[number].marks, trial);
         }
-        return Ok(cut);
+        return cut;
     }
-    Ok(None)
+    None
 }
 
 // The first of these multipliers, or of their negatives, that rule a system out. Trials that are refused
 // again are passed over.
-fn first_tried(
+#[inline(never)]
+fn first_again<'a>(
     matrix: &Matrix,
     weak: &[u64],
     asked: &[Bits],
-    past: &[Past],
+    past: &'a [Past],
     trials: &mut [Trial],
-) -> Result<Option<Rc<Ints>>, NoMemory>
+) -> Option<&'a Rc<Ints>>
     requires past { AreAllPast matrix.now past.now }
     requires asked { length asked.now ≡ word_count matrix.now }
-    ensures { IfOk result (λ o. MatchOption o (Unit {0})
-        (λ u. IsSmallCut matrix.now (kinds_of matrix.now weak.now asked.now) u.value.list)) }
+    ensures { IfSome result (λ u. IsSmallCut matrix.now
+        (kinds_of matrix.now weak.now asked.now) u.now.value.list) }
 {
     for i in 0..trials.len() {
         if !are_refused_again(asked, &trials[i]) {
-            if let Some(u) = tried(matrix, weak, asked, past, &mut trials[i])? {
+            if let Some(u) = tried(matrix, weak, asked, past, &mut trials[i]) {
                 trials.swap(i / 2, i);
-                return Ok(Some(u));
+                return Some(u);
             }
         }
     }
-    Ok(None)
+    None
 }
 
-/// The first of these multipliers, or of their negatives, that rule the system out of which this is
-/// asked.
-#[inline(never)]
-pub(crate) fn first_again(
+/// Whether some of these multipliers, or of their negatives, rule the system out of which this is asked. A
+/// reference to the first that do is made if they are to be kept.
+#[inline(always)]
+pub(crate) fn known_again(
     matrix: &Matrix,
     weak: &[u64],
     asked: &[Bits],
     past: &mut PastCuts,
-) -> Result<Option<Rc<Ints>>, NoMemory>
+    keeps: bool,
+) -> Result<Known, NoMemory>
     requires past { AreAllPast matrix.now past.old.items.items }
     requires asked { length asked.now ≡ word_count matrix.now }
     ensures past { past.new.items ≡ past.old.items }
-    ensures cut { IfOk result (λ o. MatchOption o (Unit {0})
-        (λ u. IsSmallCut matrix.now (kinds_of matrix.now weak.now asked.now) u.value.list)) }
+    ensures known { IfOk result (λ known. IsKnown matrix.now
+        (kinds_of matrix.now weak.now asked.now) keeps known) }
 {
-    first_tried(matrix, weak, asked, &past.items, &mut past.trials)
+    if let Some(u) = first_again(matrix, weak, asked, &past.items, &mut past.trials) {
+        if keeps {
+            let kept = share(u)?;
+            return Ok(Known::RuledOutBy(kept));
+        }
+        return Ok(Known::RuledOut);
+    }
+    Ok(Known::Open)
 }

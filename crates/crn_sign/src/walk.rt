@@ -1,4 +1,4 @@
-ghost use Rattle.std.specs.Prelude.{◌≡◌, ◌≤◌, ◌<◌, ◌-◌, ◌++◌, ◌∷◌, [], ◌↔◌, ℕ, ℤ, List, length, true, false, IsTrue, IfOk, IfErr, OnOk, MatchOption, MatchResult};
+ghost use Rattle.std.specs.Prelude.{◌≡◌, ◌≤◌, ◌<◌, ◌-◌, ◌++◌, ◌∷◌, [], ◌↔◌, ℕ, ℤ, List, length, true, false, IsTrue, IfOk, IfErr, OnOk, MatchResult};
 ghost use Rattle.crn_vec.specs.Systems.{IsSolution};
 ghost use Rattle.crn_vec.specs.Kept.{KeptInts};
 ghost use Rattle.crn_farkas.specs.Decision.{IsSmallCut};
@@ -7,7 +7,7 @@ ghost use Rattle.crn_vec.specs.Elementary.{NamesWide};
 ghost use Rattle.crn_vec.specs.Problems.{IsFull, IsFeasible, IsLawful, IsPrefix};
 ghost use Rattle.crn_vec.specs.declared.signs.Sign.{Sign};
 ghost use Rattle.crn_sign.specs.Search.{IsOutcome, IsSearchStop};
-ghost use Rattle.crn_sign.specs.Inner.Walk.{EndsAt, EndsBelow, HasTree, IsEndOf, IsFoundAt, IsLeafAt, IsLeafOrNone, IsWideA, IsWideB, split_node};
+ghost use Rattle.crn_sign.specs.Inner.Walk.{EndsAt, EndsBelow, HasTree, IsEndOf, IsFoundAt, IsLevelUnless, IsSolvedUnless, IsWideA, IsWideB, MayListLeaf, split_node};
 ghost use Rattle.crn_sign.specs.Inner.Parts.{IsPart, IsRuling};
 ghost use Rattle.crn_sign.specs.Inner.Places.{IsAsked, IsHere, IsPlace};
 ghost use Rattle.crn_sign.specs.Inner.Ready.{AreAround, AreAsked, AreFor, AreMarked, AreRooms, AreRoomsBelow, HasRooms, HasSums, IsLevel, IsReady, SamePlace};
@@ -17,6 +17,7 @@ use crate::end::SearchEnd;
 use crate::fault::SearchStop;
 use crate::marks::word_count;
 use crate::part::Part;
+use crate::past::Known;
 use crate::place::{Place, begin_a, begin_b, enter_b};
 use crate::problem::SignProblem;
 use crate::signs::Signs;
@@ -93,48 +94,66 @@ fn wide_b(stop: Stop, is_first: bool) -> SearchStop
     }
 }
 
-// Past multipliers that rule part A of the prefix out, if some do.
-fn known_cut_a<P: SignProblem>(
+// Whether past multipliers rule part A of the prefix out. Its leaf is then listed, if nodes are kept.
+#[inline(always)]
+fn is_known_a<P: SignProblem>(
     problem: &P,
     search: &mut Progress,
     here: &Place,
-) -> Result<Option<Rc<Ints>>, SearchStop>
+    listing: &mut Listing,
+) -> Result<bool, NoMemory>
     requires ready { IsReady (P.signed problem.now) search.old }
     requires here { IsAsked (P.signed problem.now).matrix_a (P.weak problem.now)
         ((P.signed problem.now).kinds_a search.old.prefix.items) here.now }
     ensures place { OnOk result (SamePlace search.old search.new) }
     ensures ready { OnOk result (IsReady (P.signed problem.now) search.new) }
-    ensures cut { IfOk result (λ o. MatchOption o (Unit {0})
-        (λ u. IsSmallCut (P.signed problem.now).matrix_a
-        ((P.signed problem.now).kinds_a search.old.prefix.items) u.value.list)) }
-    ensures stop { IfErr result (λ s. IsSearchStop (P.signed problem.now) s) }
+    ensures leaf { IfOk result (λ known. MayListLeaf (P.signed problem.now)
+        search.old.prefix.items listing.old listing.new known) }
 {
     let depth = search.prefix.len();
-    let u = search
+    let keeps = listing.keeps;
+    let known = search
         .a
-        .known_cut(problem.matrix_a(), problem.weak_a(), here, depth)?;
-    Ok(u)
+        .known_cut(problem.matrix_a(), problem.weak_a(), here, depth, keeps)?;
+    match known {
+        Known::Open => Ok(false),
+        Known::RuledOut => Ok(true),
+        Known::RuledOutBy(u) => {
+            list_node(listing, TreeNode::CutA(u))?;
+            Ok(true)
+        }
+    }
 }
 
-// Past multipliers that rule part B of the prefix out, if some do.
-fn known_cut_b<P: SignProblem>(
+// Whether past multipliers rule part B of the prefix out. Its leaf is then listed, if nodes are kept.
+#[inline(always)]
+fn is_known_b<P: SignProblem>(
     problem: &P,
     search: &mut Progress,
     here: &Place,
-) -> Result<Option<Rc<Ints>>, SearchStop>
+    listing: &mut Listing,
+) -> Result<bool, NoMemory>
     requires ready { IsReady (P.signed problem.now) search.old }
     requires here { IsAsked (P.signed problem.now).matrix_b []
         ((P.signed problem.now).kinds_b search.old.prefix.items) here.now }
     ensures place { OnOk result (SamePlace search.old search.new) }
     ensures ready { OnOk result (IsReady (P.signed problem.now) search.new) }
-    ensures cut { IfOk result (λ o. MatchOption o (Unit {0})
-        (λ u. IsSmallCut (P.signed problem.now).matrix_b
-        ((P.signed problem.now).kinds_b search.old.prefix.items) u.value.list)) }
-    ensures stop { IfErr result (λ s. IsSearchStop (P.signed problem.now) s) }
+    ensures leaf { IfOk result (λ known. MayListLeaf (P.signed problem.now)
+        search.old.prefix.items listing.old listing.new known) }
 {
     let depth = search.prefix.len();
-    let u = search.b.known_cut(problem.matrix_b(), &[], here, depth)?;
-    Ok(u)
+    let keeps = listing.keeps;
+    let known = search
+        .b
+        .known_cut(problem.matrix_b(), &[], here, depth, keeps)?;
+    match known {
+        Known::Open => Ok(false),
+        Known::RuledOut => Ok(true),
+        Known::RuledOutBy(u) => {
+            list_node(listing, TreeNode::CutB(u))?;
+            Ok(true)
+        }
+    }
 }
 
 // Notes whether what served one level above suits what is required of both parts.
@@ -163,14 +182,16 @@ fn take<P: SignProblem>(problem: &P, above: &Level, here: &mut Level)
     here.b.take(problem.matrix_b(), &[], &above.b);
 }
 
-// A leaf for the prefix by past multipliers of a part, if some rule it out, or else what both parts know
-// at the prefix. No solver is asked.
+// Whether past multipliers of a part rule the prefix out. Its leaf is then listed, if nodes are kept; else
+// it is found what both parts know at the prefix. No solver is asked.
+#[inline(always)]
 fn arrive<P: SignProblem>(
     problem: &P,
     search: &mut Progress,
     above: &Level,
     here: &mut Level,
-) -> Result<Option<TreeNode>, SearchStop>
+    listing: &mut Listing,
+) -> Result<bool, NoMemory>
     requires ready { IsReady (P.signed problem.now) search.old }
     requires above { AreMarked (P.signed problem.now) above.now }
     requires here { AreAsked (P.signed problem.now) (P.weak problem.now)
@@ -180,23 +201,26 @@ fn arrive<P: SignProblem>(
     ensures asked { OnOk result
         (AreAsked (P.signed problem.now) (P.weak problem.now) search.old.prefix.items here.new) }
     ensures sums { OnOk result (here.new.sums.items ≡ here.old.sums.items) }
-    ensures leaf { IfOk result (λ o. MatchOption o
-        (IsLevel (P.signed problem.now) (P.weak problem.now) search.old.prefix.items here.new)
-        (λ node. IsLeafAt (P.signed problem.now) search.old.prefix.items node)) }
-    ensures stop { IfErr result (λ s. IsSearchStop (P.signed problem.now) s) }
+    ensures leaf { IfOk result (λ known. MayListLeaf (P.signed problem.now)
+        search.old.prefix.items listing.old listing.new known) }
+    ensures level { IfOk result (λ known. IsLevelUnless known (P.signed problem.now)
+        (P.weak problem.now) search.old.prefix.items here.new) }
 {
     look(problem, &search.prefix, above, here);
-    if let Some(u) = known_cut_b(problem, search, &here.b)? {
-        return Ok(Some(TreeNode::CutB(u)));
+    let by_b = is_known_b(problem, search, &here.b, listing)?;
+    if by_b {
+        return Ok(true);
     }
-    if let Some(u) = known_cut_a(problem, search, &here.a)? {
-        return Ok(Some(TreeNode::CutA(u)));
+    let by_a = is_known_a(problem, search, &here.a, listing)?;
+    if by_a {
+        return Ok(true);
     }
     take(problem, above, here);
-    Ok(None)
+    Ok(false)
 }
 
 // Multipliers that rule part A of the prefix out, or none if it has a solution.
+#[inline(always)]
 fn rule_out_a<P: SignProblem>(
     problem: &P,
     search: &mut Progress,
@@ -225,6 +249,7 @@ fn rule_out_a<P: SignProblem>(
 }
 
 // Multipliers that rule part B of the prefix out, or none if it has a solution.
+#[inline(always)]
 fn rule_out_b<P: SignProblem>(
     problem: &P,
     search: &mut Progress,
@@ -249,14 +274,16 @@ fn rule_out_b<P: SignProblem>(
     }
 }
 
-// A leaf for the prefix, or none if both its parts have solutions. What is known of either part is tried
-// before the solver of one is asked.
+// Whether multipliers of a part rule the prefix out. Its leaf is then listed, if nodes are kept; else both
+// parts have solutions. What is known of either part is tried before the solver of one is asked.
+#[inline(always)]
 fn rule_out<P: SignProblem>(
     problem: &P,
     search: &mut Progress,
     above: &Level,
     here: &mut Level,
-) -> Result<Option<TreeNode>, SearchStop>
+    listing: &mut Listing,
+) -> Result<bool, SearchStop>
     requires ready { IsReady (P.signed problem.now) search.old }
     requires above { AreMarked (P.signed problem.now) above.now }
     requires here { AreAsked (P.signed problem.now) (P.weak problem.now)
@@ -266,26 +293,31 @@ fn rule_out<P: SignProblem>(
     ensures asked { OnOk result
         (AreAsked (P.signed problem.now) (P.weak problem.now) search.old.prefix.items here.new) }
     ensures sums { OnOk result (here.new.sums.items ≡ here.old.sums.items) }
-    ensures here { IfOk result (λ o. MatchOption o
-        (IsLevel (P.signed problem.now) (P.weak problem.now) search.old.prefix.items here.new)
-        (λ node. Unit {0})) }
-    ensures answer { MatchResult result
-        (λ o. IsLeafOrNone (P.signed problem.now) search.old.prefix.items o)
-        (λ s. IsSearchStop (P.signed problem.now) s) }
+    ensures leaf { IfOk result (λ ruled. MayListLeaf (P.signed problem.now)
+        search.old.prefix.items listing.old listing.new ruled) }
+    ensures level { IfOk result (λ ruled. IsLevelUnless ruled (P.signed problem.now)
+        (P.weak problem.now) search.old.prefix.items here.new) }
+    ensures solved { IfOk result (λ ruled. IsSolvedUnless ruled (P.signed problem.now)
+        search.old.prefix.items) }
+    ensures stop { IfErr result (λ s. IsSearchStop (P.signed problem.now) s) }
 {
-    if let Some(node) = arrive(problem, search, above, here)? {
-        return Ok(Some(node));
+    let known = arrive(problem, search, above, here, listing)?;
+    if known {
+        return Ok(true);
     }
     if let Some(u) = rule_out_b(problem, search, &mut here.b)? {
-        return Ok(Some(TreeNode::CutB(u)));
+        list_node(listing, TreeNode::CutB(u))?;
+        return Ok(true);
     }
     if let Some(u) = rule_out_a(problem, search, &mut here.a)? {
-        return Ok(Some(TreeNode::CutA(u)));
+        list_node(listing, TreeNode::CutA(u))?;
+        return Ok(true);
     }
-    Ok(None)
+    Ok(false)
 }
 
 // The full prefix, which is feasible, with solutions of its parts.
+#[inline(always)]
 fn found_end<P: SignProblem>(
     problem: &P,
     search: &mut Progress,
@@ -503,8 +535,8 @@ pub(crate) fn walk<P: SignProblem>(
         list_node(listing, TreeNode::Flat)?;
         return Ok(Ending::Refuted);
     }
-    if let Some(node) = rule_out(problem, search, above, here)? {
-        list_node(listing, node)?;
+    let ruled = rule_out(problem, search, above, here, listing)?;
+    if ruled {
         return Ok(Ending::Refuted);
     }
     at_level(problem, search, here);

@@ -3,7 +3,7 @@
 -- Shapes: `left` visits are allowed where it begins, and `after` where it ends; `old` is the listing
 -- of nodes where it begins, and `new` that where it ends. `due` lists the prefixes that are to
 -- be visited with all below them.
-use Rattle.std.specs.Prelude.{◌≡◌, ◌+◌, ℕ, ℤ, true, false, List, [], ◌∷◌, ◌++◌, length, map, Bool, Option, None, Some}
+use Rattle.std.specs.Prelude.{◌≡◌, ◌+◌, ℕ, ℤ, true, false, List, [], ◌∷◌, ◌++◌, length, map, Bool}
 use Rattle.crn_vec.specs.declared.signs.Sign.{Sign}
 use Rattle.crn_vec.specs.Problems.{Signed, IsFeasible, SolvesA, SolvesB, children}
 use Rattle.crn_vec.specs.Visits.{Visits, Passes}
@@ -17,10 +17,12 @@ use Rattle.crn_sign.specs.declared.end.SearchEnd.{SearchEnd}
 use Rattle.crn_sign.specs.declared.end.SearchEnd.TheVariants.{Found as FoundEnd, Refuted as RefutedEnd, Infeasible as InfeasibleEnd, Spent as SpentEnd}
 use Rattle.crn_sign.specs.declared.fault.SearchStop.{SearchStop}
 use Rattle.crn_sign.specs.declared.fault.SearchStop.TheVariants.{WideA, WideB, NoMemory}
+use Rattle.crn_sign.specs.declared.walk.Level.{Level}
 use Rattle.crn_sign.specs.declared.walk.Listing.{Listing}
 use Rattle.crn_sign.specs.declared.walk.Ending.{Ending}
 use Rattle.crn_sign.specs.declared.walk.Ending.TheVariants.{Found, Refuted, Spent}
 use Rattle.crn_sign.specs.Search.{IsFeasibleBy, IsTreeAt}
+use Rattle.crn_sign.specs.Inner.Ready.{IsLevel}
 
 -- the visits of what is due end with the full feasible prefix q
 pub record EndsWith (w : Signed) (due : List (List Sign)) (left after : ℕ) (q : List Sign)
@@ -39,29 +41,39 @@ pub record RunsOut (w : Signed) (due : List (List Sign)) (left after : ℕ) : Ty
   pub passes : Passes w due left
   pub none : after ≡ 0
 
--- the node alone is a tree that is valid at the prefix, and the prefix is not feasible
-pub record IsLeafAt (w : Signed) (p : List Sign) (node : TreeNode) : Type 0 where
-  pub tree : Plan
-  pub nodes : AreNodesOf tree (node ∷ [])
-  pub tree_at : IsTreeAt w p tree
-  pub one : places p tree ≡ p ∷ []
-  pub none : IsFeasible w p → ⊥
-
--- a leaf for the prefix, or none if both its parts have solutions
-abbrev pub IsLeafOrNone : Signed → List Sign → Option TreeNode → Type 0
-IsLeafOrNone w p None = ((x : List ℤ) × SolvesB w p x) × ((x : List ℤ) × SolvesA w p x)
-IsLeafOrNone w p (Some node) = IsLeafAt w p node
-
--- the node of a prefix that is split, by whether it has zeros alone
-abbrev pub split_node : Bool → TreeNode
-split_node true = SplitTwo
-split_node false = SplitThree
-
 -- if nodes are kept, those of the tree were put at the end of the old ones
 pub record Appends (old new : Listing) (tree : Plan) : Type 0 where
   pub keeps : new.keeps ≡ old.keeps
   pub nodes : old.keeps ≡ true
       → map listed new.nodes.items ≡ map listed old.nodes.items ++ preorder tree
+
+-- a tree of one node is valid at the prefix, which is not feasible, and the node was listed
+pub record IsLeafAt (w : Signed) (p : List Sign) (old new : Listing) : Type 0 where
+  pub tree : Plan
+  pub appends : Appends old new tree
+  pub tree_at : IsTreeAt w p tree
+  pub one : places p tree ≡ p ∷ []
+  pub none : IsFeasible w p → ⊥
+
+-- the prefix has a leaf, or nothing was listed
+abbrev pub MayListLeaf : Signed → List Sign → Listing → Listing → Bool → Type 0
+MayListLeaf w p old new true = IsLeafAt w p old new
+MayListLeaf w p old new false = new ≡ old
+
+-- what both parts know at the prefix, unless it has a leaf
+abbrev pub IsLevelUnless : Bool → Signed → List ℕ → List Sign → Level → Type 0
+IsLevelUnless true w weak p l = Unit {0}
+IsLevelUnless false w weak p l = IsLevel w weak p l
+
+-- both parts of the prefix have solutions, unless it has a leaf
+abbrev pub IsSolvedUnless : Bool → Signed → List Sign → Type 0
+IsSolvedUnless true w p = Unit {0}
+IsSolvedUnless false w p = ((x : List ℤ) × SolvesB w p x) × ((x : List ℤ) × SolvesA w p x)
+
+-- the node of a prefix that is split, by whether it has zeros alone
+abbrev pub split_node : Bool → TreeNode
+split_node true = SplitTwo
+split_node false = SplitThree
 
 -- what the visit of a prefix, and of all below it, ends with
 abbrev pub EndsAt : Signed → List Sign → ℕ → ℕ → Listing → Listing → Ending → Type 0

@@ -1,4 +1,4 @@
-use Rattle.crn_sign.proofs.Prelude.{◌≡◌, ◌+◌, List, [], ◌∷◌, ◌++◌, length, refl, sym, ◌∙◌, ap, subst, arith, rules, Bits, Flat, Listing, ListedSplitTwo, ListedSplitThree, listed, EndsAt, EndsBelow, IsFoundAt, split_node, Sign, Signed, IsFeasible, all_zero, AreAround, AreRoomsBelow}
+use Rattle.crn_sign.proofs.Prelude.{◌≡◌, ◌+◌, Bool, List, [], ◌∷◌, ◌++◌, length, refl, sym, ◌∙◌, ap, subst, arith, rules, Bits, Flat, Listing, ListedSplitTwo, ListedSplitThree, listed, EndsAt, EndsBelow, IsFoundAt, split_node, Sign, Signed, IsFeasible, all_zero, AreAround, AreRoomsBelow, IsLevelUnless, IsSolvedUnless, MayListLeaf}
 use Rattle.crn_vec.specs.declared.signs.Sign.TheVariants.{Zero, Plus, Minus}
 use Rattle.crn_sign.proofs.PlaceLaws.{asked_around, level_moved, taken_back}
 use Rattle.crn_sign.proofs.Walks.{run_out, feasible_from, leaf_flat, leaf_at, AppendsOne, appends_one, found_at, opened_at, child_tree, first_child, second_child, third_child, both_trees}
@@ -11,8 +11,10 @@ pub walk-returns-then-closed-clause-answer : goal.walk-returns-then-closed-claus
 walk-returns-then-closed-clause-answer g t c =
     let w : Signed = g.P.SignProblem.signed c.args.problem.now in
     let p : List Sign = c.args.search.now.prefix.items in
-    let l = leaf_flat w p (ap (λ (q : List Sign). w.closed q) (sym c.deref.ensures.value) ∙ sym c.closed.ensures ∙ c.if-closed.true) in
-    leaf_at w p Flat c.args.search.now.left _ c.args.listing.now c.list_node.new.listing (omega arith) (appends_one c.args.listing.now c.list_node.new.listing Flat (listed Flat) refl c.in_ok-list_node.ensures.keeps c.in_ok-list_node.ensures.nodes) l
+    let old = c.args.listing.now in
+    let new = c.list_node.new.listing in
+    let one = appends_one old new Flat (listed Flat) refl c.in_ok-list_node.ensures.keeps c.in_ok-list_node.ensures.nodes in
+    leaf_at w p c.args.search.now.left _ old new (omega arith) (leaf_flat w p old new one (ap (λ (q : List Sign). w.closed q) (sym c.deref.ensures.value) ∙ sym c.closed.ensures ∙ c.if-closed.true))
 
 pub split-returns-in_default : goal.split-returns-in_default
 split-returns-in_default g t c = record {
@@ -79,43 +81,50 @@ split-returns-clause-rest g t c =
     let w : Signed = g.P.SignProblem.signed c.args.problem.now in
     subst (λ (q : List Sign). AreRoomsBelow w q c.child-3.new.rest) (c.in_ok-end-2.ensures.prefix ∙ c.in_ok-end.ensures.prefix) c.in_ok-end-3.ensures.rest
 
-pub walk-returns-in-Some-clause-answer : goal.walk-returns-in-Some-clause-answer
-walk-returns-in-Some-clause-answer g t c =
+pub walk-returns-then-ruled-clause-answer : goal.walk-returns-then-ruled-clause-answer
+walk-returns-then-ruled-clause-answer g t c =
     let w : Signed = g.P.SignProblem.signed c.args.problem.now in
     let p : List Sign = c.args.search.now.prefix.items in
-    let d = rw c.in-Some.is at c.in_ok-node.ensures.answer in
-    leaf_at w p c.in-Some.node c.args.search.now.left _ c.args.listing.now c.list_node-in-Some.new.listing (omega (arith, c.in_ok-node.ensures.place.left)) (appends_one c.args.listing.now c.list_node-in-Some.new.listing c.in-Some.node (listed c.in-Some.node) refl c.in_ok-list_node-2.ensures.keeps c.in_ok-list_node-2.ensures.nodes) d
+    let l = subst (λ (b : Bool). MayListLeaf w p c.args.listing.now c.rule_out.new.listing b) c.if-ruled.true c.in_ok-ruled.ensures.leaf in
+    leaf_at w p c.args.search.now.left _ c.args.listing.now c.rule_out.new.listing (omega (arith, c.in_ok-ruled.ensures.place.left)) l
 
 pub walk-returns-then-len-length-clause-answer : goal.walk-returns-then-len-length-clause-answer
 walk-returns-then-len-length-clause-answer g t c =
     let w : Signed = g.P.SignProblem.signed c.args.problem.now in
-    let f = subst (λ (p : List Sign). IsFoundAt w p c.in_ok-found_end.field-0) c.in_ok-node.ensures.place.prefix c.in_ok-found_end.ensures.answer in
-    found_at w c.args.search.now.prefix.items c.args.search.now.left _ c.args.listing.now c.args.listing.now c.in_ok-found_end.field-0 (omega (arith, c.in_ok-node.ensures.place.left, c.in_ok-found_end.ensures.place.left)) f
+    let f = subst (λ (p : List Sign). IsFoundAt w p c.in_ok-found_end.field-0) c.in_ok-ruled.ensures.place.prefix c.in_ok-found_end.ensures.answer in
+    found_at w c.args.search.now.prefix.items c.args.search.now.left _ c.args.listing.now c.rule_out.new.listing c.in_ok-found_end.field-0 (omega (arith, c.in_ok-ruled.ensures.place.left, c.in_ok-found_end.ensures.place.left)) f
 
 pub walk-found_end-requires-clause-feasible : goal.walk-found_end-requires-clause-feasible
 walk-found_end-requires-clause-feasible g t c =
     let w : Signed = g.P.SignProblem.signed c.args.problem.now in
     let p : List Sign = c.args.search.now.prefix.items in
-    let d = rw c.in_default.is at c.in_ok-node.ensures.answer in
+    let d = subst (λ (b : Bool). IsSolvedUnless b w p) c.if-ruled.false c.in_ok-ruled.ensures.solved in
     let s = feasible_from w p p refl (ap (λ (q : List Sign). w.closed q) (sym c.deref.ensures.value) ∙ sym c.closed.ensures ∙ c.if-closed.false) d.0 d.1 in
-    subst (IsFeasible w) (sym c.in_ok-node.ensures.place.prefix) s
+    subst (IsFeasible w) (sym c.in_ok-ruled.ensures.place.prefix) s
 
 pub walk-returns-clause-answer : goal.walk-returns-clause-answer
 walk-returns-clause-answer g t c =
     let w : Signed = g.P.SignProblem.signed c.args.problem.now in
     let p : List Sign = c.args.search.now.prefix.items in
-    let d = rw c.in_default.is at c.in_ok-node.ensures.answer in
-    let same = c.in_ok-node.ensures.place.prefix in
+    let old : Listing = c.args.listing.now in
+    let mid : Listing = c.rule_out.new.listing in
+    let new : Listing = c.split.new.listing in
+    let d = subst (λ (b : Bool). IsSolvedUnless b w p) c.if-ruled.false c.in_ok-ruled.ensures.solved in
+    let unlisted : mid ≡ old = subst (λ (b : Bool). MayListLeaf w p old mid b) c.if-ruled.false c.in_ok-ruled.ensures.leaf in
+    let same = c.in_ok-ruled.ensures.place.prefix in
     let s = feasible_from w p p refl (ap (λ (q : List Sign). w.closed q) (sym c.deref.ensures.value) ∙ sym c.closed.ensures ∙ c.if-closed.false) d.0 d.1 in
-    let e = subst (λ (q : List Sign). EndsBelow w q c.rule_out.new.search.left c.split.new.search.left c.args.listing.now c.split.new.listing c.in_ok-end.end) same c.in_ok-end.ensures.answer in
+    let b = subst (λ (q : List Sign). EndsBelow w q c.rule_out.new.search.left c.split.new.search.left mid new c.in_ok-end.end) same c.in_ok-end.ensures.answer in
+    let e = subst (λ (l : Listing). EndsBelow w p c.rule_out.new.search.left c.split.new.search.left l new c.in_ok-end.end) unlisted b in
     let long : length c.rule_out.new.search.prefix.items ≡ length p = ap (λ (q : List Sign). length q) same in
-    let one : c.rule_out.new.search.left + 1 ≡ c.args.search.now.left = omega (arith, c.in_ok-node.ensures.place.left) in
-    opened_at w p c.args.search.now.left c.rule_out.new.search.left c.split.new.search.left c.args.listing.now c.split.new.listing c.in_ok-end.end one s (λ (f : length p ≡ w.choices). omega (arith, f, long, c.len.ensures, c.length.ensures.choices, c.if-len-length.false)) e
+    let one : c.rule_out.new.search.left + 1 ≡ c.args.search.now.left = omega (arith, c.in_ok-ruled.ensures.place.left) in
+    opened_at w p c.args.search.now.left c.rule_out.new.search.left c.split.new.search.left old new c.in_ok-end.end one s (λ (f : length p ≡ w.choices). omega (arith, f, long, c.len.ensures, c.length.ensures.choices, c.if-len-length.false)) e
 
 pub walk-at_level-requires : goal.walk-at_level-requires
 walk-at_level-requires g t c =
     let w : Signed = g.P.SignProblem.signed c.args.problem.now in
-    level_moved w (g.P.SignProblem.weak c.args.problem.now) c.args.search.now.prefix.items c.rule_out.new.search.prefix.items c.rule_out.new.here c.in_ok-node.ensures.place.prefix (rw c.in_default.is at c.in_ok-node.ensures.here)
+    let weak = g.P.SignProblem.weak c.args.problem.now in
+    let p : List Sign = c.args.search.now.prefix.items in
+    level_moved w weak p c.rule_out.new.search.prefix.items c.rule_out.new.here c.in_ok-ruled.ensures.place.prefix (subst (λ (b : Bool). IsLevelUnless b w weak p c.rule_out.new.here) c.if-ruled.false c.in_ok-ruled.ensures.level)
 
 pub child-returns-clause-ready : goal.child-returns-clause-ready
 child-returns-clause-ready g t c =
