@@ -19,7 +19,7 @@ pub use Rattle.crn_sign.specs.Inner.Ready.{AreAround, AreAsked, AreMarked, AreRo
 pub use Rattle.crn_sign.specs.Inner.RowSigns.{AreRowSigns}
 pub use Rattle.crn_sign.specs.Inner.Walk.{Appends, EndsAt, EndsBelow, EndsWith, EndsWithout, HasTree, IsEndOf, IsFoundAt, IsLeafAt, IsLevelUnless, IsSolvedUnless, MayListLeaf, RunsOut, split_node}
 pub use Rattle.crn_sign.specs.Options.{AskKinds, AskKindsBy, IsPut, kind_by as asked_by, asked_kind, bit_of, kind_by_words, kind_in, kind_of_bits, minus_at, plus_at, weakened, word_of}
-pub use Rattle.crn_sign.specs.Search.{IsFeasibleBy, IsOutcome, IsSearchEnd, IsTreeAt}
+pub use Rattle.crn_sign.specs.Search.{IsFeasibleBy, IsOutcome, IsSearchEnd, IsSearchStop, IsTreeAt}
 pub use Rattle.crn_sign.specs.Settled.{SettlesOnly}
 pub use Rattle.crn_sign.specs.declared.bits.Bits.{Bits}
 pub use Rattle.crn_sign.specs.declared.end.SearchEnd.{SearchEnd}
@@ -55,4 +55,4 @@ pub use Rattle.std.proofs.lemmas.Nat.Bits.{bit_at-lt, bit_at-trailing_zeros, bit
 pub use Rattle.std.proofs.lemmas.Result.{err_from_is_err_and}
 pub use Rattle.std.specs.Int.{bit_at, trailing_zeros, w128}
 pub use Rattle.std.specs.List.{AllByRecursion, AllZip, range_with_len}
-pub use Rattle.std.specs.Prelude.{negsuc, pos, unsigned_abs, ◌*ℤ◌, ◌+ℤ◌, ◌≤ℤ◌}
+pub use Rattle.std.specs.Prelude.{MatchResult, negsuc, pos, unsigned_abs, ◌*ℤ◌, ◌+ℤ◌, ◌≤ℤ◌}

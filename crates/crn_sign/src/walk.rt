@@ -668,10 +668,19 @@ fn visit_from<P: SignProblem>(
         (λ s. IsSearchStop (P.signed problem.now) s) }
 {
     let above = first_level(alloc, problem)?;
-    let mut first = first_level(alloc, problem)?;
-    let mut levels = rooms(alloc, problem)?;
-    let end = walk(problem, search, &above, &mut first, &mut levels, listing)?;
-    Ok(end)
+    let Ok(mut first) = first_level(alloc, problem) else {
+        drop(above);
+        return Err(SearchStop::NoMemory);
+    };
+    let Ok(mut levels) = rooms(alloc, problem) else {
+        drop(above);
+        drop(first);
+        return Err(SearchStop::NoMemory);
+    };
+    let end = walk(problem, search, &above, &mut first, &mut levels, listing);
+    drop(above);
+    drop(first);
+    end
 }
 
 // How at most this many visits end, the first of which is that of the prefix with no choice.
