@@ -36,13 +36,12 @@ pub(crate) enum Known {
 }
 
 /// The number of multipliers, the word of their marks that refused them and their negatives last, and
-/// the marks of both there. It decides only what is tried, and in which order.
+/// the marks there. It decides only what is tried, and in which order.
 #[derive(Drop)]
 pub(crate) struct Trial {
     pub number: usize,
     pub word: usize,
     pub here: Bits,
-    pub negatives: Bits,
 }
 
 /// What ruled systems of prefixes of one length out.
@@ -275,7 +274,6 @@ pub(crate) fn keep_cut(
             number,
             word: 0,
             here: NONE,
-            negatives: NONE,
         })?;
         past[depth].items.push(cut)?;
     }
@@ -283,22 +281,21 @@ pub(crate) fn keep_cut(
 }
 
 // Whether neither numbers of these marks nor their negatives may be weighed where this is required.
-fn are_refused(asked: Bits, here: Bits, negatives: Bits) -> bool {
-    refused(asked, here) != 0 && refused(asked, negatives) != 0
+fn are_refused(asked: Bits, here: Bits) -> bool {
+    refused(asked, here) != 0 && refused(asked, negatives_of(here)) != 0
 }
 
 // Whether the word that refused multipliers and their negatives last does so again.
 fn are_refused_again(asked: &[Bits], trial: &Trial) -> bool {
-    trial.word < asked.len() && are_refused(asked[trial.word], trial.here, trial.negatives)
+    trial.word < asked.len() && are_refused(asked[trial.word], trial.here)
 }
 
 // Keeps a word that refuses multipliers and their negatives, if one does.
 fn keep_refusing(asked: &[Bits], marks: &[Bits], trial: &mut Trial) {
     for w in 0..asked.len() {
-        if w < marks.len() && are_refused(asked[w], marks[w], negatives_of(marks[w])) {
+        if w < marks.len() && are_refused(asked[w], marks[w]) {
             trial.word = w;
             trial.here = marks[w];
-            trial.negatives = negatives_of(marks[w]);
             return;
         }
     }
