@@ -418,6 +418,7 @@ fn split_node(zeros: bool) -> TreeNode
 
 // Visits the prefix with one more option, and all that is visited below it.
 #[cycle(walk)]
+#[inline(always)]
 fn child<P: SignProblem>(
     problem: &P,
     search: &mut Progress,
