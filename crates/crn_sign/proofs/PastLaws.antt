@@ -1,5 +1,5 @@
 -- What past multipliers rule out, by the marks of the list (-uA, u).
-use Rattle.crn_sign.proofs.Prelude.{◌≡◌, ◌≢◌, ℕ, zero, suc, ◌+◌, ◌-◌, ◌≤◌, ◌<◌, ◌/◌, ◌%◌, inl, inr, List, [], ◌∷◌, length, replicate, Bool, true, false, refl, sym, ap, ap₂, subst, ◌∙◌, arith, pos, negsuc, ◌*ℤ◌, unsigned_abs, ints, length-replicate, get_or_past, WIDE_ENTRY, Sign, Kind, ZeroKind, Pos, Neg, NonNeg, Free, Mat, entry, scale, HasSign, width, MayWeigh, is_signed, kind_at, eq_or, lt_or, zip_from, entry-scale, length-scale, factor, IsSmallCut, dual_scaled, drop-scale, scaled_small, Bits, Mark, Zero, bit_of, weakened, IsMarked, mark_at, mark_in, none, word_at, word_count, HasMark, kind_of_mark, kinds_of, sign_mark, AllWeigh, AreMarksOf, IsPast, SomeCounts, mark_of_multiple, sign_there, AreSignsOf, zip_at, zip_long, ZeroSign, AllZip}
+use Rattle.crn_sign.proofs.Prelude.{◌≡◌, ◌≢◌, ℕ, zero, suc, ◌+◌, ◌≤◌, ◌<◌, ◌/◌, ◌%◌, inl, inr, List, [], ◌∷◌, length, replicate, Bool, true, false, refl, sym, ap, ap₂, subst, ◌∙◌, arith, pos, negsuc, ◌*ℤ◌, unsigned_abs, ints, length-replicate, get_or_past, WIDE_ENTRY, Sign, Kind, ZeroKind, Pos, Neg, NonNeg, Free, Mat, entry, scale, HasSign, width, MayWeigh, is_signed, kind_at, eq_or, lt_or, zip_from, entry-scale, length-scale, factor, IsSmallCut, dual_scaled, drop-scale, scaled_small, Bits, Mark, Zero, bit_of, weakened, IsMarked, mark_at, mark_in, none, word_at, word_count, HasMark, kind_of_mark, kinds_of, sign_mark, AllWeigh, AreMarksOf, IsPast, SomeCounts, mark_of_multiple, sign_there, AreSignsOf, zip_at, zip_long, ZeroSign, AllZip}
 use Rattle.std.specs.Prelude.{ℤ}
 use Rattle.crn_sign.proofs.BitLaws.{none_in}
 use Rattle.crn_sign.proofs.MarkLaws.{kind_asked, kinds_long, negated_mark, plain_mark, signed_mark}
