@@ -189,14 +189,12 @@ abbrev pub IsReadUp : Option (List ℕ) → Option (List ℕ) → Type 0
 IsReadUp left rest = IsReadOut left rest
     ⊎ ((bytes : List ℕ) × (length bytes ≡ MAX_TEXT + 1) × Consumes left bytes rest)
 
--- the most bytes that a command reads
+-- the most bytes that a command reads: of a document, none, or else of a network text
 abbrev pub most_read : Command → ℕ
-most_read (Report budget) = MAX_TEXT + 1
-most_read (Certify budget) = MAX_TEXT + 1
 most_read Check = MAX_DOCUMENT + MAX_AHEAD
 most_read (Sample number budget) = 0
-most_read (Prove part budget) = MAX_TEXT + 1
 most_read (Verify part) = MAX_DOCUMENT + MAX_AHEAD
+most_read command = MAX_TEXT + 1
 
 -- the source was read as far as a document goes until its first fault shows
 abbrev pub IsReadToFault : Option (List ℕ) → Option (List ℕ) → Type 0
