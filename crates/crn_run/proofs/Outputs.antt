@@ -58,7 +58,8 @@ pub record AreSampled (number budget : ℕ) (net : Net) (answers : List Answer) 
   pub good : IsGood (certificate net answers)
 
 summarized : (number budget : ℕ) (net : Net) (answers : List Answer) (out : List ℕ) → AreSampled number budget net answers → out ≡ summary number net (verdicts_of answers) → IsSummaryOf number budget out answers
-summarized number budget net answers out a e = record { net = net; says = a.says; valid = a.valid; few = a.few; visits = a.visits; written = e; good = a.good }
+unfolding certified
+summarized number budget net answers out a e = record { document = certificate net answers; certified = certified budget (sample_text number) net answers a.says a.valid a.few a.visits a.good; written = e }
 
 pub summary_gives : (number budget : ℕ) (whole : Status) (text : List ℕ) (net : Net) (answers : List Answer) (verdicts : List Verdict) (old new : SinkSeen) → verdicts ≡ verdicts_of answers
     → AreSampled number budget net answers → AreLeftBy whole answers → WroteAll (summary number net verdicts) old new → OutputGives (Sample number budget) whole text old new

@@ -61,7 +61,10 @@ certificate_short : (budget : ℕ) (text out : List ℕ) (answers : List Answer)
 certificate_short budget text out answers r = r.good.short
 
 summary_short : (number budget : ℕ) (out : List ℕ) (answers : List Answer) → Has32Bits number → IsSummaryOf number budget out answers → length out < MAX_DOCUMENT
-summary_short number budget out answers lt r = subst (λ (t : List ℕ). length t < MAX_DOCUMENT) (sym r.written) (summaries_are_short number r.net answers lt r.says.spells.network r.says.formed)
+summary_short number budget out answers lt r =
+    let certified = r.certified in
+    let says = certified.says in
+    subst (λ (t : List ℕ). length t < MAX_DOCUMENT) (sym r.written) (summaries_are_short number certified.net answers lt says.spells.network says.formed)
 
 check_short : (text out : List ℕ) → IsCheckOf text out → length out < MAX_DOCUMENT
 check_short text out r =

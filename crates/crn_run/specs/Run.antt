@@ -92,15 +92,11 @@ pub record IsCertificateOf (budget : ℕ) (text out : List ℕ) (answers : List 
   pub good : IsGood out
 
 -- the summary of the sample network of this number and of the verdicts of these answers, whose
--- document would be as one that is written, and a good one
+-- document would be as one that is written for the text of the sample
 pub record IsSummaryOf (number budget : ℕ) (out : List ℕ) (answers : List Answer) : Type 0 where
-  pub net : Net
-  pub says : AreAnswersOf budget (sample_text number) net answers
-  pub valid : AreValid net [] built answers
-  pub few : HaveFewNodes budget answers
-  pub visits : HaveNodeForEachVisit net answers
-  pub written : out ≡ summary number net (verdicts_of answers)
-  pub good : IsGood (certificate net answers)
+  pub document : List ℕ
+  pub certified : IsCertificateOf budget (sample_text number) document answers
+  pub written : out ≡ summary number certified.net (verdicts_of answers)
 
 -- the verdicts that the records of a document say of its network
 abbrev pub verdicts_in : Net → List (List Record) → List Verdict
