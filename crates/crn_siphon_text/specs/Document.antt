@@ -98,14 +98,8 @@ asks_node net n = do
 -- the node holds at its prefix, or is a fork, and then its children follow
 abbrev pub goes_on : Net → List Bool → (line : ℕ) → Node → (children : Course ℕ) → Course ℕ
 goes_on net prefix n Forks children = children
-goes_on net prefix n (IsBadBy r) children = do
-  leaf net prefix n (IsBadBy r)
-  Give (n + 1)
-goes_on net prefix n (HasLaw x) children = do
-  leaf net prefix n (HasLaw x)
-  Give (n + 1)
-goes_on net prefix n Voids children = do
-  leaf net prefix n Voids
+goes_on net prefix n node children = do
+  leaf net prefix n node
   Give (n + 1)
 
 -- the tree of a prefix with this many species still to choose, whose first node is due at this line;
@@ -197,8 +191,7 @@ abbrev pub outcome_of : Said → Outcome
 outcome_of (SaysYes law tree) = Yes
 outcome_of (NoLaw cut) = No
 outcome_of (NoSiphon marks cover) = No
-outcome_of (Wide system index basis) = Undecided
-outcome_of (Spent nodes) = Undecided
+outcome_of said = Undecided
 
 -- of these lines this outcome is read
 abbrev pub IsOutcomeOf : Outcome → Net × Outcome → Type 0
