@@ -10,7 +10,7 @@ use Rattle.crn_vec.specs.declared.signs.Sign.{Sign}
 use Rattle.crn_vec.specs.declared.signs.Sign.TheVariants.{Zero, Plus, Minus}
 use Rattle.crn_vec.specs.declared.limits.TheConstants.{MAX_BUDGET, MAX_COORDINATES}
 use Rattle.crn_vec.specs.Problems.{Signed, all_zero}
-use Rattle.crn_cert.specs.Nodes.{Said, Splits, Flats, CutsA, CutsB, Fits}
+use Rattle.crn_cert.specs.Nodes.{Said, Splits, Flats, CutsA, Fits}
 use Rattle.crn_cert.specs.Trees.{node_count}
 use Rattle.crn_ctree.specs.Gives.{is_cut}
 use Rattle.crn_ctext.specs.Records.{Record, Form, Rising}
@@ -98,9 +98,7 @@ asks_node w prefix n = do
 -- after a split the children, after another node what comes after it
 abbrev pub if_split : {A : Type 0} → Said → (children after : Course A) → Course A
 if_split Splits children after = children
-if_split Flats children after = after
-if_split (CutsA u) children after = after
-if_split (CutsB u) children after = after
+if_split node children after = after
 
 -- the tree of a prefix with this many choices still to make, whose first node is due at this line, and
 -- then what comes after it, by the line that is due then
@@ -173,9 +171,7 @@ records given.Large = one_word (codes "large") [] ∷ []
 abbrev pub seen_of : Endo → EndoSeen
 seen_of (given.Yes trees) = Yes
 seen_of (given.No reaction slope) = No reaction
-seen_of (given.Wide reaction index basis) = Undecided
-seen_of (given.Spent reaction nodes) = Undecided
-seen_of given.Large = Undecided
+seen_of answer = Undecided
 
 -- its answers
 abbrev pub meant : Meant Endo EndoSeen
