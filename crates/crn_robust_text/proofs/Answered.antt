@@ -1,12 +1,6 @@
 -- The lines of a document on robustness are those of the formed answers whose tests hold.
-use Rattle.crn_robust_text.proofs.Prelude.{◌≡◌, ◌≢◌, ◌≤◌, ◌+◌, ◌++◌, ℕ, Bool, true, false, List, [], ◌∷◌, length, map, refl, sym, ap, subst, ◌∙◌, inl, inr, arith, ℤ, pos, codes, AllByRecursion, list_any, bytes_eq, ints, map-append, IsIn, Net, IsNetwork, eq_or, zip_append, Verdict, Unknown, Earlier, Q5, IsOpen, on, rank_of, IsLeft, Record, Form, Says, Fits, kind_of, record_text, small, record_form, small_form, Course, Give, ◌>>=◌, test_own, IsWrittenBy, AfterBlocks, asks_blocks, either, IsOneOf, first_number, small_record, Known, meaning, asks_part, AllPlain, IsPlain, IsBounded, AreTreeless, FitFields, are_words, HasNoEnd, IsAnswered, all_of, blocks_no_end, blocks_read, blocks_written, fitting_is_plain, formed_are_plain, valid_are_formed, give_back, give_no_end, in_by_test, meaning_short, IsSmall, networks_are_small, no_end_then, number_back, number_then, part_no_end, plain_is_line, record_is, short_both, small_numbers, test_no_end, written_cuts, written_then, only, bare_back, one_back, bare_row, first_back, Say, one_said, none_said, line_on, test_back, test_on, given, either_no_end, Robust, Yes, Number, None, Rests, rests_on, words, rests_forms, line_forms, case_forms, case_in, IsDeficiencyBy, SaysLineBy, IsCaseBy, is_open, asks_rests, asks_case, before, asks_verdict, asks_robust, part, line_of, verdict_record, case_records, Said, AreInside, IsFormed, IsValid, records, meant}
-use Rattle.crn_ctext.specs.Documents.{AreFormed}
-use Rattle.crn_robust_text.proofs.TestsTrue.{deficiency_by_one}
-
--- ---- the blocks have no trees
-
-pub treeless : AreTreeless meaning rests_on
-treeless = (λ known h. refl, (λ known h. refl, (λ known h. refl, tt)))
+use Rattle.crn_robust_text.proofs.Prelude.{◌≡◌, ◌≢◌, ◌≤◌, ◌+◌, ◌++◌, ℕ, Bool, true, false, List, [], ◌∷◌, length, map, refl, sym, ap, subst, ◌∙◌, inl, inr, arith, ℤ, pos, codes, AllByRecursion, list_any, bytes_eq, ints, map-append, IsIn, Net, IsNetwork, eq_or, zip_append, Verdict, Unknown, Earlier, Q5, IsOpen, on, rank_of, IsLeft, Record, Form, Says, Fits, kind_of, record_text, small, record_form, small_form, Course, Give, ◌>>=◌, test_own, IsWrittenBy, AfterBlocks, asks_blocks, either, IsOneOf, first_number, small_record, Known, meaning, asks_part, AllPlain, IsPlain, IsBounded, FitFields, are_words, HasNoEnd, IsAnswered, all_of, blocks_no_end, blocks_read, blocks_written, fitting_is_plain, formed_are_plain, give_back, give_no_end, in_by_test, meaning_short, IsSmall, networks_are_small, no_end_then, number_back, number_then, part_no_end, plain_is_line, record_is, short_both, small_numbers, test_no_end, written_cuts, written_then, only, bare_back, one_back, bare_row, first_back, Say, one_said, none_said, line_on, test_back, test_on, given, either_no_end, Robust, Yes, Number, None, Rests, rests_on, words, rests_forms, line_forms, case_forms, case_in, IsDeficiencyBy, SaysLineBy, IsCaseBy, is_open, asks_rests, asks_case, before, asks_verdict, asks_robust, part, line_of, verdict_record, case_records, Said, AreInside, IsFormed, IsValid, records, meant, AreBlocks}
+use Rattle.crn_robust_text.proofs.TestsTrue.{deficiency_by_one, treeless, blocks_formed, blocks_valid, blocks_answered}
 
 -- ---- an open rank
 
@@ -120,10 +114,11 @@ lines_back net n ls y h =
     let a = written_cuts (asks_blocks meaning 1 [] rests_on (before net n)) (λ after. asks_verdict net after) ls y h in
     let b = blocks_read meaning rests_on (before net n) a.0 a.1 treeless a.4 in
     let c = subst (λ (known : Known). IsCaseOf net known.earlier a.2 y.1) b.3 (after_back net a.0 a.2 y a.5) in
+    let v = blocks_answered net b.0 b.2 in
     let said : Say ls (all_of b.0 ++ case_records y.1) = subst (λ (t : List (List ℕ)). Say t (all_of b.0 ++ case_records y.1)) (sym a.3) (zip_append Says a.1 (all_of b.0) a.2 (case_records y.1) b.1 c.2) in (
       record { blocks = b.0; robust = y.1 },
-      (valid_are_formed meaning rests_on (meaning.start net) b.0 b.2, c.0),
-      (b.2, c.1),
+      (v.0, c.0),
+      (v, c.1),
       said,
       refl,
     )
@@ -244,8 +239,8 @@ all_plain : (blocks : List (List Record)) → AllByRecursion AllPlain blocks →
 all_plain [] p = tt
 all_plain (rs ∷ more) p = short_both rs (all_of more) p.0 (all_plain more p.1)
 
-blocks_plain : (net : Net) (blocks : List (List Record)) → IsNetwork net → AreFormed meaning rests_on (meaning.start net) blocks → AllByRecursion AllPlain blocks
-blocks_plain net blocks n f = let s = meaning_short in formed_are_plain meaning IsSmall rests_on (meaning.start net) blocks (s.0, (s.1.0, (s.1.1.1.1.0, tt))) (networks_are_small net n) f
+blocks_plain : (net : Net) (blocks : List (List Record)) → IsNetwork net → AreBlocks net blocks → AllByRecursion AllPlain blocks
+blocks_plain net blocks n b = let s = meaning_short in formed_are_plain meaning IsSmall rests_on (meaning.start net) blocks (s.0, (s.1.0, (s.1.1.1.1.0, tt))) (networks_are_small net n) (blocks_formed net blocks b)
 
 case_plain : (net : Net) (robust : Robust) → IsNetwork net → AreInside net robust → AllPlain (case_records robust)
 case_plain net robust n inside = by robust inside
@@ -268,7 +263,7 @@ records_plain net said n f = short_both (all_of said.blocks) (case_records said.
 -- the lines of a formed answer whose tests hold are read, and its verdict is read of them
 pub lines_on : (net : Net) (n : ℕ) (said : Said) → IsNetwork net → IsFormed net said → IsValid net said → (k : ℕ) × IsWrittenBy (asks_robust net n) (map record_text (records said)) (k, said.robust)
 lines_on net n said is f v =
-    let w = blocks_written meaning rests_on (before net n) said.blocks treeless v.0 (blocks_plain net said.blocks is f.0) in
+    let w = blocks_written meaning rests_on (before net n) said.blocks treeless (blocks_valid net said.blocks v.0.0 v.0.1) (blocks_plain net said.blocks is f.0) in
     let case : IsCaseBy net w.0.known.earlier said.robust = subst (λ (known : Known). IsCaseBy net known.earlier said.robust) (sym w.2) v.1 in
     let a = after_on net w.0 said.robust is f.1 case in
     let texts = map record_text (all_of said.blocks) in

@@ -4,4 +4,5 @@
 -- their verdicts, and those of valid ones are true, but for an open rank.
 pub use Rattle.crn_robust_text.proofs.Settled.{course_settled}
 pub use Rattle.crn_robust_text.proofs.Answered.{robust_is_answered}
-pub use Rattle.crn_robust_text.proofs.WrittenGood.{blocks_learned, blocks_true}
+pub use Rattle.crn_robust_text.proofs.TestsTrue.{blocks_learned}
+pub use Rattle.crn_robust_text.proofs.WrittenGood.{blocks_true}

@@ -1,6 +1,5 @@
 -- What this crate's proofs use of other crates and of its specs.
 pub use Rattle.crn_cert.proofs.CallerLemmas.{is_true_tight, true_tight, valid_documents_are_true}
-pub use Rattle.crn_cert.specs.Answers.{verdicts_of}
 pub use Rattle.crn_cert.specs.Formed.{AreFormed, IsFormedOf}
 pub use Rattle.crn_cert.specs.Law.{AllTrueOrOpen, AreBuilt, IsTrueOrOpen}
 pub use Rattle.crn_cert.specs.Questions.{Earlier, IsOpen, Q1, Q2, Q5, Question, count_of, number, on, rank_of}
@@ -12,7 +11,7 @@ pub use Rattle.crn_cert.specs.declared.answer.Gap.{Gap}
 pub use Rattle.crn_cert.specs.declared.answer.Gap.TheVariants.{Budget, Rests as RestsOn, Wide}
 pub use Rattle.crn_cert.specs.declared.answer.Proof.{Proof}
 pub use Rattle.crn_cert.specs.declared.answer.Verdict.{Verdict}
-pub use Rattle.crn_cert.specs.declared.answer.Verdict.TheVariants.{Rank, Yes as SaysYes, Unknown}
+pub use Rattle.crn_cert.specs.declared.answer.Verdict.TheVariants.{Rank, Unknown}
 pub use Rattle.crn_check.proofs.CallerLemmas.{linkage_true, sound_on, strong_true}
 pub use Rattle.crn_check.specs.Facts.{AreFactsOf, HoldsNoneFrom, HoldsOn, KeptFacts}
 pub use Rattle.crn_ctext.proofs.CallerLemmas.{AllPlain, AreInOrder, AreTreeless, FitFields, HasNoEnd, IsAnswered, IsBounded, IsDecided, IsPlain, IsSmall, OfNetwork, Say, all_of, answers_by, answers_few, answers_learned, are_words, asks_part_settled, back_by, bare_back, bare_row, blocks_no_end, blocks_read, blocks_settled, blocks_written, both_decided, built_few, documents_are_judged, each_below, either_no_end, either_settled, ends_with, first_back, fitting_is_plain, formed_are_plain, formed_by, forms_yes, give_back, give_no_end, give_settled, given, if_decided, in_by_test, int_decided, le_decided, left_decided, line_of_word, line_on, lines_append, lines_two, lt_decided, meaning_decided, meaning_short, moved, nat_decided, networks_are_small, no_end_then, none_said, not_decided, number_back, number_then, one_back, one_decided, one_said, only, own_settled, part_document_short, part_no_end, part_settled, plain_is_line, record_is, sees_first, sees_rank, sees_second, settled_then, short_both, small_numbers, stops_first, stops_later, terminal_decided, test_back, test_no_end, test_on, valid_are_formed, valid_by, written_cuts, written_then, wrote_as}
@@ -22,9 +21,9 @@ pub use Rattle.crn_ctext.specs.Blocks.{AfterBlocks, asks_block, either, word_of}
 unfoldable pub use Rattle.crn_ctext.specs.Blocks.{asks_all, asks_blocks}
 pub use Rattle.crn_ctext.specs.Course.{Course, Give, test_own, ◌>>=◌}
 pub use Rattle.crn_ctext.specs.Courses.{IsSettled, IsWrittenBy}
-pub use Rattle.crn_ctext.specs.Documents.{AreValid, IsOneOf, record_lines}
+pub use Rattle.crn_ctext.specs.Documents.{IsOneOf, record_lines}
 pub use Rattle.crn_ctext.specs.Kinds.{end_form, record_form, small, small_form}
-pub use Rattle.crn_ctext.specs.Meaning.{Known, meaning, verdicts_said}
+pub use Rattle.crn_ctext.specs.Meaning.{Known, meaning}
 pub use Rattle.crn_ctext.specs.PartBlocks.{HoldsNoSides, verdicts_on}
 pub use Rattle.crn_ctext.specs.PartLines.{AreChoices, field_of, forms_in}
 pub use Rattle.crn_ctext.specs.Parts.{asks_part, part_course, part_document, part_head}
@@ -48,7 +47,7 @@ pub use Rattle.crn_robust.specs.Pick.{IsPicked}
 pub use Rattle.crn_robust.specs.Robust.{DifferAt, HasNoPair, IsCase, IsLeastPair, IsNoLater, IsRobustPair, SaysLine}
 pub use Rattle.crn_robust.specs.declared.robust.Robust.{Robust}
 pub use Rattle.crn_robust.specs.declared.robust.Robust.TheVariants.{None, Number, Rests, Yes}
-pub use Rattle.crn_robust_text.specs.Document.{AreInside, IsCaseBy, IsDeficiencyBy, IsFormed, IsOwn, IsReadAs, IsValid, Said, SaysLineBy, ValidAreTrue, ValidLinesAreTrue, WrittenAreDocuments, asks_case, asks_rests, asks_robust, asks_verdict, before, blocks_of, case_forms, case_in, case_records, earlier_of, is_open, line_forms, line_of, meant, part, records, rests_forms, rests_on, said_of, verdict_record, words}
+pub use Rattle.crn_robust_text.specs.Document.{AreBlocks, AreInside, IsCaseBy, IsDeficiencyBy, IsFormed, IsOwn, IsReadAs, IsValid, Said, SaysLineBy, ValidAreTrue, ValidLinesAreTrue, WrittenAreDocuments, asks_case, asks_rests, asks_robust, asks_verdict, before, blocks_of, case_forms, case_in, case_records, earlier_of, is_open, line_forms, line_of, meant, part, records, rests_forms, rests_on, said_of, verdict_record, words}
 pub use Rattle.crn_robust_text.specs.Inner.LinesRead.{AreSmall, CaseSaid, Decides, HoldsBlocks, IsTrueVerdict, ReadsVerdict, SaysOne}
 pub use Rattle.crn_robust_text.specs.declared.verify.Verified.{Verified}
 pub use Rattle.crn_space.proofs.CallerLemmas.{one_leaves_line}

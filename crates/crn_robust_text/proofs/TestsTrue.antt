@@ -1,6 +1,8 @@
 -- The tests of a document say what they say of the network, if the blocks are true; and valid blocks are true or leave the rank open.
-use Rattle.crn_robust_text.proofs.Prelude.{◌≡◌, ◌⊎◌, ◌∙◌, ◌-◌, ℕ, false, List, [], ◌∷◌, length, refl, sym, ap, subst, inl, inr, arith, ◌↔◌, Option, NoRank, slice_index_or, Net, IsNetwork, IsDeficiency, HasConfluenceLine, deficiency_is_one, one_leaves_line, Answer, Wide, Budget, RestsOn, Proof, Verdict, Rank, Unknown, SaysYes, verdicts_of, Earlier, Q1, Q2, Q5, IsOpen, on, count_of, rank_of, IsFormedOf, AreFormed, IsTrueOrOpen, AllTrueOrOpen, AreBuilt, IsTrueOf, IsLeft, valid_documents_are_true, Record, AreValid, meaning, verdicts_said, AreInOrder, answers_by, back_by, valid_are_formed, Robust, Yes, Number, None, Rests, IsCase, SaysLine, classes_leave, deficiency_by, rests_on, IsDeficiencyBy, SaysLineBy, IsCaseBy, earlier_of, line_of, ValidAreTrue, ValidLinesAreTrue}
+use Rattle.crn_robust_text.proofs.Prelude.{◌≡◌, ◌⊎◌, ◌∙◌, ◌-◌, ℕ, false, List, [], ◌∷◌, length, refl, sym, ap, subst, inl, inr, arith, ◌↔◌, Option, NoRank, Net, IsNetwork, IsDeficiency, HasConfluenceLine, deficiency_is_one, one_leaves_line, Answer, Wide, Budget, RestsOn, Proof, Verdict, Rank, Unknown, Earlier, Q1, Q2, Q5, IsOpen, on, count_of, rank_of, IsFormedOf, AreFormed, IsTrueOrOpen, AllTrueOrOpen, AreBuilt, IsTrueOf, IsLeft, valid_documents_are_true, Record, meaning, AreInOrder, answers_by, back_by, valid_are_formed, Robust, Yes, Number, None, Rests, IsCase, SaysLine, classes_leave, deficiency_by, rests_on, IsDeficiencyBy, SaysLineBy, IsCaseBy, earlier_of, line_of, ValidAreTrue, ValidLinesAreTrue, AreBlocks, verdicts_on, all_records, AreTreeless, answers_learned, formed_by, valid_by, is_true_tight, true_tight}
 use Rattle.std.specs.Prelude.{Some}
+use Rattle.crn_cert.specs.Valid as cert
+use Rattle.crn_ctext.specs.Documents as documents
 
 -- the verdicts on linkage classes and on the rank are true, but for an open rank
 pub record AreTrue (net : Net) (earlier : Earlier) : Type 0 where
@@ -65,6 +67,10 @@ true_case net earlier Rests n t closed h = absurd h
 pub in_order : AreInOrder false rests_on
 in_order = (tt, (tt, (tt, tt)))
 
+-- the blocks have no trees
+pub treeless : AreTreeless meaning rests_on
+treeless = (λ known h. refl, (λ known h. refl, (λ known h. refl, tt)))
+
 -- no law of these questions requires another
 pub each_built : AreBuilt [] rests_on
 each_built = ((λ j i. absurd i), ((λ j i. absurd i), ((λ j i. absurd i), tt)))
@@ -81,27 +87,40 @@ second_closed net earlier (Unknown (Budget nodes)) p f t = absurd f.0.head
 second_closed net earlier (Unknown (RestsOn question)) p f t = absurd f.0.head
 second_closed net earlier v p f t = t
 
-answers_true : (net : Net) (given : List Answer) (blocks : List (List Record)) → AreFormed net [] rests_on given → AllTrueOrOpen net rests_on given → verdicts_said rests_on (meaning.start net) blocks ≡ verdicts_of given → AreTrue net (earlier_of net blocks)
-answers_true net (a ∷ b ∷ c ∷ more) ((h ∷ rs) ∷ (i ∷ ss) ∷ (j ∷ ts) ∷ others) f t e = record {
-  classes = subst (IsTrueOf net Q1) (sym (ap (λ (vs : List Verdict). slice_index_or vs 0 SaysYes) e)) (first_closed net [] a.verdict a.proof f.0 t.0);
-  rank = subst (IsTrueOrOpen net Q5) (sym (ap (λ (vs : List Verdict). slice_index_or vs 2 SaysYes) e)) t.1.1.0;
+-- valid answers are true, but for an open rank
+pub answers_true : (net : Net) (answers : List Answer) → AreFormed net [] rests_on answers → AllTrueOrOpen net rests_on answers → AreTrue net (verdicts_on rests_on answers)
+answers_true net (a ∷ b ∷ c ∷ more) f t = record {
+  classes = is_true_tight net Q1 a.verdict (first_closed net [] a.verdict a.proof f.0 t.0);
+  rank = true_tight net Q5 c.verdict t.1.1.0;
 }
-answers_true net (a ∷ b ∷ c ∷ more) [] f t e = absurd (omega (arith, ap length e))
-answers_true net (a ∷ b ∷ c ∷ more) ([] ∷ others) f t e = absurd (omega (arith, ap length e))
-answers_true net (a ∷ b ∷ c ∷ more) ((h ∷ rs) ∷ []) f t e = absurd (omega (arith, ap length e))
-answers_true net (a ∷ b ∷ c ∷ more) ((h ∷ rs) ∷ [] ∷ others) f t e = absurd (omega (arith, ap length e))
-answers_true net (a ∷ b ∷ c ∷ more) ((h ∷ rs) ∷ (i ∷ ss) ∷ []) f t e = absurd (omega (arith, ap length e))
-answers_true net (a ∷ b ∷ c ∷ more) ((h ∷ rs) ∷ (i ∷ ss) ∷ [] ∷ others) f t e = absurd (omega (arith, ap length e))
-answers_true net [] blocks f t e = absurd f
-answers_true net (a ∷ []) blocks f t e = absurd f.1
-answers_true net (a ∷ b ∷ []) blocks f t e = absurd f.1.1
+answers_true net [] f t = absurd f
+answers_true net (a ∷ []) f t = absurd f.1
+answers_true net (a ∷ b ∷ []) f t = absurd f.1.1
+
+-- the blocks of formed answers say their verdicts
+pub blocks_learned : (net : Net) (answers : List Answer) → AreFormed net [] rests_on answers → earlier_of net (all_records meaning rests_on (meaning.start net) answers) ≡ verdicts_on rests_on answers
+blocks_learned net answers formed = answers_learned false rests_on in_order treeless (meaning.start net) answers tt formed
+
+-- they have the forms of their lines
+pub blocks_formed : (net : Net) (blocks : List (List Record)) → AreBlocks net blocks → documents.AreFormed meaning rests_on (meaning.start net) blocks
+blocks_formed net blocks b = subst (λ (rs : List (List Record)). documents.AreFormed meaning rests_on (meaning.start net) rs) b.are (formed_by false rests_on in_order (meaning.start net) b.answers tt b.formed)
+
+-- their tests hold if those of the answers do
+pub blocks_valid : (net : Net) (blocks : List (List Record)) (b : AreBlocks net blocks) → cert.AreValid net [] rests_on b.answers → documents.AreValid meaning rests_on (meaning.start net) blocks
+blocks_valid net blocks b v = subst (λ (rs : List (List Record)). documents.AreValid meaning rests_on (meaning.start net) rs) b.are (valid_by false rests_on in_order (meaning.start net) b.answers tt b.formed v)
+
+-- and blocks whose tests hold are those of such answers
+pub blocks_answered : (net : Net) (blocks : List (List Record)) → documents.AreValid meaning rests_on (meaning.start net) blocks → (b : AreBlocks net blocks) × cert.AreValid net [] rests_on b.answers
+blocks_answered net blocks v =
+    let g = answers_by false rests_on in_order (meaning.start net) blocks tt (valid_are_formed meaning rests_on (meaning.start net) blocks v) in
+    let w = back_by false rests_on in_order (meaning.start net) g.0 tt tt g.1 (subst (λ (rs : List (List Record)). documents.AreValid meaning rests_on (meaning.start net) rs) (sym g.2) v) in
+    (record { answers = g.0; formed = g.1; are = g.2 }, w)
 
 -- valid blocks are true, but for an open rank
-pub blocks_true : (net : Net) (blocks : List (List Record)) → IsNetwork net → AreValid meaning rests_on (meaning.start net) blocks → AreTrue net (earlier_of net blocks)
-blocks_true net blocks n v =
-    let g = answers_by false rests_on in_order (meaning.start net) blocks tt (valid_are_formed meaning rests_on (meaning.start net) blocks v) in
-    let w = back_by false rests_on in_order (meaning.start net) g.0 tt tt g.1 (subst (λ (x : List (List Record)). AreValid meaning rests_on (meaning.start net) x) (sym g.2) v) in
-    answers_true net g.0 blocks g.1 (valid_documents_are_true rests_on net g.0 each_built n g.1 w) g.3
+blocks_true : (net : Net) (blocks : List (List Record)) → IsNetwork net → (b : AreBlocks net blocks) → cert.AreValid net [] rests_on b.answers → AreTrue net (earlier_of net blocks)
+blocks_true net blocks n b v =
+    subst (AreTrue net) (sym (blocks_learned net b.answers b.formed) ∙ ap (λ (rs : List (List Record)). earlier_of net rs) b.are)
+    (answers_true net b.answers b.formed (valid_documents_are_true rests_on net b.answers each_built n b.formed v))
 
 -- ---- the laws
 
@@ -109,7 +128,7 @@ pub valid_are_true : ValidAreTrue
 valid_are_true net said n v = by said.robust refl
   where
     t : AreTrue net (earlier_of net said.blocks)
-    t = blocks_true net said.blocks n v.0
+    t = blocks_true net said.blocks n v.0.0 v.0.1
 
     case : (robust : Robust) → said.robust ≡ robust → (robust ≡ Rests → ⊥) → (said.robust ≡ Rests) ⊎ IsCase net said.robust
     case robust e ne = inr (case_true net (earlier_of net said.blocks) said.robust t (λ r. ne (sym e ∙ r)) v.1)

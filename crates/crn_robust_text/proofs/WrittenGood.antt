@@ -1,9 +1,8 @@
 -- What is written of formed and valid answers and of the verdict that they give is a document.
-use Rattle.crn_robust_text.proofs.Prelude.{◌≡◌, ◌≤◌, ◌-◌, ◌<◌, false, List, [], ◌∷◌, length, refl, sym, subst, inl, inr, arith, get_or, codes, length-append, Net, IsNetwork, vector_long, Answer, Earlier, Q1, Q2, Q5, on, IsTrueOf, IsTrueOrOpen, AreFormed, AllTrueOrOpen, true_tight, is_true_tight, valid_documents_are_true, all_records, verdicts_on, meaning, all_of, answers_few, answers_learned, built_few, formed_by, meaning_short, networks_are_small, valid_by, part_document_short, Robust, Yes, Number, None, Rests, IsPicked, IsCase, rests_on, IsCaseBy, case_records, Said, earlier_of, AreInside, IsFormed, records, said_of, WrittenAreDocuments}
+use Rattle.crn_robust_text.proofs.Prelude.{◌≡◌, ◌≤◌, ◌-◌, ◌<◌, [], ◌∷◌, length, refl, sym, subst, inl, inr, arith, get_or, codes, length-append, Net, IsNetwork, vector_long, Answer, Earlier, Q1, Q2, Q5, on, IsTrueOf, IsTrueOrOpen, AreFormed, valid_documents_are_true, verdicts_on, meaning, all_of, answers_few, built_few, meaning_short, networks_are_small, part_document_short, Robust, Yes, Number, None, Rests, IsPicked, IsCase, rests_on, IsCaseBy, case_records, Said, AreInside, IsFormed, records, said_of, WrittenAreDocuments, AreBlocks}
 use Rattle.crn_cert.specs.Valid as cert
-use Rattle.crn_ctext.specs.Documents as documents
-use Rattle.crn_robust_text.proofs.TestsTrue.{AreTrue, each_built, first_closed, second_closed, in_order, true_case}
-use Rattle.crn_robust_text.proofs.Answered.{records_plain, robust_is_answered, treeless}
+use Rattle.crn_robust_text.proofs.TestsTrue.{AreTrue, each_built, first_closed, second_closed, treeless, answers_true, blocks_learned, blocks_formed, true_case}
+use Rattle.crn_robust_text.proofs.Answered.{records_plain, robust_is_answered}
 
 -- the numbers of the case that holds are within their ranges
 pub inside_by : (net : Net) (robust : Robust) → IsNetwork net → IsCase net robust → AreInside net robust
@@ -16,17 +15,7 @@ inside_by net (Number d) n h = omega (arith, h.0.is)
 inside_by net None n h = tt
 inside_by net Rests n h = tt
 
--- valid answers are true, but for an open rank
-answers_true : (net : Net) (answers : List Answer) → AreFormed net [] rests_on answers → AllTrueOrOpen net rests_on answers → AreTrue net (verdicts_on rests_on answers)
-answers_true net (a ∷ b ∷ c ∷ more) f t = record {
-  classes = is_true_tight net Q1 a.verdict (first_closed net [] a.verdict a.proof f.0 t.0);
-  rank = true_tight net Q5 c.verdict t.1.1.0;
-}
-answers_true net [] f t = absurd f
-answers_true net (a ∷ []) f t = absurd f.1
-answers_true net (a ∷ b ∷ []) f t = absurd f.1.1
-
--- and those on linkage classes and strong classes are not open
+-- valid answers on linkage classes and strong classes are true, and that on the rank, but for an open one
 pub blocks_true : (net : Net) (linkage strong rank : Answer) → IsNetwork net → AreFormed net [] rests_on (linkage ∷ strong ∷ rank ∷ []) → cert.AreValid net [] rests_on (linkage ∷ strong ∷ rank ∷ []) → IsTrueOf net Q1 linkage.verdict × IsTrueOf net Q2 strong.verdict × IsTrueOrOpen net Q5 rank.verdict
 blocks_true net linkage strong rank n formed valid =
     let t = valid_documents_are_true rests_on net (linkage ∷ strong ∷ rank ∷ []) each_built n formed valid in
@@ -47,28 +36,21 @@ few_records : (net : Net) (said : Said) → IsNetwork net → IsFormed net said 
 few_records net said n f =
     let few = built_few in
     let short = meaning_short in
-    let blocks = answers_few rests_on (few.0, (few.1.0, (few.1.1.1.1.0, tt))) (omega arith, (omega arith, (omega arith, tt))) (short.0, (short.1.0, (short.1.1.1.1.0, tt))) treeless (meaning.start net) said.blocks (networks_are_small net n) f.0 in
+    let blocks = answers_few rests_on (few.0, (few.1.0, (few.1.1.1.1.0, tt))) (omega arith, (omega arith, (omega arith, tt))) (short.0, (short.1.0, (short.1.1.1.1.0, tt))) treeless (meaning.start net) said.blocks (networks_are_small net n) (blocks_formed net said.blocks f.0) in
     omega (arith, length-append (all_of said.blocks) (case_records said.robust), blocks, case_few said.robust)
-
--- the blocks of formed answers say their verdicts
-pub blocks_learned : (net : Net) (answers : List Answer) → AreFormed net [] rests_on answers → earlier_of net (all_records meaning rests_on (meaning.start net) answers) ≡ verdicts_on rests_on answers
-blocks_learned net answers formed = answers_learned false rests_on in_order treeless (meaning.start net) answers tt formed
 
 pub written_are_documents : WrittenAreDocuments
 written_are_documents = λ net answers robust n formed valid picked.
     let said = said_of net answers robust in
-    let blocks = all_records meaning rests_on (meaning.start net) answers in
-    let f : documents.AreFormed meaning rests_on (meaning.start net) blocks = formed_by false rests_on in_order (meaning.start net) answers tt formed in
-    let v : documents.AreValid meaning rests_on (meaning.start net) blocks = valid_by false rests_on in_order (meaning.start net) answers tt formed valid in
-    let same : earlier_of net blocks ≡ verdicts_on rests_on answers = blocks_learned net answers formed in
+    let b : AreBlocks net said.blocks = record { answers = answers; formed = formed; are = refl } in
     let t = answers_true net answers formed (valid_documents_are_true rests_on net answers each_built n formed valid) in
     let p = picked_by net (verdicts_on rests_on answers) robust n t picked in
-    let is_formed : IsFormed net said = (f, p.1) in
+    let is_formed : IsFormed net said = (b, p.1) in
     let title = robust_is_answered.title in
     record {
       short = part_document_short (codes "robust") net (records said) title n (records_plain net said n is_formed) (few_records net said n is_formed);
       network = n;
       formed = is_formed;
-      valid = (v, subst (λ (es : Earlier). IsCaseBy net es robust) (sym same) p.0);
+      valid = ((b, valid), subst (λ (es : Earlier). IsCaseBy net es robust) (sym (blocks_learned net answers formed)) p.0);
       is = refl;
     }

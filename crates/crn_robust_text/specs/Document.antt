@@ -17,7 +17,6 @@ use Rattle.crn_ctext.specs.Records.{Record, Form}
 use Rattle.crn_ctext.specs.Kinds.{small, record_form, small_form}
 use Rattle.crn_ctext.specs.Course.{Course, Give, ◌>>=◌, ◌>>◌, test_own}
 use Rattle.crn_ctext.specs.Blocks.{AfterBlocks, asks_blocks, either, word_of}
-use Rattle.crn_ctext.specs.Documents.{AreFormed, AreValid}
 use Rattle.crn_ctext.specs.Questions.{first_number}
 use Rattle.crn_ctext.specs.Answers.{all_records, small_record}
 use Rattle.crn_ctext.specs.PartBlocks.{learned, verdicts_on}
@@ -168,14 +167,20 @@ AreInside net (Number d) = d ≤ length net.complexes
 AreInside net None = Unit {0}
 AreInside net Rests = Unit {0}
 
--- the blocks and the verdict have the forms of their lines
-abbrev pub IsFormed : Net → Said → Type 0
-IsFormed net said = AreFormed meaning rests_on (meaning.start net) said.blocks
-    × AreInside net said.robust
+-- the blocks are the records of these answers, which are formed
+pub record AreBlocks (net : Net) (blocks : List (List Record)) : Type 0 where
+  pub answers : List Answer
+  pub formed : cert.AreFormed net [] rests_on answers
+  pub are : all_records meaning rests_on (meaning.start net) answers ≡ blocks
 
--- the tests of the blocks hold, and the verdict is the case that holds by them
+-- the blocks are those of formed answers, and the verdict is within its ranges
+abbrev pub IsFormed : Net → Said → Type 0
+IsFormed net said = AreBlocks net said.blocks × AreInside net said.robust
+
+-- the blocks are those of formed answers whose tests hold, and the verdict is the case that holds by
+-- them
 abbrev pub IsValid : Net → Said → Type 0
-IsValid net said = AreValid meaning rests_on (meaning.start net) said.blocks
+IsValid net said = ((b : AreBlocks net said.blocks) × cert_valid.AreValid net [] rests_on b.answers)
     × IsCaseBy net (earlier_of net said.blocks) said.robust
 
 -- the records of an answer
