@@ -13,7 +13,7 @@ use Rattle.crn_cert.specs.Questions.{Question, Q7, Q8}
 use Rattle.crn_cert.specs.declared.answer.Gap.{Gap}
 use Rattle.crn_cert.specs.declared.answer.Gap.TheVariants.{Wide, Budget, Rests}
 use Rattle.crn_cert.specs.declared.answer.Verdict.{Verdict}
-use Rattle.crn_cert.specs.declared.answer.Verdict.TheVariants.{Classes, Strong, Rank, Deficiency, Yes, YesWeak, YesVec, YesSignal, No, NoReaction, NoVec, NoNumber, NoTerminal, NoClass, NoSum, NoDependence, NoCycle, NoPair, NotRegular, OnlyZero, Plane, NotApplicable, Unknown}
+use Rattle.crn_cert.specs.declared.answer.Verdict.TheVariants.{Classes, Strong, Rank, YesVec, YesSignal, NoReaction, NoVec, NoCycle, NoPair, Plane, Unknown}
 use Rattle.crn_render.specs.Words.{numbers_text}
 
 -- ---- parts of lines
@@ -122,36 +122,25 @@ signal_details turn shelves mu m = titled_line (codes "turn") (signed_decimal tu
     ++ titled_line (codes "mu") (vector_text mu)
     ++ titled_line (codes "m") (signed_decimal m)
 
--- the lines below the line of a question
+-- the lines below the line of a question; there is none of a verdict that is not named here
 abbrev pub details : Net → Question → Verdict → List ℕ
 details net q (Classes count label) = lines_from (class_line net label.list) 1 count
 details net q (Strong count terminal label exit) =
     lines_from (strong_line net label.list exit.list) 1 count
 details net q (Rank rank base) =
     titled_line (codes "independent reactions") (numbers_text base.list)
-details net q (Deficiency total classes) = []
-details net q Yes = []
-details net q (YesWeak weak) = []
 details net q (YesVec vector) = titled_line (vector_title q) (vector_text vector.list)
 details net q (YesSignal turn shelves mu m weights) =
     signal_details turn shelves.list mu.list m
-details net q No = []
 details net q (NoReaction reaction) =
     titled_line (codes "reaction " ++ decimal reaction) (reaction_text net reaction)
 details net q (NoVec multipliers) = titled_line (codes "multipliers") (vector_text multipliers.list)
-details net q (NoNumber number) = []
-details net q (NoTerminal class count) = []
-details net q (NoClass class number) = []
-details net q (NoSum total) = []
-details net q NoDependence = []
 details net q (NoCycle reaction walk) =
     titled_line (codes "reaction " ++ decimal reaction ++ codes ", walk") (walk_text net walk.list)
 details net q (NoPair alpha weights) =
     titled_line (codes "sigma") (vector_text (sigma net weights.list))
     ++ titled_line (codes "alpha") (vector_text alpha.list)
-details net q NotRegular = []
-details net q OnlyZero = []
 details net q (Plane first second one two) = titled_line (codes "vector") (vector_text one.list)
     ++ titled_line (codes "vector") (vector_text two.list)
-details net q NotApplicable = []
 details net q (Unknown gap) = gap_details gap
+details net q verdict = []

@@ -6,9 +6,9 @@ use Rattle.std.specs.Prelude.{ℕ, List, ◌++◌, length, codes, decimal}
 use Rattle.std.specs.List.{flat_map}
 use Rattle.crn_vec.specs.Network.{Net}
 use Rattle.crn_cert.specs.declared.answer.Verdict.{Verdict}
-use Rattle.crn_cert.specs.declared.answer.Verdict.TheVariants.{Classes, Strong, Rank, Deficiency, Yes, YesWeak, YesVec, YesSignal, No, NoReaction, NoVec, NoNumber, NoTerminal, NoClass, NoSum, NoDependence, NoCycle, NoPair, NotRegular, OnlyZero, Plane, NotApplicable, Unknown}
+use Rattle.crn_cert.specs.declared.answer.Verdict.TheVariants.{Classes, Strong, Rank, Deficiency, Yes, YesWeak, YesVec, YesSignal, NotRegular, OnlyZero, Plane, NotApplicable, Unknown}
 
--- the word of a verdict: its number, or whether it says yes, no, not applicable or open
+-- the word of a verdict: its number, or whether it says yes, none, open or, else, no
 abbrev pub brief : Verdict → List ℕ
 brief (Classes count label) = decimal count
 brief (Strong count terminal label exit) = decimal count
@@ -18,21 +18,12 @@ brief Yes = codes "yes"
 brief (YesWeak weak) = codes "yes"
 brief (YesVec vector) = codes "yes"
 brief (YesSignal turn shelves mu m weights) = codes "yes"
-brief No = codes "no"
-brief (NoReaction reaction) = codes "no"
-brief (NoVec multipliers) = codes "no"
-brief (NoNumber number) = codes "no"
-brief (NoTerminal class count) = codes "no"
-brief (NoClass class number) = codes "no"
-brief (NoSum total) = codes "no"
-brief NoDependence = codes "no"
-brief (NoCycle reaction walk) = codes "no"
-brief (NoPair alpha weights) = codes "no"
 brief NotRegular = codes "none"
 brief OnlyZero = codes "none"
 brief (Plane first second one two) = codes "none"
 brief NotApplicable = codes "none"
 brief (Unknown gap) = codes "open"
+brief verdict = codes "no"
 
 -- the number of the sample, and the sizes of its network
 unfoldable pub sample_line : (number : ℕ) → Net → List ℕ
